@@ -85,32 +85,6 @@ no_table = record { sorts = []; cells = [] }
 abbrev pub no_function_table : FunctionTable
 no_function_table = record { sorts = []; into = 0; cells = [] }
 
-pub updates_relation : (s : Tables) (r : ℕ) (f : List ℕ → Bool) → UpdatesRelation s r f
-unfolding place_of
-updates_relation s r f =
-    let ks = (relation_at s r).sorts in
-    record {
-      sizes = refl;
-      here = λ xs known inside.
-          ap (λ t. get_or t.cells (place_of s.sizes t.sorts xs) false) (get_or-set_same s.relations r _ no_table known)
-          ∙ cells_from-at s.sizes f ks xs [] false inside;
-      others = λ q xs away. ap (λ t. get_or t.cells (place_of s.sizes t.sorts xs) false) (get_or-set_other s.relations r q _ no_table away);
-      functions = refl;
-    }
-
-pub updates_function : (s : Tables) (g : ℕ) (f : List ℕ → ℕ) → UpdatesFunction s g f
-unfolding place_of
-updates_function s g f =
-    let ks = (function_at s g).sorts in
-    record {
-      sizes = refl;
-      here = λ xs known inside.
-          ap (λ t. get_or t.cells (place_of s.sizes t.sorts xs) 0) (get_or-set_same s.functions g _ no_function_table known)
-          ∙ cells_from-at s.sizes f ks xs [] 0 inside;
-      others = λ q xs away. ap (λ t. get_or t.cells (place_of s.sizes t.sorts xs) 0) (get_or-set_other s.functions g q _ no_function_table away);
-      relations = refl;
-    }
-
 -- with a full table it is a structure of the same symbols
 pub fits-relation_cells : (sig : Symbols) (s : Tables) (r : ℕ) (cells : List Bool) → r < sig.relations → length cells ≡ tuple_count s.sizes (relation_at s r).sorts → FitsStructure sig s → FitsStructure sig (with_relation_cells s r cells)
 fits-relation_cells sig s r cells known full f =
@@ -160,3 +134,34 @@ pub fits-with_function : (sig : Symbols) (s : Tables) (g : ℕ) (f : List ℕ �
 fits-with_function sig s g f known within fits =
     fits-function_cells sig s g _ known (length-cells_from s.sizes f (function_at s g).sorts [])
     (All-cells_from (λ x. x < size_at s (function_at s g).into) s.sizes f (function_at s g).sorts [] [] tt within) fits
+
+pub updates_relation : (s : Tables) (r : ℕ) (f : List ℕ → Bool) → UpdatesRelation s r f
+unfolding place_of
+updates_relation s r f =
+    let ks = (relation_at s r).sorts in
+    record {
+      sizes = refl;
+      here = λ xs known inside.
+          ap (λ t. get_or t.cells (place_of s.sizes t.sorts xs) false) (get_or-set_same s.relations r _ no_table known)
+          ∙ cells_from-at s.sizes f ks xs [] false inside;
+      others = λ q xs away. ap (λ t. get_or t.cells (place_of s.sizes t.sorts xs) false) (get_or-set_other s.relations r q _ no_table away);
+      functions = refl;
+      full = length-cells_from s.sizes f ks [];
+      fits = λ sig known. fits-with_relation sig s r f known;
+    }
+
+pub updates_function : (s : Tables) (g : ℕ) (f : List ℕ → ℕ) → UpdatesFunction s g f
+unfolding place_of
+updates_function s g f =
+    let ks = (function_at s g).sorts in
+    record {
+      sizes = refl;
+      here = λ xs known inside.
+          ap (λ t. get_or t.cells (place_of s.sizes t.sorts xs) 0) (get_or-set_same s.functions g _ no_function_table known)
+          ∙ cells_from-at s.sizes f ks xs [] 0 inside;
+      others = λ q xs away. ap (λ t. get_or t.cells (place_of s.sizes t.sorts xs) 0) (get_or-set_other s.functions g q _ no_function_table away);
+      relations = refl;
+      full = length-cells_from s.sizes f ks [];
+      within = All-cells_from (λ x. x < size_at s (function_at s g).into) s.sizes f ks [] [] tt;
+      fits = λ sig known. fits-with_function sig s g f known;
+    }

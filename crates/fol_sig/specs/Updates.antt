@@ -1,7 +1,7 @@
 -- A structure with one cell, or the whole table, of one symbol changed.
-use Rattle.std.specs.Prelude.{◌≡◌, ℕ, zero, suc, ◌<◌, Bool, List, [], ◌∷◌, ◌++◌, length, reverse, slice_index, slice_set}
+use Rattle.std.specs.Prelude.{◌≡◌, ℕ, zero, suc, ◌<◌, Bool, List, [], ◌∷◌, ◌++◌, length, reverse, slice_index, slice_set, All}
 use Rattle.fol_sig.specs.Symbols.{Symbols, FitsStructure}
-use Rattle.fol_sig.specs.Tables.{Tables, InRange, relation_at, function_at, size_at, rel_at, fun_at}
+use Rattle.fol_sig.specs.Tables.{Tables, InRange, tuple_count, relation_at, function_at, size_at, rel_at, fun_at}
 
 -- one cell is set, and no other
 pub record SetsRelation (old new : Tables) (r : ℕ) (xs : List ℕ) (v : Bool) : Type 0 where
@@ -55,15 +55,25 @@ with_relation s r f = with_relation_cells s r (cells_from s.sizes f (relation_at
 abbrev pub with_function : Tables → ℕ → (List ℕ → ℕ) → Tables
 with_function s g f = with_function_cells s g (cells_from s.sizes f (function_at s g).sorts [])
 
--- What an update means: the symbol has the new value at each tuple, and each other symbol is as before.
+-- f gives elements of g's sort at the tuples of g, each taken with its last element first
+abbrev pub GivesElements : Tables → ℕ → (List ℕ → ℕ) → Type 0
+GivesElements s g f = (xs : List ℕ) → InRange s.sizes (reverse (function_at s g).sorts) xs → f xs < size_at s (function_at s g).into
+
+-- What an update means: the symbol has the new value at each tuple, each other symbol is as before, and the result is
+-- a structure of the same symbols.
 pub record UpdatesRelation (s : Tables) (r : ℕ) (f : List ℕ → Bool) : Type 0 where
   pub sizes : (with_relation s r f).sizes ≡ s.sizes
   pub here : (xs : List ℕ) → r < length s.relations → InRange s.sizes (relation_at s r).sorts xs → rel_at (with_relation s r f) r xs ≡ f (reverse xs)
   pub others : (q : ℕ) (xs : List ℕ) → (q ≡ r → ⊥) → rel_at (with_relation s r f) q xs ≡ rel_at s q xs
   pub functions : (with_relation s r f).functions ≡ s.functions
+  pub full : length (cells_from s.sizes f (relation_at s r).sorts []) ≡ tuple_count s.sizes (relation_at s r).sorts
+  pub fits : (sig : Symbols) → r < sig.relations → FitsStructure sig s → FitsStructure sig (with_relation s r f)
 
 pub record UpdatesFunction (s : Tables) (g : ℕ) (f : List ℕ → ℕ) : Type 0 where
   pub sizes : (with_function s g f).sizes ≡ s.sizes
   pub here : (xs : List ℕ) → g < length s.functions → InRange s.sizes (function_at s g).sorts xs → fun_at (with_function s g f) g xs ≡ f (reverse xs)
   pub others : (q : ℕ) (xs : List ℕ) → (q ≡ g → ⊥) → fun_at (with_function s g f) q xs ≡ fun_at s q xs
   pub relations : (with_function s g f).relations ≡ s.relations
+  pub full : length (cells_from s.sizes f (function_at s g).sorts []) ≡ tuple_count s.sizes (function_at s g).sorts
+  pub within : GivesElements s g f → All (λ x. x < size_at s (function_at s g).into) (cells_from s.sizes f (function_at s g).sorts [])
+  pub fits : (sig : Symbols) → g < sig.functions → GivesElements s g f → FitsStructure sig s → FitsStructure sig (with_function s g f)

@@ -12,7 +12,7 @@ mod sorts;
 mod structure;
 mod table;
 
-pub use laws::update_laws;
+pub use laws::{update_laws, value_law};
 pub use signature::Signature;
 pub use sorts::Sorts;
 pub use structure::Structure;

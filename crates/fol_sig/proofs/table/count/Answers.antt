@@ -1,4 +1,4 @@
-use Rattle.std.proofs.Common.{ap, arith, ◌<◌, length, sym, subst}
+use Rattle.std.proofs.Common.{ap, arith, ◌<◌, length, subst}
 use Rattle.std.proofs.lemmas.List.{drop_more, length-map}
 use Rattle.fol_sig.specs.declared.Sort.{Sort}
 use Rattle.fol_sig.specs.Tables.{tuple_count, numbers}

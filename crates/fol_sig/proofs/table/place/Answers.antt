@@ -1,8 +1,8 @@
-use Rattle.std.proofs.Common.{length, ℕ, ◌+◌, ◌*◌, ◌<◌, ◌≤◌, drop, sym, ap, ◌∙◌, arith}
+use Rattle.std.proofs.Common.{length, ◌≤◌, drop, sym, ap, ◌∙◌, arith}
 use Rattle.std.proofs.lemmas.List.{drop_all, length-map}
 use Rattle.fol_sig.specs.declared.Sort.{Sort}
 use Rattle.fol_sig.specs.Tables.{place_from, place_of, numbers}
-use Rattle.fol_sig.proofs.Places.{Turn, sort_turn}
+use Rattle.fol_sig.proofs.Places.{sort_turn}
 use Rattle.fol_sig.proofs.table.place.Goals as goal
 
 pub bounds-sizes-sorts : goal.bounds-sizes-sorts

@@ -1,6 +1,6 @@
 use Rattle.std.proofs.Common.{◌≡◌, ◌++◌, ap, sym, subst, ◌∙◌}
 use Rattle.std.specs.Prelude.{map}
-use Rattle.fol_sig.specs.Tables.{IsStructure, IsSignature, blank, blank_relation, blank_function}
+use Rattle.fol_sig.specs.Tables.{IsStructure, blank, blank_relation, blank_function}
 use Rattle.fol_sig.specs.Symbols.{FitsStructure, symbols}
 use Rattle.fol_sig.proofs.Blank.{IsStructure-blank, FitsStructure-blank}
 use Rattle.fol_sig.proofs.structure.Structure.new.Goals as goal
