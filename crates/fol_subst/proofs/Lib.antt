@@ -4,3 +4,6 @@ mod Fitting
 mod Sizes
 mod Counting
 mod Rooms
+mod InStructures
+mod Samples
+mod Fragments

@@ -1,6 +1,8 @@
 pub mod Shift
 pub mod Replace
 pub mod Limits
+pub mod Structures
+pub mod KeptFragments
 pub mod Outcome
 pub mod Extents
 pub mod Room

@@ -7,6 +7,8 @@ use Rattle.fol_formula.specs.Truth.{truth}
 use Rattle.fol_formula.specs.Fits.{FitsForm}
 use Rattle.fol_subst.specs.Shift.{shift_form}
 use Rattle.fol_subst.specs.Replace.{Change, CanChange, changed_form, IsReplaced}
+use Rattle.fol_subst.specs.Structures.{IsReplacedInStructures}
+use Rattle.fol_subst.specs.KeptFragments.{HasNoQuantifier, KeepsFragments}
 use Rattle.fol_subst.specs.Limits.{is_too_large, IndicesFit}
 
 -- what a replacement is asked of: the formula and what replaces the symbol fit a signature, and the result's indices
@@ -22,7 +24,9 @@ pub record CanReplace (within : FormTree) (c : Change) : Type 0 where
 pub record IsReplacement (within : FormTree) (c : Change) (new : FormTree) : Type 0 where
   pub tree : new ≡ changed_form c 0 within
   pub truth : IsReplaced within c new
+  pub in_structures : IsReplacedInStructures within c new
   pub fits : (sig : Symbols) (sorts : List ℕ) → FitsForm sig sorts within → CanChange sig sorts c → FitsForm sig sorts new
+  pub fragments : HasNoQuantifier c → KeepsFragments within new
   pub small : is_too_large new ≡ false
 
 -- the shifted formula: elements, and sorts, may be put into the list at `from`

@@ -105,9 +105,9 @@ fn change_application(
         Replacement::Rel(_, _) => Ok(Term::App(f, change_terms(alloc, args, c, m, depth)?)),
         Replacement::Fun(g, by) => {
             if f.0 == g.0 {
-                let mut all = change_kept(alloc, args, c, m, depth)?;
-                all.reverse();
-                let t = put_term(alloc, by, 0, &all)?;
+                let mut kept = change_kept(alloc, args, c, m, depth)?;
+                kept.reverse();
+                let t = put_term(alloc, by, 0, &kept)?;
                 Ok(t)
             } else {
                 Ok(Term::App(f, change_terms(alloc, args, c, m, depth)?))

@@ -113,3 +113,6 @@ fn replace(
     let changed = change_formula(alloc, within, change, &measure, 0)?;
     Ok(changed)
 }
+
+#[cfg(test)]
+mod tests;

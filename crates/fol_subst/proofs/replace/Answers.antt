@@ -6,7 +6,9 @@ use Rattle.fol_subst.specs.Replace.{changed_form}
 use Rattle.fol_subst.specs.Limits.{is_too_large}
 use Rattle.fol_subst.specs.Changes.{change_of}
 use Rattle.fol_subst.proofs.ReplaceTruth.{can_ready, can_replace}
+use Rattle.fol_subst.proofs.InStructures.{in_structures}
 use Rattle.fol_subst.proofs.Fitting.{changed-fits}
+use Rattle.fol_subst.proofs.Fragments.{keeps_fragments}
 use Rattle.fol_subst.proofs.Counting.{extent-form, over-is-too-large}
 use Rattle.fol_subst.proofs.Rooms.{room-within}
 use Rattle.fol_subst.proofs.replace.Goals as goal
@@ -46,6 +48,8 @@ returns-clause-replaced c =
     record {
       tree = c.in_ok-changed.ensures;
       truth = λ s env. ap (λ q. truth s q env) c.in_ok-changed.ensures ∙ can_replace within change c.requires s env;
+      in_structures = in_structures within (form c.in_ok-changed.changed) change (λ s env. ap (λ q. truth s q env) c.in_ok-changed.ensures ∙ can_replace within change c.requires s env);
       fits = λ sig sorts h can. subst (FitsForm sig sorts) (sym c.in_ok-changed.ensures) (changed-fits sig sorts change can within [] h);
+      fragments = keeps_fragments change within (form c.in_ok-changed.changed) c.in_ok-changed.ensures;
       small = ap is_too_large c.in_ok-changed.ensures ∙ small;
     }

@@ -85,11 +85,11 @@ change_application-change_kept-requires t c =
 pub change_application-put_term-requires : goal.change_application-put_term-requires
 change_application-put_term-requires t c =
     let same = ap change_of c.in-Fun.is in
-    let built = built-application (change_of c.args.c.now) c.in-Fun.g.0 c.args.f.0 c.args.depth (term c.in-Fun.by.now) (terms c.args.args.now) c.in_ok-all-in-Fun.all.items c.deref.result.now same c.if-f-g.true c.requires.ready.1 c.requires.room (c.deref.ensures.value ∙ c.reverse.ensures.items) c.in_ok-all-in-Fun.ensures in
+    let built = built-application (change_of c.args.c.now) c.in-Fun.g.0 c.args.f.0 c.args.depth (term c.in-Fun.by.now) (terms c.args.args.now) c.in_ok-kept-in-Fun.kept.items c.deref.result.now same c.if-f-g.true c.requires.ready.1 c.requires.room (c.deref.ensures.value ∙ c.reverse.ensures.items) c.in_ok-kept-in-Fun.ensures in
     record { bound = built.bound; room = built.room }
 
 pub change_application-returns-in_ok-t-in-Fun : goal.change_application-returns-in_ok-t-in-Fun
 change_application-returns-in_ok-t-in-Fun t c =
     let same = ap change_of c.in-Fun.is in
-    let built = built-application (change_of c.args.c.now) c.in-Fun.g.0 c.args.f.0 c.args.depth (term c.in-Fun.by.now) (terms c.args.args.now) c.in_ok-all-in-Fun.all.items c.deref.result.now same c.if-f-g.true c.requires.ready.1 c.requires.room (c.deref.ensures.value ∙ c.reverse.ensures.items) c.in_ok-all-in-Fun.ensures in
+    let built = built-application (change_of c.args.c.now) c.in-Fun.g.0 c.args.f.0 c.args.depth (term c.in-Fun.by.now) (terms c.args.args.now) c.in_ok-kept-in-Fun.kept.items c.deref.result.now same c.if-f-g.true c.requires.ready.1 c.requires.room (c.deref.ensures.value ∙ c.reverse.ensures.items) c.in_ok-kept-in-Fun.ensures in
     c.in_ok-t-in-Fun.ensures ∙ built.same

@@ -1,0 +1,62 @@
+-- What the tests replace fits.
+use Rattle.std.proofs.Common.{◌≡◌, ℕ, ◌==◌, cond, List, [], ◌∷◌, refl, subst, sym, arith}
+use Rattle.fol_sig.specs.Symbols.{Symbols}
+use Rattle.fol_formula.specs.Syntax.{FormTree, TermTree, rel, equal, disjunction, for_all, for_some, form_then, no_forms, bound, app, term_then, no_terms}
+use Rattle.fol_formula.specs.Fits.{FitsForm}
+use Rattle.fol_subst.specs.Replace.{change_rel, change_fun, change_const}
+use Rattle.fol_subst.specs.Outcome.{CanReplace}
+
+-- one sort, a relation, a variable and a function
+abbrev sample : Symbols
+sample = record {
+  sorts = 1;
+  relations = 1;
+  functions = 2;
+  sorts_of = λ r. 0 ∷ [];
+  from_of = λ f. cond (f == 0) [] (0 ∷ []);
+  into_of = λ f. 0;
+}
+
+abbrev pub grown : FormTree
+grown = disjunction (form_then (rel 0 (term_then (bound 0) no_terms)) (form_then (equal (bound 0) (app 0 no_terms)) no_forms))
+
+abbrev pub image : TermTree
+image = app 1 (term_then (bound 0) no_terms)
+
+grown-fits : (sorts : List ℕ) → FitsForm sample (0 ∷ sorts) grown
+grown-fits sorts = ((omega arith, omega arith, ((omega arith, refl), tt)), ((0, (omega arith, refl), (omega arith, refl, omega arith, tt)), tt))
+
+pub relation : (p q : FormTree) → p ≡ grown → q ≡ grown → CanReplace p (change_rel 0 q)
+relation p q e f =
+    subst (λ z. CanReplace z (change_rel 0 q)) (sym e)
+    (subst (λ z. CanReplace grown (change_rel 0 z)) (sym f)
+    (record {
+      sig = sample;
+      sorts = 0 ∷ [];
+      within_fits = grown-fits [];
+      change_fits = (omega arith, grown-fits []);
+      indices = (((omega arith, tt), ((omega arith, tt), tt)), ((omega arith, tt), tt));
+    }))
+
+pub variable : (p : FormTree) → p ≡ for_all 0 (for_some 0 grown) → CanReplace p (change_const 0 0)
+variable p e =
+    subst (λ z. CanReplace z (change_const 0 0)) (sym e)
+    (record {
+      sig = sample;
+      sorts = 0 ∷ [];
+      within_fits = (omega arith, (omega arith, grown-fits (0 ∷ 0 ∷ [])));
+      change_fits = (omega arith, refl, omega arith, refl);
+      indices = ((omega arith, tt), ((omega arith, omega arith), tt));
+    })
+
+pub function : (p : FormTree) (u : TermTree) → p ≡ equal image (bound 0) → u ≡ app 1 (term_then image no_terms) → CanReplace p (change_fun 1 u)
+function p u e f =
+    subst (λ z. CanReplace z (change_fun 1 u)) (sym e)
+    (subst (λ z. CanReplace (equal image (bound 0)) (change_fun 1 z)) (sym f)
+    (record {
+      sig = sample;
+      sorts = 0 ∷ [];
+      within_fits = (0, (omega arith, refl, omega arith, ((omega arith, refl), tt)), (omega arith, refl));
+      change_fits = (omega arith, (omega arith, refl, omega arith, ((omega arith, refl, omega arith, ((omega arith, refl), tt)), tt)));
+      indices = (((omega arith, tt), tt), omega arith);
+    }))
