@@ -18,6 +18,9 @@ use Rattle.fol_subst.specs.Room.{RoomForm, RoomForms, RoomTerm, RoomTerms, size_
 use Rattle.fol_subst.specs.Extents.{places_of, put_in, extent_term, extent_instance}
 use Rattle.fol_subst.specs.declared.extent.Extent.{Extent}
 use Rattle.fol_subst.specs.Kept.{kept, kept_one}
+use Rattle.fol_formula.proofs.Closed.{fits_bound}
+use Rattle.fol_subst.specs.Outcome.{ShortListsSuffice}
+use Rattle.fol_subst.proofs.Fitting.{changed-fits}
 use Rattle.fol_subst.proofs.ShiftTruth.{raised-below, raised-above}
 use Rattle.fol_subst.proofs.ReplaceTruth.{picked-below, picked-above, length-list_of, size_of-changed, reversed_args}
 use Rattle.fol_subst.proofs.Sizes.{below, reach_form, reach_forms, reach_term, reach_terms, under_suc}
@@ -430,3 +433,43 @@ shallow n d h = grind (arith, nat_tests)
 -- a result within the limits has room, under the binders that there may be
 pub room-within : (p : FormTree) (d : ℕ) → IndicesFit p → is_too_large p ≡ false → d < 2 ^ 33 → RoomForm d p
 room-within p d h small few = let e = shallow (form_nodes p) (form_depth p) small in room-form p d h (omega (arith, e))
+
+-- what has no index beyond n has none above those of the binders
+mutual
+  bound-indices : (p : FormTree) (n : ℕ) → BoundForm n p → n + form_depth p ≤ 2 ^ 32 → IndicesFit p
+  bound-indices top n h l = tt
+  bound-indices bottom n h l = tt
+  bound-indices (rel r args) n h l = bound-indices-terms args n h (omega arith)
+  bound-indices (equal a b) n h l = (bound-indices-term a n h.0 (omega arith), bound-indices-term b n h.1 (omega arith))
+  bound-indices (negation p) n h l = bound-indices p n h (omega arith)
+  bound-indices (conjunction ps) n h l = bound-indices-forms ps n h (omega arith)
+  bound-indices (disjunction ps) n h l = bound-indices-forms ps n h (omega arith)
+  bound-indices (implication p q) n h l = (bound-indices p n h.0 (omega arith), bound-indices q n h.1 (omega arith))
+  bound-indices (equivalence p q) n h l = (bound-indices p n h.0 (omega arith), bound-indices q n h.1 (omega arith))
+  bound-indices (for_all k p) n h l = bound-indices p (suc n) h (omega arith)
+  bound-indices (for_some k p) n h l = bound-indices p (suc n) h (omega arith)
+
+  bound-indices-forms : (ps : FormTrees) (n : ℕ) → BoundForms n ps → n + forms_depth ps ≤ 2 ^ 32 → IndicesFitAll ps
+  bound-indices-forms no_forms n h l = tt
+  bound-indices-forms (form_then p ps) n h l = (bound-indices p n h.0 (omega arith), bound-indices-forms ps n h.1 (omega arith))
+
+  bound-indices-term : (t : TermTree) (n : ℕ) → BoundTerm n t → n + term_depth t ≤ 2 ^ 32 → IndicesFitTerm t
+  bound-indices-term (bound i) n h l = omega (arith, h)
+  bound-indices-term (app f args) n h l = bound-indices-terms args n h (omega arith)
+  bound-indices-term (ite p a b) n h l = (bound-indices p n h.0 (omega arith), bound-indices-term a n h.1 (omega arith), bound-indices-term b n h.2 (omega arith))
+
+  bound-indices-terms : (ts : TermTrees) (n : ℕ) → BoundTerms n ts → n + terms_depth ts ≤ 2 ^ 32 → IndicesFitTerms ts
+  bound-indices-terms no_terms n h l = tt
+  bound-indices-terms (term_then t ts) n h l = (bound-indices-term t n h.0 (omega arith), bound-indices-terms ts n h.1 (omega arith))
+
+pub short_lists_suffice : ShortListsSuffice
+short_lists_suffice sig sorts within c h can l = record {
+  sig = sig;
+  sorts = sorts;
+  within_fits = h;
+  change_fits = can;
+  indices = λ small.
+      let new = changed_form c 0 within in
+      let e = shallow (form_nodes new) (form_depth new) small in
+      bound-indices new (length sorts) (fits_bound sig new sorts (changed-fits sig sorts c can within [] h)) (omega (arith, e, l));
+}

@@ -4,6 +4,8 @@ use Rattle.fol_sig.specs.Symbols.{Symbols}
 use Rattle.fol_formula.specs.Syntax.{FormTree, TermTree, rel, equal, disjunction, for_all, for_some, form_then, no_forms, bound, app, term_then, no_terms}
 use Rattle.fol_formula.specs.Fits.{FitsForm}
 use Rattle.fol_subst.specs.Replace.{change_rel, change_fun, change_const}
+use Rattle.fol_subst.specs.Shift.{shift_form}
+use Rattle.fol_subst.specs.Limits.{IndicesFit}
 use Rattle.fol_subst.specs.Outcome.{CanReplace}
 
 -- one sort, a relation, a variable and a function
@@ -35,7 +37,7 @@ relation p q e f =
       sorts = 0 ∷ [];
       within_fits = grown-fits [];
       change_fits = (omega arith, grown-fits []);
-      indices = (((omega arith, tt), ((omega arith, tt), tt)), ((omega arith, tt), tt));
+      indices = λ small. (((omega arith, tt), ((omega arith, tt), tt)), ((omega arith, tt), tt));
     }))
 
 pub variable : (p : FormTree) → p ≡ for_all 0 (for_some 0 grown) → CanReplace p (change_const 0 0)
@@ -46,7 +48,7 @@ variable p e =
       sorts = 0 ∷ [];
       within_fits = (omega arith, (omega arith, grown-fits (0 ∷ 0 ∷ [])));
       change_fits = (omega arith, refl, omega arith, refl);
-      indices = ((omega arith, tt), ((omega arith, omega arith), tt));
+      indices = λ small. ((omega arith, tt), ((omega arith, omega arith), tt));
     })
 
 pub function : (p : FormTree) (u : TermTree) → p ≡ equal image (bound 0) → u ≡ app 1 (term_then image no_terms) → CanReplace p (change_fun 1 u)
@@ -58,5 +60,8 @@ function p u e f =
       sorts = 0 ∷ [];
       within_fits = (0, (omega arith, refl, omega arith, ((omega arith, refl), tt)), (omega arith, refl));
       change_fits = (omega arith, (omega arith, refl, omega arith, ((omega arith, refl, omega arith, ((omega arith, refl), tt)), tt)));
-      indices = (((omega arith, tt), tt), omega arith);
+      indices = λ small. (((omega arith, tt), tt), omega arith);
     }))
+
+pub raised : (p : FormTree) → p ≡ grown → IndicesFit (shift_form 0 2 p)
+raised p e = subst (λ z. IndicesFit (shift_form 0 2 z)) (sym e) ((omega arith, tt), ((omega arith, tt), tt))

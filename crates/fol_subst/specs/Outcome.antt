@@ -1,5 +1,5 @@
 -- What the calls answer.
-use Rattle.std.specs.Prelude.{◌≡◌, ℕ, false, List, ◌++◌, length}
+use Rattle.std.specs.Prelude.{◌≡◌, ℕ, ◌+◌, ◌≤◌, ◌^◌, false, List, ◌++◌, length}
 use Rattle.fol_sig.specs.Tables.{Reading}
 use Rattle.fol_sig.specs.Symbols.{Symbols}
 use Rattle.fol_formula.specs.Syntax.{FormTree}
@@ -11,14 +11,18 @@ use Rattle.fol_subst.specs.Structures.{IsReplacedInStructures}
 use Rattle.fol_subst.specs.KeptFragments.{HasNoQuantifier, KeepsFragments}
 use Rattle.fol_subst.specs.Limits.{is_too_large, IndicesFit}
 
--- what a replacement is asked of: the formula and what replaces the symbol fit a signature, and the result's indices
--- are numbers of 32 bits
+-- what a replacement is asked of: the formula and what replaces the symbol fit a signature, and no index of the result is
+-- above 4294967295, unless the result is too large
 pub record CanReplace (within : FormTree) (c : Change) : Type 0 where
   pub sig : Symbols
   pub sorts : List ℕ
   pub within_fits : FitsForm sig sorts within
   pub change_fits : CanChange sig sorts c
-  pub indices : IndicesFit (changed_form c 0 within)
+  pub indices : is_too_large (changed_form c 0 within) ≡ false → IndicesFit (changed_form c 0 within)
+
+-- under a list of sorts that leaves room for a thousand binders, what fits may be replaced
+abbrev pub ShortListsSuffice : Type 0
+ShortListsSuffice = (sig : Symbols) (sorts : List ℕ) (within : FormTree) (c : Change) → FitsForm sig sorts within → CanChange sig sorts c → length sorts + 1000 ≤ 2 ^ 32 → CanReplace within c
 
 -- the replaced formula: its truth is that of the old one in the changed structure, and it fits where the old one does
 pub record IsReplacement (within : FormTree) (c : Change) (new : FormTree) : Type 0 where

@@ -10,13 +10,13 @@ mod put;
 mod raise;
 mod replacement;
 
-ghost use Rattle.std.specs.Prelude.{◌≡◌, IfOk, IfErr, IsTrue};
+ghost use Rattle.std.specs.Prelude.{◌≡◌, IfOk, IfErr, IsTrue, false};
 ghost use Rattle.rml_row.specs.Because.{Because};
 ghost use Rattle.fol_formula.specs.View.{form, term as term_view};
 ghost use Rattle.fol_subst.specs.Replace.{change_rel, change_fun, change_const, changed_form};
 ghost use Rattle.fol_subst.specs.Shift.{shift_form};
 ghost use Rattle.fol_subst.specs.Limits.{is_too_large, IndicesFit};
-ghost use Rattle.fol_subst.specs.Outcome.{CanReplace, IsReplacement, IsShifted};
+ghost use Rattle.fol_subst.specs.Outcome.{CanReplace, ShortListsSuffice, IsReplacement, IsShifted};
 ghost use Rattle.fol_subst.specs.Changes.{change_of};
 
 use change::change_formula;
@@ -85,7 +85,7 @@ pub fn shift(
     from: u32,
     by: u32,
 ) -> Result<Formula, Refused<FormulaLimit>>
-    requires { IndicesFit (shift_form from by (form within.now)) }
+    requires { is_too_large (shift_form from by (form within.now)) ≡ false → IndicesFit (shift_form from by (form within.now)) }
     ensures shifted { IfOk result (λ f. IsShifted (form within.now) from by (form f)) }
     ensures limit { IfErr result (Because (λ _. IsTrue (is_too_large (shift_form from by (form within.now))))) }
 {
@@ -96,6 +96,12 @@ pub fn shift(
     let shifted = shift_formula(alloc, within, from as u64, by as u64)?;
     Ok(shifted)
 }
+
+/// Where the list of sorts is short, whatever fits may be replaced. The function is its contract, and
+/// does nothing.
+pub fn conditions()
+    ensures { ShortListsSuffice }
+{}
 
 fn replace(
     alloc: Global,

@@ -35,7 +35,7 @@ change_formula-requires-clause-room c =
     sym (over-is-too-large (changed_form change 0 within) c.formula.result (c.formula.ensures ∙ extent-form change within 0 (can_ready within change c.requires)))
     ∙ sym c.is_over.ensures
     ∙ c.if-is_over.false in
-    room-within (changed_form change 0 within) 0 c.requires.indices small (omega arith)
+    room-within (changed_form change 0 within) 0 (c.requires.indices small) small (omega arith)
 
 pub returns-clause-replaced : goal.returns-clause-replaced
 returns-clause-replaced c =

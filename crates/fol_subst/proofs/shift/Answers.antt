@@ -35,7 +35,7 @@ shift_formula-requires c =
     sym (over-is-too-large new c.new-extent.result (c.new-extent.ensures ∙ ap (λ n. extent n c.depth.result) c.nodes.ensures ∙ ap (extent _) c.depth.ensures ∙ extent-saturated (form_nodes within) (form_depth within) ∙ same))
     ∙ sym c.is_over.ensures
     ∙ c.if-is_over.false in
-    room-within new c.args.from c.requires small (omega arith)
+    room-within new c.args.from (c.requires small) small (omega arith)
 
 pub returns-clause-shifted : goal.returns-clause-shifted
 returns-clause-shifted c =

@@ -1,0 +1,5 @@
+use Rattle.fol_subst.proofs.Rooms.{short_lists_suffice}
+use Rattle.fol_subst.proofs.conditions.Goals as goal
+
+pub returns : goal.returns
+returns c = short_lists_suffice
