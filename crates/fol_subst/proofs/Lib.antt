@@ -1,9 +1,10 @@
 mod ShiftTruth
 mod ReplaceTruth
-mod Fitting
+pub mod Fitting
 mod Sizes
 mod Counting
-mod Rooms
+pub mod Rooms
 mod InStructures
-mod Samples
 mod Fragments
+pub mod Meaning
+mod Samples

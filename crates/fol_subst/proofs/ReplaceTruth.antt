@@ -13,7 +13,7 @@ use Rattle.fol_formula.specs.declared.Term.{Term}
 use Rattle.fol_subst.specs.Shift.{shift_term}
 use Rattle.fol_subst.specs.Outcome.{CanReplace}
 use Rattle.fol_subst.specs.Room.{size_of, RelReady, AppReady, ReadyForm, ReadyForms, ReadyTerm, ReadyTerms}
-use Rattle.fol_subst.specs.Replace.{picked, put_form, put_forms, put_term, put_terms, Change, change_rel, change_fun, change_const, rel_instance, app_instance, changed_form, changed_forms, changed_term, changed_terms, updated, CanChange, IsReplaced}
+use Rattle.fol_subst.specs.Replace.{picked, put_form, put_forms, put_term, put_terms, Change, change_rel, change_fun, change_const, rel_instance, app_instance, changed_form, changed_forms, changed_term, changed_terms, updated, CanChange}
 use Rattle.fol_formula.proofs.Quantified.{all_below-same, any_below-same}
 use Rattle.fol_formula.proofs.Lists.{list_of-terms, values-map}
 use Rattle.fol_formula.proofs.Closed.{fits_bound, fits_bound_term}
@@ -229,6 +229,3 @@ module _ (sig : Symbols) where
 
 pub can_ready : (within : FormTree) (c : Change) → CanReplace within c → ReadyForm c within
 can_ready within c h = fits_ready h.sig h.sorts c h.change_fits within h.sorts h.within_fits
-
-pub can_replace : (within : FormTree) (c : Change) → CanReplace within c → IsReplaced within c (changed_form c 0 within)
-can_replace within c h s env = truth-changed s c env within [] (can_ready within c h)

@@ -24,14 +24,23 @@ pub record CanReplace (within : FormTree) (c : Change) : Type 0 where
 abbrev pub ShortListsSuffice : Type 0
 ShortListsSuffice = (sig : Symbols) (sorts : List ℕ) (within : FormTree) (c : Change) → FitsForm sig sorts within → CanChange sig sorts c → length sorts + 1000 ≤ 2 ^ 32 → CanReplace within c
 
--- the replaced formula: its truth is that of the old one in the changed structure, and it fits where the old one does
-pub record IsReplacement (within : FormTree) (c : Change) (new : FormTree) : Type 0 where
-  pub tree : new ≡ changed_form c 0 within
+-- the new formula means in a structure what the old one means in the changed structure, it fits where the old one does,
+-- and it stays in its fragments
+pub record KeepsMeaning (within : FormTree) (c : Change) (new : FormTree) : Type 0 where
   pub truth : IsReplaced within c new
   pub in_structures : IsReplacedInStructures within c new
   pub fits : (sig : Symbols) (sorts : List ℕ) → FitsForm sig sorts within → CanChange sig sorts c → FitsForm sig sorts new
   pub fragments : HasNoQuantifier c → KeepsFragments within new
+
+-- the replaced formula
+pub record IsReplacement (within : FormTree) (c : Change) (new : FormTree) : Type 0 where
+  pub tree : new ≡ changed_form c 0 within
+  pub meaning : KeepsMeaning within c new
   pub small : is_too_large new ≡ false
+
+-- wherever what replaces the symbol fits it
+abbrev pub ReplacementKeepsMeaning : Type 0
+ReplacementKeepsMeaning = (sig : Symbols) (sorts : List ℕ) (within : FormTree) (c : Change) → FitsForm sig sorts within → CanChange sig sorts c → KeepsMeaning within c (changed_form c 0 within)
 
 -- the shifted formula: elements, and sorts, may be put into the list at `from`
 pub record IsShifted (within : FormTree) (from by : ℕ) (new : FormTree) : Type 0 where

@@ -4,6 +4,7 @@
 
 mod change;
 mod extent;
+mod laws;
 mod measure;
 mod places;
 mod put;
@@ -16,13 +17,14 @@ ghost use Rattle.fol_formula.specs.View.{form, term as term_view};
 ghost use Rattle.fol_subst.specs.Replace.{change_rel, change_fun, change_const, changed_form};
 ghost use Rattle.fol_subst.specs.Shift.{shift_form};
 ghost use Rattle.fol_subst.specs.Limits.{is_too_large, IndicesFit};
-ghost use Rattle.fol_subst.specs.Outcome.{CanReplace, ShortListsSuffice, IsReplacement, IsShifted};
+ghost use Rattle.fol_subst.specs.Outcome.{CanReplace, IsReplacement, IsShifted};
 ghost use Rattle.fol_subst.specs.Changes.{change_of};
 
 use change::change_formula;
 use extent::Extent;
 use fol_formula::{Formula, Term};
 use fol_sig::{FunId, RelId};
+pub use laws::{conditions, exactness};
 use measure::Measure;
 use raise::shift_formula;
 use replacement::Replacement;
@@ -96,12 +98,6 @@ pub fn shift(
     let shifted = shift_formula(alloc, within, from as u64, by as u64)?;
     Ok(shifted)
 }
-
-/// Where the list of sorts is short, whatever fits may be replaced. The function is its contract, and
-/// does nothing.
-pub fn conditions()
-    ensures { ShortListsSuffice }
-{}
 
 fn replace(
     alloc: Global,

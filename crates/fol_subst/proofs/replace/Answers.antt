@@ -1,14 +1,11 @@
-use Rattle.std.proofs.Common.{◌≡◌, false, [], ap, sym, subst, ◌∙◌, arith}
+use Rattle.std.proofs.Common.{◌≡◌, false, ap, sym, subst, ◌∙◌, arith}
 use Rattle.fol_formula.specs.View.{form}
-use Rattle.fol_formula.specs.Truth.{truth}
-use Rattle.fol_formula.specs.Fits.{FitsForm}
 use Rattle.fol_subst.specs.Replace.{changed_form}
 use Rattle.fol_subst.specs.Limits.{is_too_large}
 use Rattle.fol_subst.specs.Changes.{change_of}
-use Rattle.fol_subst.proofs.ReplaceTruth.{can_ready, can_replace}
-use Rattle.fol_subst.proofs.InStructures.{in_structures}
-use Rattle.fol_subst.proofs.Fitting.{changed-fits}
-use Rattle.fol_subst.proofs.Fragments.{keeps_fragments}
+use Rattle.fol_subst.proofs.ReplaceTruth.{can_ready}
+use Rattle.fol_subst.specs.Outcome.{KeepsMeaning}
+use Rattle.fol_subst.proofs.Meaning.{replacement_keeps_meaning}
 use Rattle.fol_subst.proofs.Counting.{extent-form, over-is-too-large}
 use Rattle.fol_subst.proofs.Rooms.{room-within}
 use Rattle.fol_subst.proofs.replace.Goals as goal
@@ -47,9 +44,6 @@ returns-clause-replaced c =
     ∙ c.if-is_over.false in
     record {
       tree = c.in_ok-changed.ensures;
-      truth = λ s env. ap (λ q. truth s q env) c.in_ok-changed.ensures ∙ can_replace within change c.requires s env;
-      in_structures = in_structures within (form c.in_ok-changed.changed) change (λ s env. ap (λ q. truth s q env) c.in_ok-changed.ensures ∙ can_replace within change c.requires s env);
-      fits = λ sig sorts h can. subst (FitsForm sig sorts) (sym c.in_ok-changed.ensures) (changed-fits sig sorts change can within [] h);
-      fragments = keeps_fragments change within (form c.in_ok-changed.changed) c.in_ok-changed.ensures;
+      meaning = subst (KeepsMeaning within change) (sym c.in_ok-changed.ensures) (replacement_keeps_meaning c.requires.sig c.requires.sorts within change c.requires.within_fits c.requires.change_fits);
       small = ap is_too_large c.in_ok-changed.ensures ∙ small;
     }

@@ -1,5 +1,5 @@
 use Rattle.fol_subst.proofs.Rooms.{short_lists_suffice}
-use Rattle.fol_subst.proofs.conditions.Goals as goal
+use Rattle.fol_subst.proofs.laws.conditions.Goals as goal
 
 pub returns : goal.returns
 returns c = short_lists_suffice

@@ -1,0 +1,13 @@
+// What holds of every replacement. Each function is its contract, and does nothing.
+ghost use Rattle.fol_subst.specs.Outcome.{ShortListsSuffice, ReplacementKeepsMeaning};
+
+/// A formula with a symbol replaced is true in a structure exactly where the formula is true in the
+/// structure with the symbol's table changed; it fits where the formula does, and stays in its fragments.
+pub fn exactness()
+    ensures { ReplacementKeepsMeaning }
+{}
+
+/// Where the list of sorts is short, whatever fits may be replaced.
+pub fn conditions()
+    ensures { ShortListsSuffice }
+{}
