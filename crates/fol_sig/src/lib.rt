@@ -7,12 +7,16 @@
 #![tactic(auto)]
 
 mod laws;
+mod order;
+mod passes;
 mod signature;
 mod sorts;
 mod structure;
 mod table;
 
-pub use laws::{update_laws, value_law};
+pub use laws::{strata_laws, update_laws, value_law};
+pub use order::{Cycle, Strata};
+pub use passes::strata;
 pub use signature::Signature;
 pub use sorts::Sorts;
 pub use structure::Structure;
