@@ -1,0 +1,8 @@
+pub mod Lists
+pub mod Loops
+pub mod Quantified
+pub mod AgreeTruth
+pub mod Closed
+mod Deciding
+pub mod Inclusions
+mod NormalForms

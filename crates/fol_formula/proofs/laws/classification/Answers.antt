@@ -1,0 +1,11 @@
+use Rattle.fol_formula.proofs.NormalForms.{universal_by_normal_form, exists_forall_by_normal_form, normal_form_keeps_truth}
+use Rattle.fol_formula.proofs.laws.classification.Goals as goal
+
+pub returns-clause-universal : goal.returns-clause-universal
+returns-clause-universal c = universal_by_normal_form
+
+pub returns-clause-exists_forall : goal.returns-clause-exists_forall
+returns-clause-exists_forall c = exists_forall_by_normal_form
+
+pub returns-clause-truth : goal.returns-clause-truth
+returns-clause-truth c = normal_form_keeps_truth

@@ -1,0 +1,12 @@
+pub mod Syntax
+pub mod View
+pub mod Truth
+pub mod Fits
+pub mod Counts
+pub mod Code
+pub mod Fragments
+pub mod NormalForms
+pub mod Inclusions
+pub mod Deciding
+pub mod Agree
+pub mod Closed

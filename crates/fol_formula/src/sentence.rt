@@ -1,0 +1,75 @@
+// Formulas without free indices.
+ghost use Rattle.std.specs.Prelude.{◌≡◌, IfOk};
+ghost use Rattle.fol_formula.specs.View.{form};
+ghost use Rattle.fol_formula.specs.Fits.{BoundForm};
+ghost use Rattle.fol_formula.specs.Counts.{form_nodes, form_depth, saturated};
+
+use crate::Formula;
+use rml_row::Mem;
+use std::alloc::Global;
+use std::marker::Model;
+
+/// A formula whose every index is bound inside it.
+#[derive(Drop, Debug)]
+pub struct Sentence {
+    formula: Formula,
+}
+
+impl Model for Sentence {
+    ghost use Rattle.fol_formula.specs.Syntax.{FormTree};
+    ghost use Rattle.fol_formula.specs.Code.{form_code};
+
+    ghost Value = { FormTree };
+
+    ghost coded = { form_code };
+
+    ghost use Rattle.fol_formula.specs.View.{form};
+    ghost use Rattle.fol_formula.specs.Fits.{BoundForm};
+
+    ghost view = { λ s. form s.formula };
+
+    ghost invariant = { λ s. BoundForm 0 (form s.formula) };
+}
+
+impl Sentence {
+    pub fn of(formula: Formula) -> Sentence
+        requires { BoundForm 0 (form formula) }
+        ensures { result ≡ form formula }
+    {
+        Sentence { formula }
+    }
+
+    pub fn formula(&self) -> &Formula
+        ensures value { form result.now ≡ self.now }
+        ensures bound { BoundForm 0 self.now }
+    {
+        &self.formula
+    }
+
+    pub fn into_formula(self) -> Formula
+        ensures value { form result ≡ self }
+        ensures bound { BoundForm 0 self }
+    {
+        self.formula
+    }
+
+    pub fn nodes(&self) -> u64
+        ensures { result ≡ saturated (form_nodes self.now) }
+    {
+        self.formula.nodes()
+    }
+
+    pub fn depth(&self) -> u64
+        ensures { result ≡ saturated (form_depth self.now) }
+    {
+        self.formula.depth()
+    }
+
+    pub fn copy(&self, alloc: Global) -> Mem<Sentence>
+        ensures { IfOk result (λ s. s ≡ self.now) }
+    {
+        Ok(Sentence {
+            formula: self.formula.copy(alloc)?,
+        })
+    }
+}

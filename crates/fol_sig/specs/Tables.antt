@@ -1,0 +1,137 @@
+-- Finite structures: a size for each sort, and a table for each relation and each function.
+use Rattle.std.specs.Prelude.{◌≡◌, ℕ, ◌+◌, ◌*◌, ◌^◌, ◌<◌, ◌≤◌, Bool, false, List, [], ◌∷◌, length, slice_index, slice_index_or, slice_set, All, map, replicate}
+use Rattle.fol_sig.specs.declared.Sort.{Sort}
+
+-- sorts by their numbers
+abbrev pub numbers : List Sort → List ℕ
+numbers ks = map (λ k. k.0) ks
+
+-- What a signature declares: how many sorts, the sorts of each relation's arguments, and those of each function's
+-- arguments with that of its values. A variable is a function without arguments.
+pub record Declared : Type 0 where
+  pub sorts : ℕ
+  pub relations : List (List ℕ)
+  pub functions : List (List ℕ × Sort)
+
+abbrev pub AreSorts : ℕ → List ℕ → Type 0
+AreSorts n ks = All (λ k. k < n) ks
+
+-- no other sorts are named, and no symbol has more than 8 arguments
+pub record IsSignature (sig : Declared) : Type 0 where
+  pub relations_sorted : All (AreSorts sig.sorts) sig.relations
+  pub functions_sorted : All (λ f. AreSorts sig.sorts f.0 × (f.1.0 < sig.sorts)) sig.functions
+  pub relations_short : All (λ ks. length ks ≤ 8) sig.relations
+  pub functions_short : All (λ f. length f.0 ≤ 8) sig.functions
+  pub few_sorts : sig.sorts < 2 ^ 32
+  pub few_relations : length sig.relations < 2 ^ 32
+  pub few_functions : length sig.functions < 2 ^ 32
+
+-- a value for each tuple of elements of these sorts, in lexicographic order
+pub record TableOf (A : Type 0) : Type 0 where
+  pub sorts : List ℕ
+  pub cells : List A
+
+-- the truth values of a relation
+abbrev pub RelationTable : Type 0
+RelationTable = TableOf Bool
+
+-- the values of a function, which are elements of one sort
+pub record FunctionTable : Type 0 where
+  pub sorts : List ℕ
+  pub into : ℕ
+  pub cells : List ℕ
+
+pub record Tables : Type 0 where
+  pub sizes : List ℕ
+  pub relations : List RelationTable
+  pub functions : List FunctionTable
+
+-- what truth reads of a structure
+pub record Reading : Type 0 where
+  pub size : ℕ → ℕ
+  pub rel : ℕ → List ℕ → Bool
+  pub fun : ℕ → List ℕ → ℕ
+
+-- each element of the tuple is one of its sort
+abbrev pub InRange : List ℕ → List ℕ → List ℕ → Type 0
+InRange sizes [] [] = Unit {0}
+InRange sizes [] (x ∷ xs) = ⊥
+InRange sizes (k ∷ ks) [] = ⊥
+InRange sizes (k ∷ ks) (x ∷ xs) = (x < slice_index sizes k) × InRange sizes ks xs
+
+-- how many tuples there are
+abbrev pub tuple_count : List ℕ → List ℕ → ℕ
+tuple_count sizes [] = 1
+tuple_count sizes (k ∷ ks) = slice_index sizes k * tuple_count sizes ks
+
+-- the place of a tuple, where those before it count for `before`
+abbrev pub place_from : List ℕ → ℕ → List ℕ → List ℕ → ℕ
+place_from sizes before [] xs = before
+place_from sizes before (k ∷ ks) [] = before
+place_from sizes before (k ∷ ks) (x ∷ xs) = place_from sizes (before * slice_index sizes k + x) ks xs
+
+unfoldable pub place_of : List ℕ → List ℕ → List ℕ → ℕ
+place_of sizes ks xs = place_from sizes 0 ks xs
+
+-- the value at a tuple, or another where the table has none
+abbrev pub cell_at : {A : Type 0} → List ℕ → TableOf A → List ℕ → A → A
+cell_at sizes t xs other = slice_index_or t.cells (place_of sizes t.sorts xs) other
+
+abbrev pub relation_at : Tables → ℕ → RelationTable
+relation_at s r = slice_index_or s.relations r (record { sorts = []; cells = [] })
+
+abbrev pub function_at : Tables → ℕ → FunctionTable
+function_at s f = slice_index_or s.functions f (record { sorts = []; into = 0; cells = [] })
+
+abbrev pub size_at : Tables → ℕ → ℕ
+size_at s k = slice_index s.sizes k
+
+abbrev pub rel_at : Tables → ℕ → List ℕ → Bool
+rel_at s r xs = cell_at s.sizes (relation_at s r) xs false
+
+abbrev pub fun_at : Tables → ℕ → List ℕ → ℕ
+fun_at s f xs = slice_index (function_at s f).cells (place_of s.sizes (function_at s f).sorts xs)
+
+-- the structure as truth reads it
+abbrev pub reading : Tables → Reading
+reading s = record { size = size_at s; rel = rel_at s; fun = fun_at s }
+
+-- the sorts are those of the structure, and the table has a cell for each tuple
+pub record IsFullRelation (sizes : List ℕ) (t : RelationTable) : Type 0 where
+  pub sorted : All (λ k. k < length sizes) t.sorts
+  pub short : length t.sorts ≤ 8
+  pub full : length t.cells ≡ tuple_count sizes t.sorts
+
+pub record IsFullFunction (sizes : List ℕ) (t : FunctionTable) : Type 0 where
+  pub sorted : All (λ k. k < length sizes) t.sorts
+  pub short : length t.sorts ≤ 8
+  pub into_sorted : t.into < length sizes
+  pub full : length t.cells ≡ tuple_count sizes t.sorts
+  pub within : All (λ x. x < slice_index sizes t.into) t.cells
+
+pub record IsStructure (s : Tables) : Type 0 where
+  pub positive : All (λ n. 0 < n) s.sizes
+  pub relations_full : All (IsFullRelation s.sizes) s.relations
+  pub functions_full : All (IsFullFunction s.sizes) s.functions
+
+-- a table that has one value everywhere
+abbrev pub filled : {A : Type 0} → List ℕ → List ℕ → A → TableOf A
+filled sizes ks v = record { sorts = ks; cells = replicate (tuple_count sizes ks) v }
+
+-- the table with another value at one tuple
+abbrev pub with_cell : {A : Type 0} → List ℕ → TableOf A → List ℕ → A → TableOf A
+with_cell sizes t xs v = record { sorts = t.sorts; cells = slice_set t.cells (place_of sizes t.sorts xs) v }
+
+-- the structure of these sizes whose relations are false and whose functions are 0 everywhere
+abbrev pub blank_relation : List ℕ → List ℕ → RelationTable
+blank_relation sizes ks = filled sizes ks false
+
+abbrev pub blank_function : List ℕ → List ℕ → ℕ → FunctionTable
+blank_function sizes ks into = record { sorts = ks; into = into; cells = replicate (tuple_count sizes ks) 0 }
+
+abbrev pub blank : Declared → List ℕ → Tables
+blank sig sizes = record {
+  sizes = sizes;
+  relations = map (blank_relation sizes) sig.relations;
+  functions = map (λ f. blank_function sizes f.0 f.1.0) sig.functions;
+}

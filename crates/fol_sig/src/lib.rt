@@ -1,0 +1,37 @@
+//! The symbols of many-sorted first-order logic, and finite structures.
+//!
+//! A signature declares sorts, relations and functions; a structure gives each sort a size, each
+//! relation a truth value and each function an element at each tuple of elements of its argument
+//! sorts. (Padon, McMillan, Panda, Sagiv and Shoham, "Ivy: Safety Verification by Interactive
+//! Generalization", PLDI 2016, section 3.)
+#![tactic(auto)]
+
+mod laws;
+mod order;
+mod passes;
+mod signature;
+mod sorts;
+mod structure;
+mod table;
+
+pub use laws::{strata_laws, update_laws, value_law};
+pub use order::{Cycle, Strata};
+pub use passes::strata;
+pub use signature::Signature;
+pub use sorts::Sorts;
+pub use structure::Structure;
+
+/// A sort, by its place in the signature.
+#[derive(Clone, Copy, PartialEq, Eq, Debug, Default)]
+pub struct Sort(pub u32);
+
+/// A relation, by its place in the signature.
+#[derive(Clone, Copy, PartialEq, Eq, Debug)]
+pub struct RelId(pub u32);
+
+/// A function, by its place in the signature. A function without arguments is a variable.
+#[derive(Clone, Copy, PartialEq, Eq, Debug)]
+pub struct FunId(pub u32);
+
+#[cfg(test)]
+mod tests;

@@ -1,0 +1,180 @@
+// What a signature declares.
+ghost use Rattle.std.specs.Prelude.{◌≡◌, ◌<◌, ◌≤◌, ◌+◌, ◌^◌, [], ◌∷◌, ◌++◌, length, IfOk, OnOk, OnErr};
+ghost use Rattle.fol_sig.specs.Tables.{IsSignature, AreSorts, numbers};
+ghost use Rattle.fol_sig.specs.Symbols.{symbols, AreSorted};
+
+use crate::{FunId, RelId, Sort, Sorts};
+use rml_row::Mem;
+use std::alloc::Global;
+use std::marker::Model;
+
+/// The sorts, relations and functions of a model.
+#[derive(Drop, Debug)]
+pub struct Signature {
+    sorts: u32,
+    relations: Vec<Sorts>,
+    functions: Vec<(Sorts, Sort)>,
+}
+
+impl Model for Signature {
+    ghost use Rattle.fol_sig.specs.Tables.{Declared, IsSignature};
+
+    ghost Value = { Declared };
+
+    ghost view = { λ s. record { sorts = s.sorts; relations = s.relations.items; functions = s.functions.items } };
+
+    ghost invariant = { λ s. IsSignature (record { sorts = s.sorts; relations = s.relations.items; functions = s.functions.items }) };
+}
+
+impl Signature {
+    /// Each function with the sorts of its arguments and the sort of its values.
+    pub fn new(sorts: u32, relations: Vec<Sorts>, functions: Vec<(Sorts, Sort)>) -> Signature
+        requires { IsSignature (record { sorts = sorts; relations = relations.items; functions = functions.items }) }
+        ensures { result ≡ record { sorts = sorts; relations = relations.items; functions = functions.items } }
+    {
+        Signature {
+            sorts,
+            relations,
+            functions,
+        }
+    }
+
+    /// The signature without sorts, to which `add_sort`, `add_relation` and `add_function` add.
+    pub fn empty(alloc: Global) -> Signature
+        ensures { result ≡ record { sorts = 0; relations = []; functions = [] } }
+    {
+        Signature {
+            sorts: 0,
+            relations: Vec::new(alloc),
+            functions: Vec::new(alloc),
+        }
+    }
+
+    pub fn copy(&self, alloc: Global) -> Mem<Signature>
+        ensures { IfOk result (λ s. s ≡ self.now) }
+    {
+        Ok(Signature {
+            sorts: self.sorts,
+            relations: copy_relations(alloc, &self.relations)?,
+            functions: copy_functions(alloc, &self.functions)?,
+        })
+    }
+
+    pub fn add_sort(&mut self) -> Sort
+        requires { self.old.sorts + 1 < 2 ^ 32 }
+        ensures sort { result.0 ≡ self.old.sorts }
+        ensures added { self.new ≡ record self.old { sorts = self.old.sorts + 1 } }
+    {
+        let sort = Sort(self.sorts);
+        self.sorts += 1;
+        sort
+    }
+
+    /// The signature is as before where the memory is wanting.
+    pub fn add_relation(&mut self, sorts: Sorts) -> Mem<RelId>
+        requires known { AreSorts self.old.sorts sorts }
+        requires few { length self.old.relations + 1 < 2 ^ 32 }
+        ensures id { IfOk result (λ r. r.0 ≡ length self.old.relations) }
+        ensures added { OnOk result (self.new ≡ record self.old { relations = self.old.relations ++ sorts ∷ [] }) }
+        ensures kept { OnErr result (self.new ≡ self.old) }
+    {
+        let id = RelId(self.relations.len() as u32);
+        self.relations.push(sorts)?;
+        Ok(id)
+    }
+
+    /// The signature is as before where the memory is wanting.
+    pub fn add_function(&mut self, from: Sorts, into: Sort) -> Mem<FunId>
+        requires known { AreSorts self.old.sorts from }
+        requires into_known { into.0 < self.old.sorts }
+        requires few { length self.old.functions + 1 < 2 ^ 32 }
+        ensures id { IfOk result (λ f. f.0 ≡ length self.old.functions) }
+        ensures added { OnOk result (self.new ≡ record self.old { functions = self.old.functions ++ (from, into) ∷ [] }) }
+        ensures kept { OnErr result (self.new ≡ self.old) }
+    {
+        let id = FunId(self.functions.len() as u32);
+        self.functions.push((from, into))?;
+        Ok(id)
+    }
+
+    /// How many sorts there are.
+    pub fn sorts(&self) -> u32
+        ensures value { result ≡ self.now.sorts }
+        ensures signature { IsSignature self.now }
+        ensures sorted { AreSorted (symbols self.now) }
+    {
+        self.sorts
+    }
+
+    pub fn relation_count(&self) -> u32
+        ensures { result ≡ length self.now.relations }
+    {
+        self.relations.len() as u32
+    }
+
+    pub fn function_count(&self) -> u32
+        ensures { result ≡ length self.now.functions }
+    {
+        self.functions.len() as u32
+    }
+
+    /// The sorts of a relation's arguments.
+    pub fn sorts_of(&self, rel: RelId) -> &[Sort]
+        requires { rel.0 < length self.now.relations }
+        ensures value { numbers result.now ≡ (symbols self.now).sorts_of rel.0 }
+        ensures few { length result.now ≤ 8 }
+    {
+        self.relations[rel.0 as usize].as_slice()
+    }
+
+    /// The sorts of a function's arguments.
+    pub fn from_of(&self, fun: FunId) -> &[Sort]
+        requires { fun.0 < length self.now.functions }
+        ensures value { numbers result.now ≡ (symbols self.now).from_of fun.0 }
+        ensures few { length result.now ≤ 8 }
+    {
+        self.functions[fun.0 as usize].0.as_slice()
+    }
+
+    /// The sort of a function's values.
+    pub fn into_of(&self, fun: FunId) -> Sort
+        requires { fun.0 < length self.now.functions }
+        ensures { result.0 ≡ (symbols self.now).into_of fun.0 }
+    {
+        self.functions[fun.0 as usize].1
+    }
+
+    pub(crate) fn relations(&self) -> &[Sorts]
+        ensures value { result.now ≡ self.now.relations }
+        ensures signature { IsSignature self.now }
+    {
+        &self.relations
+    }
+
+    pub(crate) fn functions(&self) -> &[(Sorts, Sort)]
+        ensures value { result.now ≡ self.now.functions }
+        ensures signature { IsSignature self.now }
+    {
+        &self.functions
+    }
+}
+
+fn copy_relations(alloc: Global, relations: &[Sorts]) -> Mem<Vec<Sorts>>
+    ensures { IfOk result (λ all. all.items ≡ relations.now) }
+{
+    let mut all = Vec::new(alloc);
+    for sorts in relations {
+        all.push(sorts.copy())?;
+    }
+    Ok(all)
+}
+
+fn copy_functions(alloc: Global, functions: &[(Sorts, Sort)]) -> Mem<Vec<(Sorts, Sort)>>
+    ensures { IfOk result (λ all. all.items ≡ functions.now) }
+{
+    let mut all = Vec::new(alloc);
+    for (from, into) in functions {
+        all.push((from.copy(), *into))?;
+    }
+    Ok(all)
+}

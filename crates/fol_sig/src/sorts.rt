@@ -1,0 +1,59 @@
+// The list of a symbol's argument sorts.
+ghost use Rattle.std.specs.Prelude.{◌≡◌, ◌<◌, ◌≤◌, List, [], ◌++◌, ◌∷◌, length};
+ghost use Rattle.fol_sig.specs.Tables.{numbers};
+
+use crate::Sort;
+use smallvec::SmallVec;
+use std::alloc::Global;
+use std::marker::Model;
+
+/// A list of at most 8 sorts. It lies in place, so that none of its calls takes memory.
+#[derive(Drop, Debug)]
+pub struct Sorts {
+    items: SmallVec<Sort, 8>,
+}
+
+impl Model for Sorts {
+    ghost use Rattle.std.specs.Prelude.{◌≡◌, List, ℕ, ◌≤◌, length};
+    ghost use Rattle.fol_sig.specs.Tables.{numbers};
+
+    ghost Value = { List ℕ };
+
+    ghost view = { λ s. numbers s.items.items };
+
+    ghost invariant = { λ s. (length s.items.items ≤ 8) × (s.items.capacity ≡ 8) };
+}
+
+impl Sorts {
+    /// The empty list, to which `push` adds.
+    pub fn new(alloc: Global) -> Sorts
+        ensures { result ≡ [] }
+    {
+        Sorts {
+            items: SmallVec::new(alloc),
+        }
+    }
+
+    pub fn push(&mut self, sort: Sort)
+        requires { length self.old < 8 }
+        ensures { self.new ≡ self.old ++ sort.0 ∷ [] }
+    {
+        self.items.push_reserved(sort);
+    }
+
+    pub fn as_slice(&self) -> &[Sort]
+        ensures value { numbers result.now ≡ self.now }
+        ensures few { length result.now ≤ 8 }
+    {
+        self.items.as_slice()
+    }
+
+    pub fn copy(&self) -> Sorts
+        ensures { result ≡ self.now }
+    {
+        match SmallVec::from_slice(*self.items.allocator(), self.items.as_slice()) {
+            Ok(items) => Sorts { items },
+            Err(_) => unreachable!(),
+        }
+    }
+}

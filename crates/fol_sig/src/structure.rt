@@ -1,0 +1,214 @@
+// Finite structures.
+ghost use Rattle.std.specs.Prelude.{◌≡◌, ◌<◌, length, All, IfOk, map};
+ghost use Rattle.fol_sig.specs.Tables.{numbers, AreSorts, InRange, tuple_count, size_at, rel_at, fun_at, relation_at, function_at, blank_relation, blank_function, blank};
+ghost use Rattle.fol_sig.specs.Symbols.{Symbols, FitsStructure, symbols};
+ghost use Rattle.fol_sig.specs.Updates.{SetsRelation, SetsFunction, with_relation_cells, with_function_cells};
+
+use crate::table::Table;
+use crate::{FunId, RelId, Signature, Sort, Sorts};
+use rml_row::Mem;
+use std::alloc::Global;
+use std::marker::Model;
+
+/// The table of a function.
+#[derive(Drop, Debug)]
+struct Function {
+    table: Table<u32>,
+    into: Sort,
+}
+
+impl Model for Function {
+    ghost use Rattle.fol_sig.specs.Tables.{FunctionTable};
+
+    ghost Value = { FunctionTable };
+
+    ghost view = { λ t. record { sorts = t.table.sorts; into = t.into.0; cells = t.table.cells } };
+}
+
+/// A finite structure of a signature. The elements of a sort are the numbers below its size.
+#[derive(Drop, Debug)]
+pub struct Structure {
+    sizes: Vec<u32>,
+    relations: Vec<Table<bool>>,
+    functions: Vec<Function>,
+}
+
+impl Model for Structure {
+    ghost use Rattle.fol_sig.specs.Tables.{Tables, IsStructure};
+
+    ghost Value = { Tables };
+
+    ghost view = { λ s. record { sizes = s.sizes.items; relations = s.relations.items; functions = s.functions.items } };
+
+    ghost invariant = { λ s. IsStructure (record { sizes = s.sizes.items; relations = s.relations.items; functions = s.functions.items }) };
+}
+
+impl Structure {
+    /// The structure of these sizes whose relations are false and whose functions are 0 everywhere.
+    pub fn new(alloc: Global, signature: &Signature, sizes: &[u32]) -> Mem<Structure>
+        requires sorts { length sizes.now ≡ signature.now.sorts }
+        requires positive { All (λ n. 0 < n) sizes.now }
+        ensures value { IfOk result (λ s. s ≡ blank signature.now sizes.now) }
+        ensures fits { IfOk result (λ s. FitsStructure (symbols signature.now) s) }
+    {
+        let relations = blank_relations(alloc, sizes, signature.relations())?;
+        let functions = blank_functions(alloc, sizes, signature.functions())?;
+        let mut own = Vec::new(alloc);
+        own.extend_from_slice(sizes)?;
+        Ok(Structure {
+            sizes: own,
+            relations,
+            functions,
+        })
+    }
+
+    pub fn copy(&self, alloc: Global) -> Mem<Structure>
+        ensures { IfOk result (λ s. s ≡ self.now) }
+    {
+        let relations = copy_relations(alloc, &self.relations)?;
+        let functions = copy_functions(alloc, &self.functions)?;
+        let mut sizes = Vec::new(alloc);
+        sizes.extend_from_slice(&self.sizes)?;
+        Ok(Structure {
+            sizes,
+            relations,
+            functions,
+        })
+    }
+
+    pub fn size(&self, sort: Sort) -> u32
+        requires { sort.0 < length self.now.sizes }
+        ensures { result ≡ size_at self.now sort.0 }
+    {
+        self.sizes[sort.0 as usize]
+    }
+
+    pub fn rel(&self, rel: RelId, tuple: &[u32]) -> bool
+        requires known { rel.0 < length self.now.relations }
+        requires in_range { InRange self.now.sizes (relation_at self.now rel.0).sorts tuple.now }
+        ensures { result ≡ rel_at self.now rel.0 tuple.now }
+    {
+        self.relations[rel.0 as usize].cell(&self.sizes, tuple)
+    }
+
+    pub fn fun(&self, fun: FunId, tuple: &[u32]) -> u32
+        requires known { fun.0 < length self.now.functions }
+        requires in_range { InRange self.now.sizes (function_at self.now fun.0).sorts tuple.now }
+        ensures { result ≡ fun_at self.now fun.0 tuple.now }
+    {
+        self.functions[fun.0 as usize]
+            .table
+            .cell(&self.sizes, tuple)
+    }
+
+    pub fn set_rel(&mut self, rel: RelId, tuple: &[u32], value: bool)
+        requires known { rel.0 < length self.old.relations }
+        requires in_range { InRange self.old.sizes (relation_at self.old rel.0).sorts tuple.now }
+        ensures set { SetsRelation self.old self.new rel.0 tuple.now value }
+        ensures fits { (sig : Symbols) → FitsStructure sig self.old → FitsStructure sig self.new }
+    {
+        let table = &mut self.relations[rel.0 as usize];
+        table.set_cell(&self.sizes, tuple, value);
+    }
+
+    pub fn set_fun(&mut self, fun: FunId, tuple: &[u32], value: u32)
+        requires known { fun.0 < length self.old.functions }
+        requires in_range { InRange self.old.sizes (function_at self.old fun.0).sorts tuple.now }
+        requires within { value < size_at self.old (function_at self.old fun.0).into }
+        ensures set { SetsFunction self.old self.new fun.0 tuple.now value }
+        ensures fits { (sig : Symbols) → FitsStructure sig self.old → FitsStructure sig self.new }
+    {
+        let function = &mut self.functions[fun.0 as usize];
+        function.table.set_cell(&self.sizes, tuple, value);
+    }
+
+    /// The sorts of a relation's arguments.
+    pub fn relation_sorts(&self, rel: RelId) -> &[Sort]
+        requires { rel.0 < length self.now.relations }
+        ensures { numbers result.now ≡ (relation_at self.now rel.0).sorts }
+    {
+        self.relations[rel.0 as usize].sorts().as_slice()
+    }
+
+    /// The sorts of a function's arguments.
+    pub fn function_sorts(&self, fun: FunId) -> &[Sort]
+        requires { fun.0 < length self.now.functions }
+        ensures { numbers result.now ≡ (function_at self.now fun.0).sorts }
+    {
+        self.functions[fun.0 as usize].table.sorts().as_slice()
+    }
+
+    /// The sort of a function's values.
+    pub fn function_into(&self, fun: FunId) -> Sort
+        requires { fun.0 < length self.now.functions }
+        ensures { result.0 ≡ (function_at self.now fun.0).into }
+    {
+        self.functions[fun.0 as usize].into
+    }
+
+    /// Puts other cells into a relation's table, one for each tuple in lexicographic order.
+    pub fn set_relation_cells(&mut self, rel: RelId, cells: Vec<bool>)
+        requires known { rel.0 < length self.old.relations }
+        requires full { length cells.items ≡ tuple_count self.old.sizes (relation_at self.old rel.0).sorts }
+        ensures value { self.new ≡ with_relation_cells self.old rel.0 cells.items }
+        ensures fits { (sig : Symbols) → FitsStructure sig self.old → FitsStructure sig self.new }
+    {
+        self.relations[rel.0 as usize].set_cells(cells);
+    }
+
+    /// Puts other cells into a function's table, one for each tuple in lexicographic order.
+    pub fn set_function_cells(&mut self, fun: FunId, cells: Vec<u32>)
+        requires known { fun.0 < length self.old.functions }
+        requires full { length cells.items ≡ tuple_count self.old.sizes (function_at self.old fun.0).sorts }
+        requires within { All (λ x. x < size_at self.old (function_at self.old fun.0).into) cells.items }
+        ensures value { self.new ≡ with_function_cells self.old fun.0 cells.items }
+        ensures fits { (sig : Symbols) → FitsStructure sig self.old → FitsStructure sig self.new }
+    {
+        self.functions[fun.0 as usize].table.set_cells(cells);
+    }
+}
+
+fn blank_relations(alloc: Global, sizes: &[u32], declared: &[Sorts]) -> Mem<Vec<Table<bool>>>
+    requires { All (AreSorts (length sizes.now)) declared.now }
+    ensures { IfOk result (λ ts. ts.items ≡ map (blank_relation sizes.now) declared.now) }
+{
+    let mut all = Vec::new(alloc);
+    for sorts in declared {
+        all.push(Table::filled(alloc, sizes, sorts, false)?)?;
+    }
+    Ok(all)
+}
+
+fn blank_functions(alloc: Global, sizes: &[u32], declared: &[(Sorts, Sort)]) -> Mem<Vec<Function>>
+    requires { All (λ f. AreSorts (length sizes.now) f.0 × (f.1.0 < length sizes.now)) declared.now }
+    ensures { IfOk result (λ ts. ts.items ≡ map (λ f. blank_function sizes.now f.0 f.1.0) declared.now) }
+{
+    let mut all = Vec::new(alloc);
+    for (sorts, into) in declared {
+        let table = Table::filled(alloc, sizes, sorts, 0)?;
+        all.push(Function { table, into: *into })?;
+    }
+    Ok(all)
+}
+
+fn copy_relations(alloc: Global, tables: &[Table<bool>]) -> Mem<Vec<Table<bool>>>
+    ensures { IfOk result (λ ts. ts.items ≡ tables.now) }
+{
+    let mut all = Vec::new(alloc);
+    for table in tables {
+        all.push(table.copy(alloc)?)?;
+    }
+    Ok(all)
+}
+
+fn copy_functions(alloc: Global, functions: &[Function]) -> Mem<Vec<Function>>
+    ensures { IfOk result (λ ts. ts.items ≡ functions.now) }
+{
+    let mut all = Vec::new(alloc);
+    for function in functions {
+        let table = function.table.copy(alloc)?;
+        let into = function.into;
+        all.push(Function { table, into })?;
+    }
+    Ok(all)
+}
