@@ -9,3 +9,4 @@ pub mod First
 pub mod Loop
 pub mod Between
 pub mod Runs
+pub mod Texts

@@ -1,19 +1,21 @@
 -- The tree of a text's tokens, and their first fault.
-use Rattle.std.specs.Prelude.{◌≡◌, ◌==◌, ◌&&◌, Bool, true, false, ℕ, List, [], ◌∷◌, ◌++◌, ◌⊎◌, length, IsTrue}
+use Rattle.std.specs.Prelude.{◌≡◌, ◌==◌, ◌&&◌, Bool, true, false, ℕ, List, [], ◌∷◌, ◌++◌, ◌⊎◌, length, Result, Ok, Err, if◌then◌else◌}
+use Rattle.rml_row.specs.declared.refused.Refused.{Refused}
+use Rattle.rml_row.specs.declared.refused.Refused.TheVariants.{For, NoMemory}
 use Rattle.rml_lex.specs.declared.token.Token.{Token}
 use Rattle.rml_lex.specs.declared.token.Kind.TheVariants.{Word, Number}
 use Rattle.rml_lex.specs.declared.token.Word.TheVariants.{Rml}
 use Rattle.rml_lex.specs.declared.token.Fault.{Fault}
 use Rattle.rml_lex.specs.Tokens.{word_of}
 use Rattle.rml_syntax.specs.Language.{Tokens, Phrase}
-use Rattle.rml_syntax.specs.Tree.{ItemTree}
+use Rattle.rml_syntax.specs.declared.tree.Tree.{Tree}
+use Rattle.rml_syntax.specs.Tree.{ItemTree, file_tree}
 use Rattle.rml_syntax.specs.Grammar.{file, max_levels}
 
 -- digits of the value 1: a 1 behind zeros
 abbrev pub is_one : List ℕ → Bool
 is_one [] = false
-is_one (d ∷ []) = d == 49
-is_one (d ∷ e ∷ digits) = (d == 48) && is_one (e ∷ digits)
+is_one (d ∷ digits) = if d == 48 then is_one digits else ((d == 49) && (length digits == 0))
 
 -- the number behind `rml`, where there is one, has the value 1
 abbrev pub IsFormat1 : List ℕ → Tokens → Type 0
@@ -65,3 +67,17 @@ pub record IsFault (text : List ℕ) (tokens : Tokens) (fault : Fault) : Type 0 
   pub within : (file max_levels).front front
   pub place : fault.at ≡ place_at text rest
   pub cause : ((fault.code ≡ 4) × IsUnexpected text front rest) ⊎ ((fault.code ≡ 5) × IsTooDeep text front rest)
+
+-- ---- answers
+
+-- this tree was answered, or memory ran out
+abbrev pub AnswersTree : Result Tree (Refused Fault) → List ItemTree → Type 0
+AnswersTree (Ok answer) tree = file_tree answer ≡ tree
+AnswersTree (Err (For fault)) tree = ⊥
+AnswersTree (Err NoMemory) tree = Unit {0}
+
+-- this fault was answered, or memory ran out
+abbrev pub AnswersFault : Result Tree (Refused Fault) → Fault → Type 0
+AnswersFault (Ok answer) fault = ⊥
+AnswersFault (Err (For answer)) fault = answer ≡ fault
+AnswersFault (Err NoMemory) fault = Unit {0}

@@ -1,6 +1,6 @@
 -- Reading from left to right, with the first fault that is met: what the functions of the parser give, one reader
 -- for each word and each production of the grammar. No public contract cites it.
-use Rattle.std.specs.Prelude.{◌≡◌, ℕ, ◌+◌, zero, suc, Bool, true, false, ◌||◌, ◌==◌, cond, List, [], ◌∷◌, length, Option, Some, None, Result, Ok, Err}
+use Rattle.std.specs.Prelude.{◌≡◌, ℕ, ◌+◌, zero, suc, Bool, true, false, ◌||◌, ◌&&◌, not, ◌==◌, cond, List, [], ◌∷◌, length, drop, Option, Some, None, Result, Ok, Err}
 use Rattle.rml_row.specs.declared.refused.Refused.{Refused}
 use Rattle.rml_row.specs.declared.refused.Refused.TheVariants as refused
 use Rattle.rml_lex.specs.declared.token.Token.{Token}
@@ -16,7 +16,11 @@ use Rattle.rml_syntax.specs.declared.front.Stop.TheVariants as stops
 use Rattle.rml_syntax.specs.declared.tree.Name.{Name}
 use Rattle.rml_syntax.specs.declared.tree.Binder.{Binder}
 use Rattle.rml_syntax.specs.declared.tree.Quantifier.TheVariants as quantifier
+use Rattle.rml_lex.specs.declared.token.Fault.{Fault}
+use Rattle.rml_lex.specs.Tokens.{word_of}
 use Rattle.rml_syntax.specs.Language.{Tokens, place_of}
+use Rattle.rml_syntax.specs.Grammar.{max_levels}
+use Rattle.rml_syntax.specs.Faults.{is_one, place_at}
 use Rattle.rml_syntax.specs.Tree as node
 use Rattle.rml_syntax.specs.Tree.{ExprTree, CommandTree, ItemTree, name_of, or_none, applied, conditional, compared, negated, joined, implied, equivalent, binder_of, quantified, assumed, asserted, branched, choice, inserted, removed, putting, assigned}
 
@@ -327,6 +331,23 @@ is_end (t ∷ ts) = false
 unfoldable pub all_at : ℕ → Tokens → Result (List ItemTree) Failure
 all_at levels ts = items_at (inners levels) ts >>= λ x. cond (is_end x.1) (Ok x.0) (fails Unexpected x.1)
 
+-- whether `rml` and a number that is not 1 come first
+abbrev pub is_other_format : List ℕ → Tokens → Bool
+is_other_format text [] = false
+is_other_format text (t ∷ []) = false
+is_other_format text (t ∷ u ∷ ts) = (number (Word Rml) == number t.kind) && ((number kind.Number == number u.kind) && not (is_one (word_of text u)))
+
+-- all of a text's tokens
+abbrev pub read_at : List ℕ → Tokens → Result (List ItemTree) Failure
+read_at text ts = cond (is_other_format text ts) (fails Unexpected (drop 1 ts)) (all_at max_levels ts)
+
+abbrev pub code_of : Why → ℕ
+code_of Unexpected = 4
+code_of TooDeep = 5
+
+abbrev pub failure_of : List ℕ → Failure → Fault
+failure_of text f = record { code = code_of f.why; at = place_at text f.rest }
+
 -- ---- what a function of the parser gives
 
 abbrev pub Stops : {Y : Type 0} → Refused Stop → Result Y Failure → Type 0
@@ -338,3 +359,7 @@ Stops refused.NoMemory read = Unit {0}
 abbrev pub Gives : {X Y : Type 0} → (X → Y) → Result X (Refused Stop) → Result Y Failure → Type 0
 Gives view (Ok x) read = read ≡ Ok (view x)
 Gives view (Err e) read = Stops e read
+
+abbrev pub fault_of : List ℕ → Stop → Fault
+fault_of text (stops.Unexpected rest) = record { code = 4; at = place_at text rest.now }
+fault_of text (stops.TooDeep rest) = record { code = 5; at = place_at text rest.now }
