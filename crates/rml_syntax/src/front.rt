@@ -37,7 +37,13 @@ pub fn behind(kind: Kind, tokens: &[Token]) -> Option<&[Token]>
 {
     match tokens {
         [] => None,
-        [token, rest @ ..] => { if is_one_kind(kind, token.kind) { Some(rest) } else { None } }
+        [token, rest @ ..] => {
+            if is_one_kind(kind, token.kind) {
+                Some(rest)
+            } else {
+                None
+            }
+        }
     }
 }
 

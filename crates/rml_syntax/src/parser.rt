@@ -52,11 +52,7 @@ fn other_format<'a>(text: &[u8], tokens: &'a [Token]) -> Option<&'a [Token]>
 
 // All of the tokens, whatever the number behind `rml`.
 #[tactic(auto, unfolding(crate::specs::Reading::all_at))]
-fn all<'a>(
-    alloc: Global,
-    levels: u8,
-    tokens: &'a [Token],
-) -> Result<Vec<Item>, Refused<Stop<'a>>>
+fn all<'a>(alloc: Global, levels: u8, tokens: &'a [Token]) -> Result<Vec<Item>, Refused<Stop<'a>>>
     ensures { Gives (λ x. item_trees x.items) result (all_at levels tokens.now) }
 {
     let (tree, rest) = items(alloc, levels, tokens)?;
@@ -66,11 +62,7 @@ fn all<'a>(
     }
 }
 
-fn read<'a>(
-    alloc: Global,
-    text: &[u8],
-    tokens: &'a [Token],
-) -> Result<Vec<Item>, Refused<Stop<'a>>>
+fn read<'a>(alloc: Global, text: &[u8], tokens: &'a [Token]) -> Result<Vec<Item>, Refused<Stop<'a>>>
     requires { AllByRecursion (EndsBy (length text.now)) tokens.now }
     ensures { Gives (λ x. item_trees x.items) result (read_at text.now tokens.now) }
 {

@@ -275,6 +275,9 @@ fn and<'a>(alloc: Global, levels: u8, tokens: &'a [Token]) -> Read<'a, Expr>
     ensures { Gives (λ x. (expr_tree x.0, x.1.now)) result (and_at (inners levels) tokens.now) }
 {
     let (first, rest) = unary(alloc, levels, tokens)?;
+    if behind(Kind::Sign(Sign::And), rest).is_none() {
+        return Ok((first, rest));
+    }
     let mut all = Vec::new(alloc);
     all.push(first)?;
     let (all, rest) = more_ands(alloc, levels, all, rest)?;
@@ -306,6 +309,9 @@ fn or<'a>(alloc: Global, levels: u8, tokens: &'a [Token]) -> Read<'a, Expr>
     ensures { Gives (λ x. (expr_tree x.0, x.1.now)) result (or_at (inners levels) tokens.now) }
 {
     let (first, rest) = and(alloc, levels, tokens)?;
+    if behind(Kind::Sign(Sign::Or), rest).is_none() {
+        return Ok((first, rest));
+    }
     let mut all = Vec::new(alloc);
     all.push(first)?;
     let (all, rest) = more_ors(alloc, levels, all, rest)?;
@@ -395,7 +401,10 @@ fn bound<'a>(
 {
     let (binder, rest) = binder(tokens)?;
     let (body, rest) = body(alloc, levels, quantifier, start, rest)?;
-    Ok((quantification(alloc, quantifier, start, binder, body)?, rest))
+    Ok((
+        quantification(alloc, quantifier, start, binder, body)?,
+        rest,
+    ))
 }
 
 // "." expr | "," bound
