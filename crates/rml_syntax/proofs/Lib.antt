@@ -10,3 +10,4 @@ pub mod Loop
 pub mod Between
 pub mod Runs
 pub mod Texts
+pub mod Within

@@ -21,6 +21,8 @@ use Rattle.rml_syntax.specs.Reading.{number, Why, Unexpected, TooDeep, Failure, 
 use Rattle.rml_syntax.proofs.Exact.{chosen, ok_is, err_is, same_kind, same_number}
 use Rattle.rml_syntax.proofs.Fronts.{cut}
 use Rattle.rml_syntax.proofs.Grammar.{file_good}
+use Rattle.rml_syntax.specs.Within.{TreeWithin}
+use Rattle.rml_syntax.proofs.Within.{tree_within}
 use Rattle.rml_syntax.proofs.Whole.{all_found, all_only, unexpected, deep, StopsAt, IsRefused, OpensTooMany}
 
 -- ---- the format
@@ -241,3 +243,6 @@ first_within text (u ∷ front) rest h = first_within text front rest h.1
 
 pub stands : (text : List ℕ) (ts : Tokens) (f : Fault) → AllByRecursion (EndsBy (length text)) ts → IsFault text ts f → f.at ≤ length text
 stands text ts f h p = rw p.place (first_within text p.front p.rest (subst (AllByRecursion (EndsBy (length text))) p.parts h))
+
+pub within_text : (text : List ℕ) (ts : Tokens) (tree : List ItemTree) → IsTree text ts tree → AllByRecursion (EndsBy (length text)) ts → TreeWithin (length text) tree
+within_text text ts tree h all = tree_within (length text) max_levels ts tree h.1 all

@@ -4,3 +4,4 @@ pub mod Piece
 pub mod Grammar
 pub mod Faults
 pub mod Reading
+pub mod Within

@@ -284,13 +284,7 @@ fn cmd<'a>(alloc: Global, levels: u8, tokens: &'a [Token]) -> Read<'a, Command>
         Kind::Word(Word::Insert) => inserts(alloc, levels, *token, rest),
         Kind::Word(Word::Remove) => removes(alloc, levels, *token, rest),
         Kind::Word(Word::Put) => puts(alloc, levels, *token, rest),
-        Kind::Name => {
-            let name = Name {
-                start: token.start,
-                end: token.end,
-            };
-            assigns(alloc, levels, name, rest)
-        }
+        Kind::Name => assigns(alloc, levels, Name::of(token), rest),
         _ => Err(Refused::For(Stop::Unexpected(tokens))),
     }
 }

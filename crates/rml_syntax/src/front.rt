@@ -68,11 +68,7 @@ pub fn name(tokens: &[Token]) -> Read<'_, Name>
     ensures { Gives (λ x. (x.0, x.1.now)) result (name_at tokens.now) }
 {
     let (token, rest) = lexeme(Kind::Name, tokens)?;
-    let name = Name {
-        start: token.start,
-        end: token.end,
-    };
-    Ok((name, rest))
+    Ok((Name::of(&token), rest))
 }
 
 /// The place of the first token.

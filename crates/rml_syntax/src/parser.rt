@@ -5,6 +5,7 @@ ghost use Rattle.rml_row.specs.Because.{Because};
 ghost use Rattle.rml_lex.specs.Tokens.{EndsBy, StandsBy};
 ghost use Rattle.rml_syntax.specs.Tree.{ItemTree, item_trees, file_tree};
 ghost use Rattle.rml_syntax.specs.Faults.{is_one, IsTree, IsFault, place_at, AnswersTree, AnswersFault};
+ghost use Rattle.rml_syntax.specs.Within.{TreeWithin};
 ghost use Rattle.rml_syntax.specs.Reading.{Gives, all_at, read_at, is_other_format, fault_of};
 
 use crate::front::Stop;
@@ -103,9 +104,11 @@ pub fn parse(alloc: Global, text: &[u8], tokens: &[Token]) -> Result<Tree, Refus
     requires { AllByRecursion (EndsBy (length text.now)) tokens.now }
     ensures tree { IfOk result (λ tree. IsTree text.now tokens.now (file_tree tree)) }
     ensures fault { IfErr result (Because (IsFault text.now tokens.now)) }
+    // the names and the nodes stand in the text
+    ensures within { IfOk result (λ tree. TreeWithin (length text.now) (file_tree tree)) }
     // the tree, and the fault, is answered where there is one, unless memory runs out
     ensures found { (tree : List ItemTree) → IsTree text.now tokens.now tree → AnswersTree result tree }
-    ensures refused { (fault : _) → IsFault text.now tokens.now fault → AnswersFault result fault }
+    ensures refused { (fault : Fault) → IsFault text.now tokens.now fault → AnswersFault result fault }
     ensures place { IfErr result (Because (StandsBy (length text.now))) }
 {
     match read(alloc, text, tokens) {

@@ -215,13 +215,7 @@ fn prim<'a>(alloc: Global, levels: u8, tokens: &'a [Token]) -> Read<'a, Expr>
         [token, rest @ ..] => match token.kind {
             Kind::Word(Word::True) => Ok((truth(token.start), rest)),
             Kind::Word(Word::False) => Ok((falsity(token.start), rest)),
-            Kind::Name => {
-                let name = Name {
-                    start: token.start,
-                    end: token.end,
-                };
-                named(alloc, levels, name, rest)
-            }
+            Kind::Name => named(alloc, levels, Name::of(token), rest),
             Kind::Word(Word::Ite) => ite(alloc, levels, *token, rest),
             Kind::Sign(Sign::OpenParen) => {
                 if levels == 0 {

@@ -1,4 +1,8 @@
 //! The tree of a file. A place is a byte of the text, counted from 0.
+ghost use Rattle.std.specs.Prelude.{◌≡◌};
+ghost use Rattle.rml_syntax.specs.Tree.{name_of};
+
+use rml_lex::Token;
 
 /// The tree of a file: its items in order.
 #[derive(Debug, Drop)]
@@ -11,6 +15,17 @@ pub struct Tree {
 pub struct Name {
     pub start: u64,
     pub end: u64,
+}
+
+impl Name {
+    pub(crate) fn of(token: &Token) -> Self
+        ensures { result ≡ name_of token.now }
+    {
+        Name {
+            start: token.start,
+            end: token.end,
+        }
+    }
 }
 
 /// A bound name and its sort.
