@@ -2,7 +2,7 @@
 use Rattle.std.proofs.Common.{Bool, true, false, not}
 use Rattle.fol_formula.specs.Syntax.{FormTree, FormTrees, TermTree, TermTrees, top, bottom, rel, equal, negation, conjunction, disjunction, implication, equivalence, for_all, for_some, no_forms, form_then, bound, app, ite, no_terms, term_then}
 use Rattle.fol_formula.specs.Fragments.{IsUniversal, AreUniversal, IsExistsForall, AreExistsForall, IsQuantifierFree, AreQuantifierFree, IsQuantifierFreeTerm, AreQuantifierFreeTerms, HasPlainTerms, HavePlainTerms, IsIteFree, AreIteFree, IsPlainAtom, IsNormalForm, AreNormalForms}
-use Rattle.fol_formula.specs.Inclusions.{NegationExchanges, UniversalIsEa, NormalIsEa, QuantifierFree, QuantifierFreeIsUniversal}
+use Rattle.fol_formula.specs.Inclusions.{NegationExchanges, UniversalIsEa, NormalIsEa, QuantifierFreeIsUniversal}
 
 pub negation_exchanges : NegationExchanges
 negation_exchanges = record { of_ae = λ p. (λ h. h, λ h. h); of_ea = λ p. (λ h. h, λ h. h) }

@@ -1,6 +1,8 @@
+pub mod Lists
 pub mod Loops
+pub mod Quantified
 pub mod AgreeTruth
-pub mod Bound
+pub mod Closed
 mod Deciding
-mod Inclusions
+pub mod Inclusions
 mod NormalForms

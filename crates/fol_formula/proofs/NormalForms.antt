@@ -1,9 +1,10 @@
 -- The fragments by polarity are those of the normal form, which keeps truth.
-use Rattle.std.proofs.Common.{◌≡◌, ◌↔◌, ℕ, zero, suc, Bool, true, false, not, ◌&&◌, ◌||◌, List, [], ◌∷◌, refl, sym, ap, ◌∙◌}
+use Rattle.std.proofs.Common.{◌≡◌, ◌↔◌, ℕ, zero, suc, Bool, true, false, not, ◌&&◌, ◌||◌, List, ◌∷◌, refl, sym, ap, ◌∙◌}
 use Rattle.fol_sig.specs.Tables.{Reading}
-use Rattle.fol_formula.specs.Syntax.{FormTree, FormTrees, TermTree, TermTrees, top, bottom, rel, equal, negation, conjunction, disjunction, implication, equivalence, for_all, for_some, no_forms, form_then}
+use Rattle.fol_formula.specs.Syntax.{FormTree, FormTrees, top, bottom, rel, equal, negation, conjunction, disjunction, implication, equivalence, for_all, for_some, no_forms, form_then}
 use Rattle.fol_formula.specs.Truth.{truth, all_true, any_true, all_below, any_below, same_truth}
 use Rattle.fol_formula.specs.Fragments.{IsUniversal, AreUniversal, IsExistsForall, AreExistsForall}
+use Rattle.fol_formula.proofs.Quantified.{all_below-same, any_below-same}
 use Rattle.fol_formula.specs.NormalForms.{normal_form, normal_forms, HasNoExistential, HaveNoExistential, HasNoExistentialUnderUniversal, HaveNoExistentialUnderUniversal, UniversalByNormalForm, ExistsForallByNormalForm, NormalFormKeepsTruth, signed}
 
 always : Unit {0} ↔ Unit {0}
@@ -133,15 +134,6 @@ other true false = refl
 other false true = refl
 other false false = refl
 
--- each quantifier's turn
-all_below-by : (n : ℕ) (p q : ℕ → Bool) → ((x : ℕ) → p x ≡ q x) → all_below n p ≡ all_below n q
-all_below-by zero p q h = refl
-all_below-by (suc n) p q h = ap (λ b. b && p n) (all_below-by n p q h) ∙ ap (λ b. all_below n q && b) (h n)
-
-any_below-by : (n : ℕ) (p q : ℕ → Bool) → ((x : ℕ) → p x ≡ q x) → any_below n p ≡ any_below n q
-any_below-by zero p q h = refl
-any_below-by (suc n) p q h = ap (λ b. b || p n) (any_below-by n p q h) ∙ ap (λ b. any_below n q || b) (h n)
-
 not-all_below : (n : ℕ) (p q : ℕ → Bool) → ((x : ℕ) → p x ≡ not (q x)) → any_below n p ≡ not (all_below n q)
 not-all_below zero p q h = refl
 not-all_below (suc n) p q h = ap (λ b. b || p n) (not-all_below n p q h) ∙ ap (λ b. not (all_below n q) || b) (h n) ∙ sym (not-and (all_below n q) (q n))
@@ -185,9 +177,9 @@ module _ (s : Reading) where
         let e4 = keeps-truth false q env in
         let e5 = other (truth s p env) (truth s q env) in
         cc (e1, e2, e3, e4, e5)
-    keeps-truth true (for_all k p) env = all_below-by (s.size k) _ _ (λ x. keeps-truth true p (x ∷ env))
+    keeps-truth true (for_all k p) env = all_below-same (s.size k) _ _ (λ x. keeps-truth true p (x ∷ env))
     keeps-truth false (for_all k p) env = not-all_below (s.size k) _ _ (λ x. keeps-truth false p (x ∷ env))
-    keeps-truth true (for_some k p) env = any_below-by (s.size k) _ _ (λ x. keeps-truth true p (x ∷ env))
+    keeps-truth true (for_some k p) env = any_below-same (s.size k) _ _ (λ x. keeps-truth true p (x ∷ env))
     keeps-truth false (for_some k p) env = not-any_below (s.size k) _ _ (λ x. keeps-truth false p (x ∷ env))
 
     all-keep : (ps : FormTrees) (env : List ℕ) → all_true s (normal_forms true ps) env ≡ all_true s ps env

@@ -1,5 +1,5 @@
 -- How the fragments lie in one another.
-use Rattle.std.specs.Prelude.{Bool, true, false, ◌↔◌}
+use Rattle.std.specs.Prelude.{Bool, ◌↔◌}
 use Rattle.fol_formula.specs.Syntax.{FormTree, negation}
 use Rattle.fol_formula.specs.Fragments.{IsUniversal, IsExistsForall, IsQuantifierFree, HasPlainTerms, IsEa, IsAe, IsPlainUniversal, IsNormal}
 

@@ -9,3 +9,4 @@ pub mod NormalForms
 pub mod Inclusions
 pub mod Deciding
 pub mod Agree
+pub mod Closed

@@ -1,7 +1,7 @@
 -- The normal form of a formula, in which negations stand at atoms alone, and the fragments as it shows them.
 use Rattle.std.specs.Prelude.{Bool, true, false, not, ◌↔◌, ◌≡◌, List, ℕ}
 use Rattle.fol_sig.specs.Tables.{Reading}
-use Rattle.fol_formula.specs.Syntax.{FormTree, FormTrees, TermTree, TermTrees, top, bottom, rel, equal, negation, conjunction, disjunction, implication, equivalence, for_all, for_some, no_forms, form_then}
+use Rattle.fol_formula.specs.Syntax.{FormTree, FormTrees, top, bottom, rel, equal, negation, conjunction, disjunction, implication, equivalence, for_all, for_some, no_forms, form_then}
 use Rattle.fol_formula.specs.Truth.{truth}
 use Rattle.fol_formula.specs.Fragments.{IsUniversal, IsExistsForall}
 

@@ -1,6 +1,6 @@
 // What holds of every formula. Each function is its contract, and does nothing.
 ghost use Rattle.fol_formula.specs.Agree.{TruthAgrees, ValuesAgree, ValuesAreInRange};
-ghost use Rattle.fol_formula.specs.Fits.{FitsIsBound, FitsIsBoundTerm};
+ghost use Rattle.fol_formula.specs.Closed.{FitsIsBound, FitsIsBoundTerm, TruthReadsNoMore, ValueReadsNoMore, FitsUnderMore, FitsUnderMoreTerm};
 ghost use Rattle.fol_formula.specs.NormalForms.{UniversalByNormalForm, ExistsForallByNormalForm, NormalFormKeepsTruth};
 ghost use Rattle.fol_formula.specs.Inclusions.{NegationExchanges, UniversalIsEa, NormalIsEa, QuantifierFreeIsUniversal};
 
@@ -12,10 +12,14 @@ pub fn agreement()
     ensures in_range { ValuesAreInRange }
 {}
 
-/// What fits under a list of sorts has no index beyond that list.
-pub fn boundness()
-    ensures formulas { FitsIsBound }
-    ensures terms { FitsIsBoundTerm }
+/// A formula reads no element beyond those of its indices, and what fits has an index for each.
+pub fn indices()
+    ensures bound { FitsIsBound }
+    ensures bound_terms { FitsIsBoundTerm }
+    ensures truth { TruthReadsNoMore }
+    ensures values { ValueReadsNoMore }
+    ensures fits { FitsUnderMore }
+    ensures fits_terms { FitsUnderMoreTerm }
 {}
 
 /// The fragments by polarity are those of the normal form, which keeps truth.
