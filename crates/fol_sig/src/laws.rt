@@ -1,6 +1,7 @@
 // What follows from the definitions alone.
 ghost use Rattle.std.specs.Prelude.{ℕ, List, Bool, ◌<◌, length};
 ghost use Rattle.fol_sig.specs.Tables.{Tables, IsStructure, InRange, function_at, fun_at, size_at};
+ghost use Rattle.fol_sig.specs.Strata.{OrderHasNoCycle, FirstCycleIsOne};
 ghost use Rattle.fol_sig.specs.Updates.{UpdatesRelation, UpdatesFunction};
 
 /// An updated symbol has the new value at each tuple, each other symbol is as before, and the updated
@@ -13,4 +14,11 @@ pub fn update_laws()
 /// What a function gives is an element of its sort.
 pub fn value_law()
     ensures { (s : Tables) (f : ℕ) (xs : List ℕ) → IsStructure s → f < length s.functions → InRange s.sizes (function_at s f).sorts xs → fun_at s f xs < size_at s (function_at s f).into }
+{}
+
+/// Where there are strata no function stands on a cycle, and at most one function is the first that
+/// closes one.
+pub fn strata_laws()
+    ensures acyclic { OrderHasNoCycle }
+    ensures one { FirstCycleIsOne }
 {}

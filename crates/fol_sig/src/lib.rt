@@ -7,12 +7,16 @@
 #![tactic(auto)]
 
 mod laws;
+mod order;
+mod passes;
 mod signature;
 mod sorts;
 mod structure;
 mod table;
 
-pub use laws::{update_laws, value_law};
+pub use laws::{strata_laws, update_laws, value_law};
+pub use order::{Cycle, Strata};
+pub use passes::strata;
 pub use signature::Signature;
 pub use sorts::Sorts;
 pub use structure::Structure;
@@ -28,3 +32,6 @@ pub struct RelId(pub u32);
 /// A function, by its place in the signature. A function without arguments is a variable.
 #[derive(Clone, Copy, PartialEq, Eq, Debug)]
 pub struct FunId(pub u32);
+
+#[cfg(test)]
+mod tests;

@@ -1,9 +1,11 @@
 // What a signature declares.
-ghost use Rattle.std.specs.Prelude.{◌≡◌, ◌<◌, ◌≤◌, length};
-ghost use Rattle.fol_sig.specs.Tables.{IsSignature, numbers};
+ghost use Rattle.std.specs.Prelude.{◌≡◌, ◌<◌, ◌≤◌, ◌+◌, ◌^◌, [], ◌∷◌, ◌++◌, length, IfOk, OnOk, OnErr};
+ghost use Rattle.fol_sig.specs.Tables.{IsSignature, AreSorts, numbers};
 ghost use Rattle.fol_sig.specs.Symbols.{symbols, AreSorted};
 
 use crate::{FunId, RelId, Sort, Sorts};
+use rml_row::Mem;
+use std::alloc::Global;
 use std::marker::Model;
 
 /// The sorts, relations and functions of a model.
@@ -35,6 +37,64 @@ impl Signature {
             relations,
             functions,
         }
+    }
+
+    /// The signature without sorts, to which `add_sort`, `add_relation` and `add_function` add.
+    pub fn empty(alloc: Global) -> Signature
+        ensures { result ≡ record { sorts = 0; relations = []; functions = [] } }
+    {
+        Signature {
+            sorts: 0,
+            relations: Vec::new(alloc),
+            functions: Vec::new(alloc),
+        }
+    }
+
+    pub fn copy(&self, alloc: Global) -> Mem<Signature>
+        ensures { IfOk result (λ s. s ≡ self.now) }
+    {
+        Ok(Signature {
+            sorts: self.sorts,
+            relations: copy_relations(alloc, &self.relations)?,
+            functions: copy_functions(alloc, &self.functions)?,
+        })
+    }
+
+    pub fn add_sort(&mut self) -> Sort
+        requires { self.old.sorts + 1 < 2 ^ 32 }
+        ensures sort { result.0 ≡ self.old.sorts }
+        ensures added { self.new ≡ record self.old { sorts = self.old.sorts + 1 } }
+    {
+        let sort = Sort(self.sorts);
+        self.sorts += 1;
+        sort
+    }
+
+    /// The signature is as before where the memory is wanting.
+    pub fn add_relation(&mut self, sorts: Sorts) -> Mem<RelId>
+        requires known { AreSorts self.old.sorts sorts }
+        requires few { length self.old.relations + 1 < 2 ^ 32 }
+        ensures id { IfOk result (λ r. r.0 ≡ length self.old.relations) }
+        ensures added { OnOk result (self.new ≡ record self.old { relations = self.old.relations ++ sorts ∷ [] }) }
+        ensures kept { OnErr result (self.new ≡ self.old) }
+    {
+        let id = RelId(self.relations.len() as u32);
+        self.relations.push(sorts)?;
+        Ok(id)
+    }
+
+    /// The signature is as before where the memory is wanting.
+    pub fn add_function(&mut self, from: Sorts, into: Sort) -> Mem<FunId>
+        requires known { AreSorts self.old.sorts from }
+        requires into_known { into.0 < self.old.sorts }
+        requires few { length self.old.functions + 1 < 2 ^ 32 }
+        ensures id { IfOk result (λ f. f.0 ≡ length self.old.functions) }
+        ensures added { OnOk result (self.new ≡ record self.old { functions = self.old.functions ++ (from, into) ∷ [] }) }
+        ensures kept { OnErr result (self.new ≡ self.old) }
+    {
+        let id = FunId(self.functions.len() as u32);
+        self.functions.push((from, into))?;
+        Ok(id)
     }
 
     /// How many sorts there are.
@@ -97,4 +157,24 @@ impl Signature {
     {
         &self.functions
     }
+}
+
+fn copy_relations(alloc: Global, relations: &[Sorts]) -> Mem<Vec<Sorts>>
+    ensures { IfOk result (λ all. all.items ≡ relations.now) }
+{
+    let mut all = Vec::new(alloc);
+    for sorts in relations {
+        all.push(sorts.copy())?;
+    }
+    Ok(all)
+}
+
+fn copy_functions(alloc: Global, functions: &[(Sorts, Sort)]) -> Mem<Vec<(Sorts, Sort)>>
+    ensures { IfOk result (λ all. all.items ≡ functions.now) }
+{
+    let mut all = Vec::new(alloc);
+    for (from, into) in functions {
+        all.push((from.copy(), *into))?;
+    }
+    Ok(all)
 }

@@ -1,0 +1,12 @@
+pub mod Some
+pub mod PathLaw
+pub mod Following
+pub mod ListLaw
+pub mod Structures
+pub mod Updates
+pub mod Values
+pub mod Induction
+pub mod GoalList
+pub mod EachPath
+pub mod Counting
+pub mod Loops

@@ -1,0 +1,9 @@
+use Rattle.rml_command.proofs.Following.{following_law}
+use Rattle.rml_command.proofs.PathLaw.{path_aborts, path_ends}
+use Rattle.rml_command.proofs.laws.path_law.Goals as goal
+
+pub returns-clause-followed : goal.returns-clause-followed
+returns-clause-followed c = following_law
+
+pub returns-clause-kind : goal.returns-clause-kind
+returns-clause-kind c = record { aborts = path_aborts; ends = path_ends }

@@ -1,0 +1,5 @@
+use Rattle.rml_command.proofs.Induction.{induction}
+use Rattle.rml_command.proofs.laws.run_law.Goals as goal
+
+pub returns : goal.returns
+returns c = induction c.update_law.ensures

@@ -1,0 +1,14 @@
+pub mod Trees
+pub mod Lists
+pub mod View
+pub mod Outcomes
+pub mod Paths
+pub mod Counts
+pub mod Models
+pub mod Fragment
+pub mod Runs
+pub mod Goals
+pub mod Code
+pub mod ModelCode
+pub mod Parts
+pub mod Laws

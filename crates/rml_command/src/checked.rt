@@ -1,0 +1,93 @@
+// A model in the fragment, with the paths of its blocks.
+ghost use Rattle.std.specs.Prelude.{◌≡◌, map};
+ghost use Rattle.std.specs.List.{AllByRecursion};
+ghost use Rattle.fol_sig.specs.Symbols.{symbols};
+ghost use Rattle.rml_command.specs.Paths.{paths_of};
+ghost use Rattle.rml_command.specs.Models.{EachBlock, FitsPath};
+ghost use Rattle.rml_command.specs.Fragment.{IsInFragment, IsInModelFragment, HasFewPaths, IsChecked};
+ghost use Rattle.rml_command.specs.Goals.{stage_paths, goal_path, IsGoal};
+
+use crate::goal::{Goal, Stage};
+use crate::laws::goal_law;
+use crate::model::Model;
+use crate::path::Path;
+use rml_row::Row;
+
+/// A model in the fragment, with the paths of its blocks.
+#[derive(Drop)]
+pub struct Checked {
+    model: Model,
+    init: Row<Path>,
+    actions: Row<Row<Path>>,
+    last: Row<Path>,
+}
+
+impl std::marker::Model for Checked {
+    ghost use Rattle.std.specs.Prelude.{◌≡◌, map};
+    ghost use Rattle.rml_command.specs.Models.{ModelTree};
+    ghost use Rattle.rml_command.specs.ModelCode.{model_code};
+
+    ghost Value = { ModelTree };
+
+    ghost coded = { model_code };
+
+    ghost use Rattle.rml_command.specs.Paths.{paths_of};
+    ghost use Rattle.rml_command.specs.Fragment.{IsChecked};
+
+    ghost view = { λ c. c.model };
+
+    ghost invariant = { λ c. IsChecked c.model × (c.init ≡ paths_of c.model.init) × (c.actions ≡ map paths_of c.model.actions) × (c.last ≡ paths_of c.model.last) };
+}
+
+impl Checked {
+    pub fn new(model: Model, init: Row<Path>, actions: Row<Row<Path>>, last: Row<Path>) -> Checked
+        requires fragment { IsInModelFragment model }
+        requires few { EachBlock HasFewPaths model }
+        requires init { init ≡ paths_of model.init }
+        requires actions { actions ≡ map paths_of model.actions }
+        requires last { last ≡ paths_of model.last }
+        ensures { result ≡ model }
+    {
+        let _ = model.signature();
+        Checked {
+            model,
+            init,
+            actions,
+            last,
+        }
+    }
+
+    pub fn model(&self) -> &Model
+        ensures value { result.now ≡ self.now }
+        ensures checked { IsChecked self.now }
+    {
+        &self.model
+    }
+
+    /// The paths of a stage's block, in order. An action that the model lacks has none.
+    pub fn stage_paths(&self, stage: Stage) -> &[Path]
+        ensures paths { result.now ≡ stage_paths self.now stage }
+        ensures checked { IsChecked self.now }
+    {
+        match stage {
+            Stage::Init => self.init.as_slice(),
+            Stage::Action(action) => match self.actions.as_slice().get(action as usize) {
+                Some(paths) => paths.as_slice(),
+                None => &[],
+            },
+            Stage::Final => self.last.as_slice(),
+        }
+    }
+
+    /// The path of a goal of this model.
+    pub fn path(&self, goal: &Goal) -> &Path
+        requires { IsGoal self.now goal.now }
+        ensures path { goal_path self.now goal.now ≡ Some result.now }
+        ensures fits { FitsPath (symbols self.now.signature) result.now }
+        ensures fragment { AllByRecursion IsInFragment result.now }
+    {
+        goal_law();
+        let paths = self.stage_paths(goal.stage);
+        &paths[goal.path as usize - 1]
+    }
+}

@@ -1,0 +1,48 @@
+// Primitives, and the commands that are made of them.
+ghost use Rattle.std.specs.Prelude.{◌≡◌, IfOk};
+ghost use Rattle.rml_command.specs.View.{primitive};
+ghost use Rattle.rml_command.specs.Paths.{is_abort};
+
+use fol_formula::{Formula, Sentence, Term};
+use fol_sig::{FunId, RelId};
+use rml_row::Mem;
+use std::alloc::Global;
+
+/// One step of a block. The right side of an update has the symbol's parameters as its free indices,
+/// the last one as 0.
+#[derive(Drop)]
+pub enum Primitive {
+    Assume(Sentence),
+    SetRel(RelId, Formula),
+    SetFun(FunId, Term),
+    Havoc(FunId),
+    Abort,
+}
+
+/// A block. `Seq` without parts is `skip`, and `Choose` has at least one branch.
+#[derive(Drop)]
+pub enum Command {
+    Prim(Primitive),
+    Seq(Vec<Command>),
+    Choose(Vec<Command>),
+}
+
+impl Primitive {
+    pub fn is_abort(&self) -> bool
+        ensures { result ≡ is_abort (primitive self.now) }
+    {
+        matches!(self, Primitive::Abort)
+    }
+
+    pub fn copy(&self, alloc: Global) -> Mem<Primitive>
+        ensures { IfOk result (λ q. primitive q ≡ primitive self.now) }
+    {
+        Ok(match self {
+            Primitive::Assume(sentence) => Primitive::Assume(sentence.copy(alloc)?),
+            Primitive::SetRel(rel, by) => Primitive::SetRel(*rel, by.copy(alloc)?),
+            Primitive::SetFun(fun, by) => Primitive::SetFun(*fun, by.copy(alloc)?),
+            Primitive::Havoc(fun) => Primitive::Havoc(*fun),
+            Primitive::Abort => Primitive::Abort,
+        })
+    }
+}

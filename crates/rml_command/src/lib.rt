@@ -1,0 +1,26 @@
+//! The meaning of a protocol: what a block may do from a structure, its paths, what a run is, when a
+//! model is safe, what a goal is and what refutes it. The definitions stand in `specs`.
+#![tactic(auto)]
+
+mod checked;
+mod command;
+mod goal;
+mod laws;
+mod listing;
+mod model;
+mod names;
+mod path;
+mod places;
+
+pub use checked::Checked;
+pub use command::{Command, Primitive};
+pub use goal::{About, Goal, Stage};
+pub use laws::{block_law, goal_law, list_law, path_law, run_law, update_law, value_law};
+pub use listing::{MAX_PATHS, TooManyPaths, paths};
+pub use model::{Model, Parts};
+pub use names::{Name, Names};
+pub use path::Path;
+pub use places::{Condition, Places, Word};
+
+#[cfg(test)]
+mod tests;

@@ -1,0 +1,17 @@
+// The names that a model's text gives.
+use rml_row::Row;
+
+/// The bytes of a name.
+pub type Name = Row<u8>;
+
+/// The names of what a model declares, each list in the order of the file.
+#[derive(Drop)]
+pub struct Names {
+    pub sorts: Row<Name>,
+    pub relations: Row<Name>,
+    /// Functions and variables, in one list.
+    pub functions: Row<Name>,
+    pub axioms: Row<Name>,
+    pub conjectures: Row<Name>,
+    pub actions: Row<Name>,
+}

@@ -1,0 +1,78 @@
+-- Where the names and the nodes of a tree stand.
+use Rattle.std.specs.Prelude.{ℕ, ◌≤◌, List, Option, Some, None}
+use Rattle.std.specs.List.{AllByRecursion}
+use Rattle.rml_syntax.specs.declared.tree.Name.{Name}
+use Rattle.rml_syntax.specs.declared.tree.Binder.{Binder}
+use Rattle.rml_syntax.specs.Tree.{ExprTree, ExprTrees, True, False, Apply, Ite, Equal, Not, And, Or, Implies, Iff, Quantified, no_expr, and_expr, CommandTree, Block, Blocks, Skip, Abort, Assume, Assert, If, Choose, Insert, Remove, Put, Assign, no_command, and_command, no_block, and_block, ItemTree, Sort, Relation, Function, Variable, Axiom, Conjecture, Init, Action, Final}
+
+-- a name's bytes are among n
+abbrev pub NameWithin : ℕ → Name → Type 0
+NameWithin n name = (name.start ≤ name.end) × (name.end ≤ n)
+
+abbrev pub NamesWithin : ℕ → List Name → Type 0
+NamesWithin n names = AllByRecursion (NameWithin n) names
+
+abbrev pub BinderWithin : ℕ → Binder → Type 0
+BinderWithin n b = NameWithin n b.name × NameWithin n b.sort
+
+-- the names of an expression are among n bytes, and its nodes stand there
+abbrev mutual
+  pub ExprWithin : ℕ → ExprTree → Type 0
+  ExprWithin n (True at) = at ≤ n
+  ExprWithin n (False at) = at ≤ n
+  ExprWithin n (Apply name args) = NameWithin n name × ExprsWithin n args
+  ExprWithin n (Ite at c a b) = (at ≤ n) × ExprWithin n c × ExprWithin n a × ExprWithin n b
+  ExprWithin n (Equal at a b) = (at ≤ n) × ExprWithin n a × ExprWithin n b
+  ExprWithin n (Not at a) = (at ≤ n) × ExprWithin n a
+  ExprWithin n (And at args) = (at ≤ n) × ExprsWithin n args
+  ExprWithin n (Or at args) = (at ≤ n) × ExprsWithin n args
+  ExprWithin n (Implies at a b) = (at ≤ n) × ExprWithin n a × ExprWithin n b
+  ExprWithin n (Iff at a b) = (at ≤ n) × ExprWithin n a × ExprWithin n b
+  ExprWithin n (Quantified q at b a) = (at ≤ n) × BinderWithin n b × ExprWithin n a
+
+  pub ExprsWithin : ℕ → ExprTrees → Type 0
+  ExprsWithin n no_expr = Unit {0}
+  ExprsWithin n (and_expr e es) = ExprWithin n e × ExprsWithin n es
+
+abbrev pub ValueWithin : ℕ → Option ExprTree → Type 0
+ValueWithin n None = Unit {0}
+ValueWithin n (Some e) = ExprWithin n e
+
+-- the same of a command
+abbrev mutual
+  pub CommandWithin : ℕ → CommandTree → Type 0
+  CommandWithin n (Skip at) = at ≤ n
+  CommandWithin n (Abort at) = at ≤ n
+  CommandWithin n (Assume at e) = (at ≤ n) × ExprWithin n e
+  CommandWithin n (Assert at e) = (at ≤ n) × ExprWithin n e
+  CommandWithin n (If at e a b) = (at ≤ n) × ExprWithin n e × BlockWithin n a × BlockWithin n b
+  CommandWithin n (Choose at bs) = (at ≤ n) × BlocksWithin n bs
+  CommandWithin n (Insert at name args) = (at ≤ n) × NameWithin n name × ExprsWithin n args
+  CommandWithin n (Remove at name args) = (at ≤ n) × NameWithin n name × ExprsWithin n args
+  CommandWithin n (Put at name args e) = (at ≤ n) × NameWithin n name × ExprsWithin n args × ExprWithin n e
+  CommandWithin n (Assign name parameters value) = NameWithin n name × NamesWithin n parameters × ValueWithin n value
+
+  pub BlockWithin : ℕ → Block → Type 0
+  BlockWithin n no_command = Unit {0}
+  BlockWithin n (and_command c cs) = CommandWithin n c × BlockWithin n cs
+
+  pub BlocksWithin : ℕ → Blocks → Type 0
+  BlocksWithin n no_block = Unit {0}
+  BlocksWithin n (and_block b bs) = BlockWithin n b × BlocksWithin n bs
+
+abbrev pub CommandsWithin : ℕ → List CommandTree → Type 0
+CommandsWithin n cs = AllByRecursion (CommandWithin n) cs
+
+abbrev pub ItemWithin : ℕ → ItemTree → Type 0
+ItemWithin n (Sort name) = NameWithin n name
+ItemWithin n (Relation name sorts) = NameWithin n name × NamesWithin n sorts
+ItemWithin n (Function name sorts sort) = NameWithin n name × NamesWithin n sorts × NameWithin n sort
+ItemWithin n (Variable name sort) = NameWithin n name × NameWithin n sort
+ItemWithin n (Axiom name e) = NameWithin n name × ExprWithin n e
+ItemWithin n (Conjecture name e) = NameWithin n name × ExprWithin n e
+ItemWithin n (Init at cs) = (at ≤ n) × CommandsWithin n cs
+ItemWithin n (Action name cs) = NameWithin n name × CommandsWithin n cs
+ItemWithin n (Final at cs) = (at ≤ n) × CommandsWithin n cs
+
+abbrev pub TreeWithin : ℕ → List ItemTree → Type 0
+TreeWithin n items = AllByRecursion (ItemWithin n) items

@@ -1,0 +1,82 @@
+//! What stands in front.
+ghost use Rattle.std.specs.Prelude.{◌≡◌, false, [], ◌∷◌, MatchOption, ◌==◌};
+ghost use Rattle.rml_syntax.specs.Language.{place_of};
+ghost use Rattle.rml_syntax.specs.Reading.{number, Gives, Follows, begins, lexeme_at, name_at};
+
+use crate::tree::Name;
+use rml_lex::{Kind, Token};
+use rml_row::Refused;
+
+/// Why the reading stopped, with the tokens from there on.
+#[derive(Clone, Copy, Debug)]
+pub enum Stop<'a> {
+    /// No file goes on with this token.
+    Unexpected(&'a [Token]),
+    /// This token opens one level too many.
+    TooDeep(&'a [Token]),
+}
+
+/// A value, and the tokens behind what spells it.
+pub type Read<'a, T> = Result<(T, &'a [Token]), Refused<Stop<'a>>>;
+
+// Whether the kinds are one: `==`, by cases.
+fn is_one_kind(a: Kind, b: Kind) -> bool
+    ensures { result ≡ (number a == number b) }
+{
+    match (a, b) {
+        (Kind::Name, Kind::Name) | (Kind::Number, Kind::Number) => true,
+        (Kind::Word(v), Kind::Word(w)) => v == w,
+        (Kind::Sign(s), Kind::Sign(t)) => s == t,
+        _ => false,
+    }
+}
+
+/// The tokens behind one of this kind, where it comes first.
+pub fn behind(kind: Kind, tokens: &[Token]) -> Option<&[Token]>
+    ensures { MatchOption result (begins (kind ∷ []) tokens.now ≡ false) (λ rest. Follows kind tokens.now rest.now) }
+{
+    match tokens {
+        [] => None,
+        [token, rest @ ..] => {
+            if is_one_kind(kind, token.kind) {
+                Some(rest)
+            } else {
+                None
+            }
+        }
+    }
+}
+
+/// The token of this kind that is due.
+pub fn lexeme(kind: Kind, tokens: &[Token]) -> Read<'_, Token>
+    ensures { Gives (λ x. (x.0, x.1.now)) result (lexeme_at kind tokens.now) }
+{
+    match tokens {
+        [] => Err(Refused::For(Stop::Unexpected(tokens))),
+        [token, rest @ ..] => {
+            if is_one_kind(kind, token.kind) {
+                Ok((*token, rest))
+            } else {
+                Err(Refused::For(Stop::Unexpected(tokens)))
+            }
+        }
+    }
+}
+
+/// The name that is due.
+pub fn name(tokens: &[Token]) -> Read<'_, Name>
+    ensures { Gives (λ x. (x.0, x.1.now)) result (name_at tokens.now) }
+{
+    let (token, rest) = lexeme(Kind::Name, tokens)?;
+    Ok((Name::of(&token), rest))
+}
+
+/// The place of the first token.
+pub fn start(tokens: &[Token]) -> u64
+    ensures { result ≡ place_of tokens.now }
+{
+    match tokens {
+        [] => 0,
+        [token, ..] => token.start,
+    }
+}

@@ -1,0 +1,119 @@
+//! Whole texts.
+ghost use Rattle.std.specs.Prelude.{◌≡◌, List, true, false, length, drop, MatchOption, IfOk, IfErr};
+ghost use Rattle.std.specs.List.{AllByRecursion};
+ghost use Rattle.rml_row.specs.Because.{Because};
+ghost use Rattle.rml_lex.specs.Tokens.{EndsBy, StandsBy};
+ghost use Rattle.rml_syntax.specs.Tree.{ItemTree, item_trees, file_tree};
+ghost use Rattle.rml_syntax.specs.Faults.{is_one, IsTree, IsFault, place_at, AnswersTree, AnswersFault};
+ghost use Rattle.rml_syntax.specs.Within.{TreeWithin};
+ghost use Rattle.rml_syntax.specs.Reading.{Gives, all_at, read_at, is_other_format, fault_of};
+
+use crate::front::Stop;
+use crate::items::items;
+use crate::tree::{Item, Tree};
+use rml_lex::{Fault, Kind, Token, Word, word};
+use rml_row::Refused;
+use std::alloc::Global;
+
+// How many levels may open inside one another.
+const MAX_LEVELS: u8 = 100;
+
+// Whether these are the digits of the value 1.
+fn is_one(digits: &[u8]) -> bool
+    ensures { result ≡ is_one digits.now }
+{
+    let mut rest = digits;
+    while let [digit, after @ ..] = rest {
+        if *digit != b'0' {
+            return *digit == b'1' && after.is_empty();
+        }
+        rest = after;
+    }
+    false
+}
+
+// The tokens from the number on, where `rml` and a number that is not 1 come first.
+fn other_format<'a>(text: &[u8], tokens: &'a [Token]) -> Option<&'a [Token]>
+    requires { AllByRecursion (EndsBy (length text.now)) tokens.now }
+    ensures { MatchOption result (is_other_format text.now tokens.now ≡ false) (λ rest. (is_other_format text.now tokens.now ≡ true) × (rest.now ≡ drop 1 tokens.now)) }
+{
+    let [rml, rest @ ..] = tokens else {
+        return None;
+    };
+    let [number, ..] = rest else {
+        return None;
+    };
+    let is_one = is_one(word(text, number));
+    if rml.kind == Kind::Word(Word::Rml) && number.kind == Kind::Number && !is_one {
+        Some(rest)
+    } else {
+        None
+    }
+}
+
+// All of the tokens, whatever the number behind `rml`.
+#[tactic(auto, unfolding(crate::specs::Reading::all_at))]
+fn all<'a>(alloc: Global, levels: u8, tokens: &'a [Token]) -> Result<Vec<Item>, Refused<Stop<'a>>>
+    ensures { Gives (λ x. item_trees x.items) result (all_at levels tokens.now) }
+{
+    let (tree, rest) = items(alloc, levels, tokens)?;
+    match rest {
+        [] => Ok(tree),
+        _ => Err(Refused::For(Stop::Unexpected(rest))),
+    }
+}
+
+fn read<'a>(alloc: Global, text: &[u8], tokens: &'a [Token]) -> Result<Vec<Item>, Refused<Stop<'a>>>
+    requires { AllByRecursion (EndsBy (length text.now)) tokens.now }
+    ensures { Gives (λ x. item_trees x.items) result (read_at text.now tokens.now) }
+{
+    if let Some(number) = other_format(text, tokens) {
+        return Err(Refused::For(Stop::Unexpected(number)));
+    }
+    all(alloc, MAX_LEVELS, tokens)
+}
+
+// Where the first of these tokens stands; behind the last one the text ends.
+fn place_at(text: &[u8], rest: &[Token]) -> u64
+    ensures { result ≡ place_at text.now rest.now }
+{
+    match rest {
+        [] => text.len() as u64,
+        [token, ..] => token.start,
+    }
+}
+
+fn fault_of(text: &[u8], stop: Stop) -> Fault
+    ensures { result ≡ fault_of text.now stop.entry }
+{
+    match stop {
+        Stop::Unexpected(rest) => Fault {
+            code: 4,
+            at: place_at(text, rest),
+        },
+        Stop::TooDeep(rest) => Fault {
+            code: 5,
+            at: place_at(text, rest),
+        },
+    }
+}
+
+/// The tree of a text's tokens, or their first fault: an unexpected token (4), or one that opens a
+/// level inside 100 others (5).
+pub fn parse(alloc: Global, text: &[u8], tokens: &[Token]) -> Result<Tree, Refused<Fault>>
+    requires { AllByRecursion (EndsBy (length text.now)) tokens.now }
+    ensures tree { IfOk result (λ tree. IsTree text.now tokens.now (file_tree tree)) }
+    ensures fault { IfErr result (Because (IsFault text.now tokens.now)) }
+    // the names and the nodes stand in the text
+    ensures within { IfOk result (λ tree. TreeWithin (length text.now) (file_tree tree)) }
+    // the tree, and the fault, is answered where there is one, unless memory runs out
+    ensures found { (tree : List ItemTree) → IsTree text.now tokens.now tree → AnswersTree result tree }
+    ensures refused { (fault : Fault) → IsFault text.now tokens.now fault → AnswersFault result fault }
+    ensures place { IfErr result (Because (StandsBy (length text.now))) }
+{
+    match read(alloc, text, tokens) {
+        Ok(items) => Ok(Tree { items }),
+        Err(Refused::For(stop)) => Err(Refused::For(fault_of(text, stop))),
+        Err(Refused::NoMemory) => Err(Refused::NoMemory),
+    }
+}
