@@ -1,5 +1,5 @@
 -- A replaced symbol and a changed structure give a formula one truth.
-use Rattle.std.proofs.Common.{◌≡◌, ℕ, ◌<◌, Bool, true, false, ◌==◌, cond, List, [], ◌∷◌, length, get_or, refl, sym, ap, ◌∙◌, subst, arith}
+use Rattle.std.proofs.Common.{◌≡◌, ℕ, ◌<◌, Bool, true, false, ◌==◌, cond, List, get_or, refl, sym, ap, ◌∙◌, subst}
 use Rattle.std.specs.Prelude.{reverse}
 use Rattle.std.proofs.lemmas.Bool.{eqb-true, eqb-false}
 use Rattle.fol_sig.specs.Tables.{Tables, InRange, reading, relation_at, function_at, rel_at, fun_at, size_at}
@@ -9,7 +9,6 @@ use Rattle.fol_sig.proofs.Updates.{updates_relation, updates_function}
 use Rattle.fol_sig.proofs.Places.{fun_at-within, InRange-at}
 use Rattle.fol_formula.specs.Syntax.{FormTree, TermTree}
 use Rattle.fol_formula.specs.Truth.{truth, value}
-use Rattle.fol_formula.specs.Fits.{FitsForm}
 use Rattle.fol_formula.specs.Agree.{Agree}
 use Rattle.fol_formula.proofs.AgreeTruth.{truth_agrees, value-within}
 use Rattle.fol_subst.specs.Replace.{Change, change_rel, change_fun, change_const, with_rel, with_fun, updated, CanChange, IsReplaced}

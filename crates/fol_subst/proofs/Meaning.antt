@@ -4,7 +4,7 @@ use Rattle.fol_sig.specs.Symbols.{Symbols}
 use Rattle.fol_formula.specs.Syntax.{FormTree}
 use Rattle.fol_formula.specs.Fits.{FitsForm}
 use Rattle.fol_subst.specs.Replace.{Change, CanChange, changed_form, IsReplaced}
-use Rattle.fol_subst.specs.Outcome.{KeepsMeaning, ReplacementKeepsMeaning}
+use Rattle.fol_subst.specs.Outcome.{ReplacementKeepsMeaning}
 use Rattle.fol_subst.proofs.ReplaceTruth.{fits_ready, truth-changed}
 use Rattle.fol_subst.proofs.Fitting.{changed-fits}
 use Rattle.fol_subst.proofs.InStructures.{in_structures}

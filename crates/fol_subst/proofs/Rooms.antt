@@ -1,5 +1,5 @@
 -- The room that the building of a result needs, from its limits, and for each argument that it keeps.
-use Rattle.std.proofs.Common.{◌≡◌, ℕ, zero, suc, ◌+◌, ◌-◌, ◌<◌, ◌≤◌, ◌^◌, Bool, true, false, ◌==◌, ◌||◌, nat_lt, cond, max, List, [], ◌∷◌, ◌++◌, length, get_or, drop, map, refl, sym, ap, ◌∙◌, subst, ⊎_elim, ◌⊎◌, arith, inl, inr, length-append, length-drop}
+use Rattle.std.proofs.Common.{◌≡◌, ℕ, zero, suc, ◌+◌, ◌-◌, ◌<◌, ◌≤◌, ◌^◌, Bool, true, false, ◌==◌, ◌||◌, nat_lt, cond, max, List, [], ◌∷◌, ◌++◌, length, get_or, drop, map, refl, sym, ap, ◌∙◌, subst, ⊎_elim, ◌⊎◌, arith, inl, inr, length-drop}
 use Rattle.std.specs.Prelude.{reverse}
 use Rattle.std.proofs.lemmas.Bool.{cases_lt, eqb-true, eq-eqb, ne_eqb}
 use Rattle.std.proofs.lemmas.Bool.Decides.{nat_tests}
@@ -12,7 +12,7 @@ use Rattle.fol_formula.specs.Counts.{form_nodes, form_depth, forms_depth, term_d
 use Rattle.fol_formula.proofs.Lists.{list_of-terms}
 use Rattle.fol_formula.proofs.Loops.{terms-drop, terms_then-push}
 use Rattle.fol_subst.specs.Shift.{raised, shift_form, shift_forms, shift_term, shift_terms}
-use Rattle.fol_subst.specs.Replace.{picked, put_form, put_forms, put_term, put_terms, Change, change_rel, change_fun, change_const, rel_instance, app_instance, changed_form, changed_terms, changed_term}
+use Rattle.fol_subst.specs.Replace.{picked, put_form, put_forms, put_term, put_terms, Change, change_rel, change_fun, rel_instance, app_instance, changed_form, changed_terms, changed_term}
 use Rattle.fol_subst.specs.Limits.{is_too_large, IndicesFit, IndicesFitAll, IndicesFitTerm, IndicesFitTerms}
 use Rattle.fol_subst.specs.Room.{RoomForm, RoomForms, RoomTerm, RoomTerms, size_of, ReadyTerm, ReadyTerms, RelReady, AppReady}
 use Rattle.fol_subst.specs.Extents.{places_of, put_in, extent_term, extent_instance}

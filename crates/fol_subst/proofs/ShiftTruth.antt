@@ -1,10 +1,10 @@
 -- Shifting keeps truth when elements are put into the list.
-use Rattle.std.proofs.Common.{◌≡◌, ℕ, zero, suc, ◌+◌, ◌-◌, ◌<◌, ◌≤◌, Bool, not, ◌&&◌, ◌||◌, List, ◌∷◌, ◌++◌, length, get_or, refl, sym, ap, ◌∙◌, ⊎_elim, arith}
+use Rattle.std.proofs.Common.{◌≡◌, ℕ, ◌+◌, ◌-◌, ◌<◌, ◌≤◌, not, List, ◌∷◌, ◌++◌, length, get_or, refl, sym, ap, ◌∙◌, ⊎_elim, arith}
 use Rattle.std.proofs.lemmas.Bool.{cases_lt, lt-ltb, le-ltb}
 use Rattle.std.proofs.lemmas.List.{get_or_append_left, get_or-append-add}
 use Rattle.fol_sig.specs.Tables.{Reading}
 use Rattle.fol_formula.specs.Syntax.{FormTree, FormTrees, TermTree, TermTrees, top, bottom, rel, equal, negation, conjunction, disjunction, implication, equivalence, for_all, for_some, no_forms, form_then, bound, app, ite, no_terms, term_then}
-use Rattle.fol_formula.specs.Truth.{all_below, any_below, truth, all_true, any_true, value, values}
+use Rattle.fol_formula.specs.Truth.{truth, all_true, any_true, value, values}
 use Rattle.fol_formula.proofs.Quantified.{all_below-same, any_below-same}
 use Rattle.fol_subst.specs.Shift.{raised, shift_form, shift_forms, shift_term, shift_terms}
 

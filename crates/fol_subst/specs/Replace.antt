@@ -1,5 +1,5 @@
 -- A relation is replaced by a formula, a function by a term, or a variable by an index, without capture.
-use Rattle.std.specs.Prelude.{◌≡◌, ℕ, suc, ◌+◌, ◌-◌, ◌<◌, nat_lt, ◌==◌, if◌then◌else◌, Bool, List, [], ◌∷◌, length, slice_index, slice_index_or, reverse}
+use Rattle.std.specs.Prelude.{◌≡◌, ℕ, suc, ◌+◌, ◌-◌, ◌<◌, nat_lt, ◌==◌, if◌then◌else◌, Bool, List, [], length, slice_index, slice_index_or, reverse}
 use Rattle.fol_sig.specs.Tables.{Reading}
 use Rattle.fol_sig.specs.Symbols.{Symbols}
 use Rattle.fol_formula.specs.Truth.{truth, value}

@@ -3,11 +3,9 @@ use Rattle.fol_formula.specs.View.{form}
 use Rattle.fol_formula.specs.Truth.{truth}
 use Rattle.fol_formula.specs.Fits.{FitsForm}
 use Rattle.fol_formula.specs.Counts.{form_nodes, form_depth}
-use Rattle.fol_formula.specs.Syntax.{FormTree}
 use Rattle.fol_subst.specs.Shift.{shift_form}
 use Rattle.fol_subst.specs.Limits.{is_too_large}
 use Rattle.fol_subst.specs.Extents.{extent}
-use Rattle.fol_subst.specs.declared.extent.Extent.{Extent}
 use Rattle.fol_subst.proofs.ShiftTruth.{truth-shifted}
 use Rattle.fol_subst.proofs.Fitting.{shifted-fits}
 use Rattle.fol_subst.proofs.Sizes.{nodes-shift, depth-shift}

@@ -1,7 +1,7 @@
-use Rattle.std.proofs.Common.{refl, subst, ap, sym, ◌∙◌, ◌-◌, arith, rules}
+use Rattle.std.proofs.Common.{refl, subst, ap, ◌∙◌, ◌-◌, arith, rules}
 use Rattle.fol_formula.specs.View.{form, term, terms}
 use Rattle.fol_formula.proofs.Loops.{forms-drop, terms-drop, forms_then-more, terms_then-more}
-use Rattle.fol_subst.specs.Replace.{changed_form, changed_forms, changed_term, changed_terms, rel_instance, app_instance}
+use Rattle.fol_subst.specs.Replace.{changed_form, changed_forms, changed_term, changed_terms}
 use Rattle.fol_subst.specs.Room.{ReadyForms, ReadyTerms, RoomForms, RoomTerms}
 use Rattle.fol_subst.specs.Changes.{change_of}
 use Rattle.fol_subst.proofs.Rooms.{size_of-terms, args-drop, turn-ready, turn-room, kept-more, kept_room-atom, kept_room-application, built-atom, built-application}

@@ -1,7 +1,6 @@
 use Rattle.fol_formula.specs.View.{form, forms, terms}
-use Rattle.fol_subst.specs.Extents.{places_forms, places_terms}
-use Rattle.fol_subst.proofs.Counting.{places-next, beside-none, none-beside, places_forms-small, places_terms-small}
-use Rattle.std.proofs.Common.{◌∙◌, arith, sym}
+use Rattle.fol_subst.proofs.Counting.{places-next, none-beside, places_forms-small, places_terms-small}
+use Rattle.std.proofs.Common.{◌∙◌, arith}
 use Rattle.fol_subst.proofs.places.+places.Goals as goal
 
 pub places_inside-returns-clause-places : goal.places_inside-returns-clause-places

@@ -1,4 +1,3 @@
-use Rattle.std.proofs.Common.{arith, subst, sym}
 use Rattle.fol_formula.specs.View.{form}
 use Rattle.fol_subst.proofs.Samples.{raised}
 use Rattle.fol_subst.proofs.tests.indices_are_raised.Goals as goal

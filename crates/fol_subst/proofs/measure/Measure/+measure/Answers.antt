@@ -1,4 +1,4 @@
-use Rattle.std.proofs.Common.{◌∙◌, ◌-◌, arith, sym, refl, rules}
+use Rattle.std.proofs.Common.{◌-◌, arith, refl}
 use Rattle.fol_formula.specs.View.{forms, terms}
 use Rattle.fol_subst.specs.Changes.{change_of}
 use Rattle.fol_subst.proofs.Counting.{none-beside, extent_forms-small, extent_terms-small}
