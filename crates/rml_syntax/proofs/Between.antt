@@ -1,18 +1,16 @@
 -- A loop over items with signs between them.
-use Rattle.std.proofs.Common.{◌≡◌, ℕ, zero, suc, ◌+◌, ◌<◌, ◌≤◌, Bool, true, false, cond, List, [], ◌∷◌, ◌++◌, map, length, Option, Some, None, Result, Ok, Err, refl, sym, ap, subst, ◌∙◌, append_assoc, arith}
-use Rattle.std.specs.Global.{Vec}
-use Rattle.std.proofs.lemmas.List.{append-nil, length-append}
+use Rattle.std.proofs.Common.{◌≡◌, ℕ, zero, suc, ◌<◌, ◌≤◌, true, false, List, [], ◌∷◌, ◌++◌, map, length, Ok, Err, refl, sym, ap, subst, ◌∙◌, append_assoc, arith}
+use Rattle.std.proofs.lemmas.List.{append-nil}
 use Rattle.rml_lex.specs.declared.token.Kind.{Kind}
 use Rattle.rml_lex.specs.declared.token.Token.{Token}
 use Rattle.rml_syntax.specs.declared.front.Stop.{Stop}
 use Rattle.rml_syntax.specs.declared.front.Stop.TheVariants as stops
 use Rattle.rml_row.specs.declared.refused.Refused.{Refused}
 use Rattle.rml_row.specs.declared.refused.Refused.TheVariants as refused
-use Rattle.rml_syntax.specs.Language.{Tokens, Phrase}
+use Rattle.rml_syntax.specs.Language.{Tokens}
 use Rattle.rml_syntax.specs.declared.tree.Name.{Name}
 use Rattle.rml_syntax.specs.Tree.{CommandTree}
-use Rattle.rml_syntax.specs.Reading.{number, begins, Follows, Unexpected, TooDeep, Failure, Read, Reader, ◌>>=◌, fails, lexeme_at, name_at, made_at, listed_for, listed_at, Stops, inners, block_at, cmd_at, cmds_at, cmd_starts}
-use Rattle.rml_syntax.proofs.Exact.{begins-nil, lexeme_exact}
+use Rattle.rml_syntax.specs.Reading.{begins, Follows, Unexpected, TooDeep, Failure, Read, Reader, ◌>>=◌, name_at, made_at, listed_for, listed_at, Stops, inners, block_at, cmd_at}
 use Rattle.rml_syntax.proofs.Listed.{item_last, item_fails, no_item, lexeme_begins, lexeme_taken}
 use Rattle.rml_syntax.proofs.Loop.{shorter}
 use Rattle.rml_syntax.proofs.Grammar.{deeper, name_good, cmd_good, block_good}

@@ -1,9 +1,9 @@
 -- A reader is exact for a phrase: what it reads is the phrase, what is the phrase it reads, and where it stops the tokens before begin the phrase.
-use Rattle.std.proofs.Common.{◌≡◌, ℕ, zero, suc, ◌+◌, ◌<◌, ◌≤◌, Bool, true, false, cond, ◌||◌, ◌&&◌, ◌⊎◌, inl, inr, List, [], ◌∷◌, ◌++◌, length, get_or, Option, Some, None, Result, Ok, Err, refl, sym, ap, subst, ◌∙◌, append_assoc, eq-eqb, arith}
+use Rattle.std.proofs.Common.{◌≡◌, ℕ, zero, suc, ◌<◌, ◌≤◌, Bool, true, false, cond, ◌||◌, ◌&&◌, ◌⊎◌, inl, inr, List, [], ◌∷◌, ◌++◌, length, get_or, Option, Some, None, Result, Ok, Err, refl, sym, ap, subst, ◌∙◌, append_assoc, eq-eqb, arith}
 use Rattle.std.proofs.Math.Bool.{or_assoc, or-true}
 use Rattle.std.specs.Prelude.{◌==◌}
 use Rattle.std.proofs.lemmas.Bool.{eqb-true}
-use Rattle.std.proofs.lemmas.List.{append-nil, length-append}
+use Rattle.std.proofs.lemmas.List.{length-append}
 use Rattle.rml_lex.specs.declared.token.Kind.{Kind}
 use Rattle.rml_lex.specs.declared.token.Kind.TheVariants.{Word, Sign}
 use Rattle.rml_lex.specs.declared.token.Kind.TheVariants as kind
@@ -12,7 +12,7 @@ use Rattle.rml_lex.specs.declared.token.Sign.TheVariants.{DoubleArrow, Arrow, Be
 use Rattle.rml_lex.specs.declared.token.Token.{Token}
 use Rattle.rml_syntax.specs.Language.{Tokens, Phrase, lexeme, ◌⊗◌, ◌∣◌, ◌⇒◌, optional, many, placed, place_of}
 use Rattle.rml_syntax.specs.Faults.{Begins}
-use Rattle.rml_syntax.specs.Reading.{number, has, begins, Why, Unexpected, TooDeep, Failure, Read, Reader, ◌>>=◌, fails, lexeme_at, both_at, made_at, either_at, optional_at, times_at, many_at, placed_at, opening_at}
+use Rattle.rml_syntax.specs.Reading.{number, has, begins, Unexpected, TooDeep, Failure, Reader, ◌>>=◌, fails, lexeme_at, both_at, made_at, either_at, optional_at, times_at, many_at, placed_at, opening_at}
 
 -- ---- results
 

@@ -1,13 +1,12 @@
 -- The first token, as the parser's patterns see it.
-use Rattle.std.proofs.Common.{◌≡◌, ℕ, zero, suc, ◌+◌, ◌-◌, ◌<◌, ◌≤◌, Bool, true, false, ◌||◌, List, [], ◌∷◌, length, get_or, take, drop, Result, Ok, Err, refl, sym, ap, subst, ◌∙◌, eq-eqb, arith}
+use Rattle.std.proofs.Common.{◌≡◌, ◌+◌, ◌-◌, ◌≤◌, true, false, [], ◌∷◌, length, get_or, take, drop, Ok, refl, sym, ap, arith}
 use Rattle.std.specs.Prelude.{◌==◌}
-use Rattle.std.proofs.lemmas.Bool.{eqb-true}
 use Rattle.std.proofs.lemmas.Grind.{common_steps}
 use Rattle.rml_lex.specs.declared.token.Kind.{Kind}
 use Rattle.rml_lex.specs.declared.token.Token.{Token}
 use Rattle.rml_syntax.specs.Language.{Tokens}
 use Rattle.rml_syntax.specs.Reading.{number, begins, Follows, Unexpected, fails, lexeme_at}
-use Rattle.rml_syntax.proofs.Exact.{same_kind, same_number}
+use Rattle.rml_syntax.proofs.Exact.{same_kind}
 
 rest_is : (us : Tokens) → take (length us + 1 - 1) us ≡ us
 rest_is us = grind (arith, common_steps)

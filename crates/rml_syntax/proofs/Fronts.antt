@@ -1,15 +1,14 @@
 -- How a piece may begin: a reader stops nowhere inside such tokens, and what it took before a fault is such.
-use Rattle.std.proofs.Common.{◌≡◌, ℕ, zero, suc, ◌+◌, ◌<◌, ◌≤◌, Bool, true, false, cond, ◌⊎◌, inl, inr, List, [], ◌∷◌, ◌++◌, length, Option, Some, None, Result, Ok, Err, refl, sym, ap, subst, ◌∙◌, append_assoc, arith}
-use Rattle.std.specs.Prelude.{◌==◌}
+use Rattle.std.proofs.Common.{◌≡◌, ℕ, zero, suc, ◌≤◌, Bool, true, false, cond, ◌⊎◌, inl, inr, List, [], ◌∷◌, ◌++◌, length, Option, Some, None, Ok, Err, refl, sym, ap, subst, ◌∙◌, append_assoc, arith}
 use Rattle.std.proofs.lemmas.List.{append-nil, length-append, append_cancel_right}
 use Rattle.rml_lex.specs.declared.token.Kind.{Kind}
 use Rattle.rml_lex.specs.declared.token.Token.{Token}
 use Rattle.rml_syntax.specs.Language.{Tokens, Phrase, lexeme, ◌⊗◌, ◌∣◌, ◌⇒◌, optional, many, listed, placed, place_of}
 use Rattle.rml_syntax.specs.Piece.{Piece}
 use Rattle.rml_syntax.specs.Piece as piece
-use Rattle.rml_syntax.specs.Reading.{number, has, begins, Why, Unexpected, TooDeep, Failure, Read, Reader, ◌>>=◌, fails, lexeme_at, both_at, made_at, either_at, optional_at, times_at, many_at, listed_for, listed_at, placed_at, opening_at}
-use Rattle.rml_syntax.proofs.Exact.{bind_ok, bind_err, chosen, ok_is, err_is, begins-append, begins-nil, begins_left, begins_right, begins_so, apart, apart_begins, same_number, Took, Stuck, Exact, lexeme_exact, lexeme_refuses}
-use Rattle.rml_syntax.proofs.Listed.{item_more, item_fails, no_item, starts_with, lexeme_taken, lexeme_begins, behind_item, signed}
+use Rattle.rml_syntax.specs.Reading.{begins, TooDeep, Failure, Read, Reader, ◌>>=◌, fails, lexeme_at, both_at, made_at, either_at, optional_at, times_at, many_at, listed_for, listed_at, placed_at, opening_at}
+use Rattle.rml_syntax.proofs.Exact.{bind_err, chosen, err_is, begins-append, begins-nil, begins_left, begins_right, begins_so, apart, apart_begins, same_number, Took, Exact, lexeme_exact, lexeme_refuses}
+use Rattle.rml_syntax.proofs.Listed.{starts_with, lexeme_taken, lexeme_begins, behind_item, signed}
 
 abbrev pub rest_of : {A : Type 0} → Read A → Tokens
 rest_of (Ok z) = z.1

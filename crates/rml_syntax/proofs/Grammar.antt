@@ -1,21 +1,18 @@
 -- Each production's reader is good: the proof of a production is the production, in the words of Pieces.
-use Rattle.std.proofs.Common.{◌≡◌, ℕ, zero, suc, Bool, true, false, List, [], ◌∷◌, ◌++◌, Option, Some, None, refl}
+use Rattle.std.proofs.Common.{ℕ, zero, suc, true, false, List, [], ◌∷◌, ◌++◌, Option, Some, None, refl}
 use Rattle.rml_lex.specs.declared.token.Kind.{Kind}
 use Rattle.rml_lex.specs.declared.token.Kind.TheVariants.{Word, Sign}
 use Rattle.rml_lex.specs.declared.token.Kind.TheVariants as kind
 use Rattle.rml_lex.specs.declared.token.Word.TheVariants.{Rml, Sort, Relation, Function, Variable, Axiom, Conjecture, Init, Action, Final, Skip, Abort, Assume, Assert, If, Else, Choose, Or, Insert, Remove, Put, Forall, Exists, True, False, Ite}
 use Rattle.rml_lex.specs.declared.token.Sign.TheVariants.{DoubleArrow, Arrow, Becomes, NotEqual, OpenBrace, CloseBrace, OpenParen, CloseParen, Comma, Semicolon, Colon, Dot, Equal, Not as Tilde, And as Ampersand, Or as Bar, Star}
-use Rattle.rml_syntax.specs.declared.tree.Name.{Name}
-use Rattle.rml_syntax.specs.declared.tree.Binder.{Binder}
 use Rattle.rml_syntax.specs.declared.tree.Quantifier.TheVariants as quantifier
-use Rattle.rml_syntax.specs.Language.{Tokens}
-use Rattle.rml_syntax.specs.Piece.{Piece, nothing, lexeme, opens, ◌⊗◌, ◌∣◌, ◌⇒◌, optional, many, listed, placed}
+use Rattle.rml_syntax.specs.Piece.{Piece, nothing, ◌⊗◌, ◌⇒◌}
 use Rattle.rml_syntax.specs.Tree as node
 use Rattle.rml_syntax.specs.Tree.{ExprTree, CommandTree, ItemTree, name_of, or_none, applied, conditional, compared, negated, joined, implied, equivalent, binder_of, quantified, assumed, asserted, branched, choice, inserted, removed, putting, assigned}
 use Rattle.rml_syntax.specs.Grammar as g
 use Rattle.rml_syntax.specs.Grammar.{Inner, between, behind, separated, named, level, no_inner, file}
-use Rattle.rml_syntax.specs.Reading.{Inners, piece, Reader, inners, both_at, made_at, name_at, names_at, named_at, parameters_at, binder_at, enclosed_at, arguments_at, prim_at, comparison_at, cmp_at, unary_at, and_at, or_at, imp_at, iff_at, expr_at, bound_at, exprs_at, three_at, block_at, otherwise_at, value_at, called_at, if_at, put_at, assign_at, cmd_at, cmd_starts, cmds_at, item_at, item_starts, items_at}
-use Rattle.rml_syntax.proofs.Exact.{Some_of, some_lexeme, apart}
+use Rattle.rml_syntax.specs.Reading.{Inners, piece, Reader, inners, name_at, names_at, named_at, parameters_at, binder_at, enclosed_at, arguments_at, prim_at, comparison_at, cmp_at, unary_at, and_at, or_at, imp_at, iff_at, expr_at, bound_at, exprs_at, three_at, block_at, otherwise_at, value_at, called_at, if_at, put_at, assign_at, cmd_at, cmd_starts, cmds_at, item_at, item_starts, items_at}
+use Rattle.rml_syntax.proofs.Exact.{Some_of, some_lexeme}
 use Rattle.rml_syntax.proofs.Pieces.{Good, Inside, IsNothing, a_lexeme, both, made, with_place, either, at_most_once, any_number, a_list, opening, wider, enclosing, leading, separating, some_both, some_made, some_placed, some_left, some_right, no_optional, no_many, no_listed}
 
 -- ---- what a piece begins with, and what it may go on with

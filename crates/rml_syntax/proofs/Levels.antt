@@ -1,12 +1,12 @@
 -- A reader with one level more: it answers the same, but where the first met its limit.
-use Rattle.std.proofs.Common.{◌≡◌, ℕ, zero, suc, Bool, true, false, cond, ◌⊎◌, inl, inr, List, [], ◌∷◌, ◌++◌, length, Option, Some, None, Result, Ok, Err, refl, sym, ap, subst, ◌∙◌, append_assoc, arith}
+use Rattle.std.proofs.Common.{◌≡◌, ℕ, zero, suc, Bool, true, false, cond, ◌⊎◌, inl, inr, List, [], ◌∷◌, ◌++◌, length, Option, Some, None, Result, Ok, Err, refl, sym, ap, ◌∙◌, append_assoc}
 use Rattle.std.proofs.lemmas.List.{append-nil}
 use Rattle.rml_lex.specs.declared.token.Kind.{Kind}
 use Rattle.rml_lex.specs.declared.token.Token.{Token}
 use Rattle.rml_syntax.specs.Language.{Tokens, Phrase, lexeme, ◌⊗◌, ◌∣◌, ◌⇒◌, optional, many, placed, place_of}
 use Rattle.rml_syntax.specs.Faults.{Begins}
-use Rattle.rml_syntax.specs.Reading.{begins, Why, Unexpected, TooDeep, Failure, Read, Reader, ◌>>=◌, fails, lexeme_at, both_at, made_at, either_at, optional_at, times_at, many_at, placed_at, opening_at}
-use Rattle.rml_syntax.proofs.Exact.{bind_ok, bind_err, err_is, chosen, Some_of, Exact, lexeme_exact, lexeme_refuses, Begins-from, same_kind, Took}
+use Rattle.rml_syntax.specs.Reading.{begins, Unexpected, TooDeep, Failure, Read, Reader, ◌>>=◌, fails, lexeme_at, both_at, made_at, either_at, optional_at, times_at, many_at, placed_at, opening_at}
+use Rattle.rml_syntax.proofs.Exact.{bind_err, err_is, chosen, Some_of, Exact, lexeme_exact, lexeme_refuses, Begins-from, same_kind}
 
 abbrev pub Deepens : {A : Type 0} → Result A Failure → Type 0
 Deepens r = (at : Tokens) × (r ≡ fails TooDeep at)

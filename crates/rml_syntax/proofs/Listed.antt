@@ -1,12 +1,11 @@
 -- [a {k a} [k]]
-use Rattle.std.proofs.Common.{◌≡◌, ℕ, zero, suc, ◌+◌, ◌<◌, ◌≤◌, Bool, true, false, cond, ◌⊎◌, inl, inr, List, [], ◌∷◌, ◌++◌, length, Option, Some, None, Result, Ok, Err, refl, sym, ap, subst, ◌∙◌, append_assoc, arith}
-use Rattle.std.proofs.lemmas.List.{append-nil, length-append}
+use Rattle.std.proofs.Common.{◌≡◌, ℕ, zero, suc, ◌<◌, ◌≤◌, true, false, cond, ◌⊎◌, inl, inr, List, [], ◌∷◌, ◌++◌, length, Result, Ok, Err, refl, sym, ap, subst, ◌∙◌, append_assoc, arith}
+use Rattle.std.proofs.lemmas.List.{append-nil}
 use Rattle.rml_lex.specs.declared.token.Kind.{Kind}
 use Rattle.rml_lex.specs.declared.token.Token.{Token}
-use Rattle.rml_syntax.specs.Language.{Tokens, Phrase, lexeme, listed}
-use Rattle.rml_syntax.specs.Faults.{Begins}
-use Rattle.rml_syntax.specs.Reading.{number, has, begins, Why, Unexpected, TooDeep, Failure, Reader, ◌>>=◌, fails, lexeme_at, listed_for, listed_at}
-use Rattle.rml_syntax.proofs.Exact.{bind_ok, bind_err, chosen, ok_is, err_is, head, begins-head, head-append, begins-append, begins-nil, begins_neither, begins_so, apart, apart_begins, Took, Stuck, Some_of, Exact, lexeme_exact, Begins-from, longer_by, same_kind, same_number, head_none, none_left, or_false_left}
+use Rattle.rml_syntax.specs.Language.{Tokens, Phrase, listed}
+use Rattle.rml_syntax.specs.Reading.{begins, TooDeep, Failure, Reader, ◌>>=◌, fails, lexeme_at, listed_for, listed_at}
+use Rattle.rml_syntax.proofs.Exact.{bind_ok, bind_err, chosen, ok_is, head, begins-head, head-append, begins-append, begins-nil, begins_neither, begins_so, apart, apart_begins, Took, Exact, longer_by, same_kind, same_number, head_none, none_left, or_false_left}
 use Rattle.rml_syntax.proofs.Levels.{Extends, Viable, Viable-as, Viable-behind, Opens, Deepens, bind_same, cond_same, Opens-as, Opens-behind}
 
 pub record Starts (k : Kind) (us : Tokens) : Type 0 where

@@ -1,6 +1,6 @@
 -- A loop over what stands behind signs.
-use Rattle.std.proofs.Common.{◌≡◌, ℕ, zero, suc, ◌+◌, ◌<◌, ◌≤◌, Bool, true, false, cond, List, [], ◌∷◌, ◌++◌, length, Option, Some, None, Result, Ok, Err, refl, sym, ap, subst, ◌∙◌, append_assoc, arith}
-use Rattle.std.proofs.lemmas.List.{append-nil, length-append}
+use Rattle.std.proofs.Common.{◌≡◌, ℕ, zero, suc, ◌<◌, ◌≤◌, false, List, [], ◌∷◌, ◌++◌, length, Ok, Err, refl, sym, ap, subst, ◌∙◌, append_assoc, arith}
+use Rattle.std.proofs.lemmas.List.{append-nil}
 use Rattle.rml_lex.specs.declared.token.Kind.{Kind}
 use Rattle.rml_lex.specs.declared.token.Token.{Token}
 use Rattle.rml_syntax.specs.declared.front.Stop.{Stop}
@@ -9,9 +9,8 @@ use Rattle.rml_row.specs.declared.refused.Refused.{Refused}
 use Rattle.rml_row.specs.declared.refused.Refused.TheVariants as refused
 use Rattle.rml_syntax.specs.Language.{Tokens, Phrase}
 use Rattle.rml_syntax.specs.Tree.{ExprTree}
-use Rattle.rml_syntax.specs.Reading.{number, begins, Follows, Unexpected, TooDeep, Failure, Read, Reader, ◌>>=◌, fails, lexeme_at, both_at, made_at, times_at, more_at, Stops, Gives, expr_at, inners, unary_at, and_at}
+use Rattle.rml_syntax.specs.Reading.{begins, Follows, Unexpected, TooDeep, Failure, Read, Reader, ◌>>=◌, lexeme_at, both_at, made_at, times_at, more_at, Stops, expr_at, inners, unary_at, and_at}
 use Rattle.rml_syntax.proofs.Exact.{Exact, same_number, longer_by}
-use Rattle.rml_syntax.proofs.Pieces.{Good}
 use Rattle.rml_syntax.proofs.Grammar.{deeper, expr_good, unary_good, and_good}
 
 -- what is read is taken

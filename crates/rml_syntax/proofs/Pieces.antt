@@ -1,13 +1,12 @@
 -- All that is proved of a reader, for a level and the next: one lemma for each word of the grammar.
-use Rattle.std.proofs.Common.{◌≡◌, ℕ, zero, suc, Bool, true, false, cond, ◌&&◌, ◌⊎◌, inl, inr, List, [], ◌∷◌, ◌++◌, length, Option, Some, None, refl, subst}
+use Rattle.std.proofs.Common.{◌≡◌, Bool, true, false, inl, inr, List, [], ◌∷◌, ◌++◌, Option, Some, None, refl, subst}
 use Rattle.std.proofs.lemmas.List.{append-nil}
 use Rattle.rml_lex.specs.declared.token.Kind.{Kind}
-use Rattle.rml_lex.specs.declared.token.Token.{Token}
 use Rattle.rml_syntax.specs.Language.{Tokens, Phrase, place_of}
 use Rattle.rml_syntax.specs.Language as phrase
 use Rattle.rml_syntax.specs.Piece.{Piece, lexeme, opens, ◌⊗◌, ◌∣◌, ◌⇒◌, optional, many, listed, placed}
 use Rattle.rml_syntax.specs.Grammar.{between, behind, separated}
-use Rattle.rml_syntax.specs.Reading.{Reader, lexeme_at, both_at, made_at, either_at, optional_at, many_at, listed_at, placed_at, opening_at, between_at, behind_at, more_at, separated_at}
+use Rattle.rml_syntax.specs.Reading.{Reader, lexeme_at, both_at, made_at, either_at, optional_at, many_at, listed_at, placed_at, opening_at, between_at, behind_at, separated_at}
 use Rattle.rml_syntax.proofs.Exact.{Some_of, Exact, some_lexeme, lexeme_exact, both_exact, made_exact, either_exact, optional_exact, many_exact, placed_exact, closed_exact, wider_exact, joint, apart, apart-nil, within}
 use Rattle.rml_syntax.proofs.Levels.{Extends, lexeme_extends, both_extends, made_extends, either_extends, optional_extends, many_extends, placed_extends, closed_extends}
 use Rattle.rml_syntax.proofs.Listed.{listed_exact, listed_extends}

@@ -1,15 +1,14 @@
 -- A loop over items with nothing between them.
-use Rattle.std.proofs.Common.{◌≡◌, ℕ, zero, suc, ◌+◌, ◌<◌, ◌≤◌, Bool, true, false, cond, List, [], ◌∷◌, ◌++◌, length, Result, Ok, Err, refl, sym, ap, subst, ◌∙◌, append_assoc, arith}
+use Rattle.std.proofs.Common.{◌≡◌, ℕ, zero, suc, ◌<◌, ◌≤◌, true, false, List, [], ◌∷◌, ◌++◌, length, Ok, Err, refl, sym, ap, ◌∙◌, append_assoc, arith}
 use Rattle.std.proofs.lemmas.List.{append-nil}
 use Rattle.rml_lex.specs.declared.token.Kind.{Kind}
-use Rattle.rml_lex.specs.declared.token.Token.{Token}
 use Rattle.rml_syntax.specs.declared.front.Stop.{Stop}
 use Rattle.rml_syntax.specs.declared.front.Stop.TheVariants as stops
 use Rattle.rml_row.specs.declared.refused.Refused.{Refused}
 use Rattle.rml_row.specs.declared.refused.Refused.TheVariants as refused
 use Rattle.rml_syntax.specs.Language.{Tokens}
 use Rattle.rml_syntax.specs.Tree.{ItemTree}
-use Rattle.rml_syntax.specs.Reading.{begins, Unexpected, TooDeep, Failure, Read, Reader, ◌>>=◌, fails, made_at, times_at, many_at, Stops, inners, item_at}
+use Rattle.rml_syntax.specs.Reading.{begins, Unexpected, TooDeep, Failure, Read, Reader, ◌>>=◌, made_at, times_at, many_at, Stops, inners, item_at}
 use Rattle.rml_syntax.proofs.Exact.{begins-nil}
 use Rattle.rml_syntax.proofs.Loop.{shorter}
 use Rattle.rml_syntax.proofs.Grammar.{deeper, item_good}

@@ -1,12 +1,10 @@
 -- The theorem on a text's tokens: with the number behind `rml`, and one tree or one first fault.
-use Rattle.std.proofs.Common.{◌≡◌, ℕ, zero, suc, ◌+◌, ◌<◌, ◌≤◌, Bool, true, false, cond, ◌⊎◌, inl, inr, List, [], ◌∷◌, ◌++◌, length, drop, Option, Some, None, Result, Ok, Err, refl, sym, ap, subst, ◌∙◌, append_assoc, arith}
-use Rattle.std.specs.Prelude.{◌&&◌, not, ◌==◌}
+use Rattle.std.proofs.Common.{◌≡◌, ℕ, ◌≤◌, Bool, true, false, cond, ◌⊎◌, inl, inr, List, [], ◌∷◌, ◌++◌, length, drop, Result, Ok, Err, refl, sym, ap, subst, ◌∙◌, append_assoc, arith}
+use Rattle.std.specs.Prelude.{◌&&◌, not}
 use Rattle.std.specs.List.{AllByRecursion}
 use Rattle.std.proofs.lemmas.List.{append-nil, append_cancel_left}
-use Rattle.rml_row.specs.declared.refused.Refused.{Refused}
 use Rattle.rml_row.specs.declared.refused.Refused.TheVariants as refused
 use Rattle.rml_lex.specs.declared.token.Token.{Token}
-use Rattle.rml_lex.specs.declared.token.Kind.{Kind}
 use Rattle.rml_lex.specs.declared.token.Kind.TheVariants.{Word, Number}
 use Rattle.rml_lex.specs.declared.token.Word.TheVariants.{Rml}
 use Rattle.rml_lex.specs.declared.token.Fault.{Fault}
@@ -16,14 +14,14 @@ use Rattle.rml_syntax.specs.declared.front.Stop.TheVariants as stops
 use Rattle.rml_syntax.specs.Language.{Tokens}
 use Rattle.rml_syntax.specs.Tree.{ItemTree}
 use Rattle.rml_syntax.specs.Grammar.{file, max_levels}
-use Rattle.rml_syntax.specs.Faults.{is_one, IsFormat1, IsTree, Begins, BeginsFile, IsFile, IsUnexpected, IsTooDeep, place_at, IsFault}
-use Rattle.rml_syntax.specs.Reading.{number, Why, Unexpected, TooDeep, Failure, fails, inners, items_at, all_at, is_other_format, read_at, failure_of, fault_of, Stops}
+use Rattle.rml_syntax.specs.Faults.{is_one, IsFormat1, IsTree, Begins, BeginsFile, IsUnexpected, IsTooDeep, place_at, IsFault}
+use Rattle.rml_syntax.specs.Reading.{Why, Unexpected, TooDeep, Failure, fails, items_at, all_at, is_other_format, read_at, failure_of, fault_of, Stops}
 use Rattle.rml_syntax.proofs.Exact.{chosen, ok_is, err_is, same_kind, same_number}
 use Rattle.rml_syntax.proofs.Fronts.{cut}
 use Rattle.rml_syntax.proofs.Grammar.{file_good}
 use Rattle.rml_syntax.specs.Within.{TreeWithin}
 use Rattle.rml_syntax.proofs.Within.{tree_within}
-use Rattle.rml_syntax.proofs.Whole.{all_found, all_only, unexpected, deep, StopsAt, IsRefused, OpensTooMany}
+use Rattle.rml_syntax.proofs.Whole.{all_found, all_only, unexpected, deep, IsRefused, OpensTooMany}
 
 -- ---- the format
 

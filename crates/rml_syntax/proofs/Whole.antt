@@ -1,16 +1,15 @@
 -- The theorem on whole lists of tokens, whatever the number behind `rml`.
-use Rattle.std.proofs.Common.{◌≡◌, ℕ, zero, suc, ◌+◌, ◌<◌, ◌≤◌, Bool, true, false, cond, ◌⊎◌, inl, inr, List, [], ◌∷◌, ◌++◌, length, Option, Some, None, Result, Ok, Err, refl, sym, ap, subst, ◌∙◌, append_assoc, arith}
-use Rattle.std.proofs.lemmas.List.{append-nil, append_cancel_right, append_cancel_left}
+use Rattle.std.proofs.Common.{◌≡◌, ℕ, zero, suc, ◌+◌, ◌≤◌, true, false, cond, ◌⊎◌, inl, inr, List, [], ◌∷◌, ◌++◌, length, Result, Ok, Err, refl, sym, ap, subst, ◌∙◌, append_assoc, arith}
+use Rattle.std.proofs.lemmas.List.{append-nil, append_cancel_right}
 use Rattle.rml_lex.specs.declared.token.Token.{Token}
 use Rattle.rml_syntax.specs.Language.{Tokens}
 use Rattle.rml_syntax.specs.Tree.{ItemTree}
 use Rattle.rml_syntax.specs.Grammar.{file}
 use Rattle.rml_syntax.specs.Faults.{Begins, BeginsFile, IsFile}
-use Rattle.rml_syntax.specs.Reading.{Why, Unexpected, TooDeep, Failure, ◌>>=◌, fails, inners, items_at, is_end, all_at}
-use Rattle.rml_syntax.proofs.Exact.{bind_ok, bind_err, chosen, ok_is, err_is, head, Some_of, Took, Stuck, Exact, Begins-from}
-use Rattle.rml_syntax.proofs.Levels.{Extends, Viable, Opens, Deepens, not_deep, bind_same}
-use Rattle.rml_syntax.proofs.Fronts.{Fronts, rest_of, IsClosed}
-use Rattle.rml_syntax.proofs.Pieces.{Good}
+use Rattle.rml_syntax.specs.Reading.{Unexpected, TooDeep, Failure, fails, inners, items_at, is_end, all_at}
+use Rattle.rml_syntax.proofs.Exact.{bind_ok, bind_err, chosen, ok_is, err_is, head, Begins-from}
+use Rattle.rml_syntax.proofs.Levels.{Deepens, not_deep, bind_same}
+use Rattle.rml_syntax.proofs.Fronts.{rest_of}
 use Rattle.rml_syntax.proofs.Grammar.{file_good}
 
 -- with the next token these begin no file

@@ -1,12 +1,11 @@
 -- The names and nodes of a tree stand where its tokens do.
-use Rattle.std.proofs.Common.{◌≡◌, ℕ, zero, suc, ◌+◌, ◌≤◌, Bool, true, false, ◌⊎◌, inl, inr, List, [], ◌∷◌, ◌++◌, Option, Some, None, refl, sym, ap, subst, ◌∙◌, arith}
+use Rattle.std.proofs.Common.{◌≡◌, ℕ, zero, suc, ◌≤◌, Bool, true, false, inl, inr, List, [], ◌∷◌, ◌++◌, Option, Some, None, sym, subst, arith}
 use Rattle.std.specs.List.{AllByRecursion}
 use Rattle.rml_lex.specs.declared.token.Token.{Token}
 use Rattle.rml_lex.specs.declared.token.Kind.{Kind}
 use Rattle.rml_lex.specs.declared.token.Kind.TheVariants.{Word, Sign}
 use Rattle.rml_lex.specs.declared.token.Kind.TheVariants as kind
 use Rattle.rml_lex.specs.Tokens.{EndsBy}
-use Rattle.rml_syntax.specs.declared.tree.Name.{Name}
 use Rattle.rml_syntax.specs.declared.tree.Binder.{Binder}
 use Rattle.rml_syntax.specs.declared.tree.Quantifier.{Quantifier}
 use Rattle.rml_syntax.specs.Language.{Tokens, place_of}
@@ -74,11 +73,13 @@ module _ (n : ℕ) where
       each : (ts : Tokens) (xs : List A) → phrase.listed k a.whole ts xs → AllByRecursion (EndsBy n) ts → AllByRecursion W xs
       each ts [] h all = tt
       each ts (x ∷ xs) h all =
-          let s = cut_parts n ts h.0 h.1 h.2 all in
-          (P.keeps h.0 x h.3 s.0, elim h.4 [
-            | inl last ↦ subst (AllByRecursion W) (sym last.1) tt
-            | inr more ↦ each more.1 xs more.4 (subst (AllByRecursion (EndsBy n)) more.2 s.1).1
-          ])
+          let s = cut_parts n ts h.0 h.1 h.2 all in (
+            P.keeps h.0 x h.3 s.0,
+            elim h.4 [
+              | inl last ↦ subst (AllByRecursion W) (sym last.1) tt
+              | inr more ↦ each more.1 xs more.4 (subst (AllByRecursion (EndsBy n)) more.2 s.1).1
+            ],
+          )
 
   place_within : (ts : Tokens) → AllByRecursion (EndsBy n) ts → place_of ts ≤ n
   place_within [] all = omega arith

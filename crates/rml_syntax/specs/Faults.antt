@@ -2,7 +2,6 @@
 use Rattle.std.specs.Prelude.{◌≡◌, ◌==◌, ◌&&◌, Bool, true, false, ℕ, List, [], ◌∷◌, ◌++◌, ◌⊎◌, length, Result, Ok, Err, if◌then◌else◌}
 use Rattle.rml_row.specs.declared.refused.Refused.{Refused}
 use Rattle.rml_row.specs.declared.refused.Refused.TheVariants.{For, NoMemory}
-use Rattle.rml_lex.specs.declared.token.Token.{Token}
 use Rattle.rml_lex.specs.declared.token.Kind.TheVariants.{Word, Number}
 use Rattle.rml_lex.specs.declared.token.Word.TheVariants.{Rml}
 use Rattle.rml_lex.specs.declared.token.Fault.{Fault}

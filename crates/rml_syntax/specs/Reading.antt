@@ -1,6 +1,7 @@
 -- Reading from left to right, with the first fault that is met: what the functions of the parser give, one reader
 -- for each word and each production of the grammar. No public contract cites it.
 use Rattle.std.specs.Prelude.{◌≡◌, ℕ, ◌+◌, zero, suc, Bool, true, false, ◌||◌, ◌&&◌, not, ◌==◌, cond, List, [], ◌∷◌, length, drop, Option, Some, None, Result, Ok, Err}
+use Rattle.std.specs.Borrow.{Bor}
 use Rattle.rml_row.specs.declared.refused.Refused.{Refused}
 use Rattle.rml_row.specs.declared.refused.Refused.TheVariants as refused
 use Rattle.rml_lex.specs.declared.token.Token.{Token}
@@ -359,6 +360,10 @@ Stops refused.NoMemory read = Unit {0}
 abbrev pub Gives : {X Y : Type 0} → (X → Y) → Result X (Refused Stop) → Result Y Failure → Type 0
 Gives view (Ok x) read = read ≡ Ok (view x)
 Gives view (Err e) read = Stops e read
+
+-- the same of a value and the tokens behind what spells it
+abbrev pub Reads : {X Y : Type 0} → (X → Y) → Result (X × Bor Tokens) (Refused Stop) → Reader Y → Tokens → Type 0
+Reads view result read ts = Gives (λ x. (view x.0, x.1.now)) result (read ts)
 
 abbrev pub fault_of : List ℕ → Stop → Fault
 fault_of text (stops.Unexpected rest) = record { code = 4; at = place_at text rest.now }

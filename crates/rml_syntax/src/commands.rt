@@ -2,7 +2,7 @@
 ghost use Rattle.std.specs.Prelude.{◌≡◌, [], ◌∷◌, ◌++◌, option_map, Some, None};
 ghost use Rattle.rml_syntax.specs.Tree as node;
 ghost use Rattle.rml_syntax.specs.Tree.{expr_tree, expr_trees, command_tree, command_trees, block_trees, or_none, branched, choice, inserted, removed, putting, assigned};
-ghost use Rattle.rml_syntax.specs.Reading.{Gives, begins, made_at, both_at, behind_at, more_at, separated_at, inners, name_at, names_at, parameters_at, value_at, called_at, block_at, otherwise_at, if_at, put_at, cmd_starts, cmd_at, cmds_at};
+ghost use Rattle.rml_syntax.specs.Reading.{Reads, begins, made_at, both_at, behind_at, more_at, separated_at, inners, name_at, names_at, parameters_at, value_at, called_at, block_at, otherwise_at, if_at, put_at, cmd_starts, cmd_at, cmds_at};
 
 use crate::front::{Read, Stop, behind, lexeme, name};
 use crate::terms::{arguments, enclosed, expr};
@@ -38,7 +38,8 @@ fn assertion(start: u64, condition: Expr) -> Command
 }
 
 fn conditional(word: Token, condition: Expr, first: Vec<Command>, second: Vec<Command>) -> Command
-    ensures { command_tree result ≡ branched (word, ((expr_tree condition, command_trees first.items), command_trees second.items)) }
+    ensures { command_tree result ≡
+        branched (word, ((expr_tree condition, command_trees first.items), command_trees second.items)) }
 {
     Command::If(word.start, condition, first, second)
 }
@@ -62,13 +63,15 @@ fn removal(word: Token, name: Name, args: Vec<Expr>) -> Command
 }
 
 fn update(word: Token, name: Name, args: Vec<Expr>, value: Expr) -> Command
-    ensures { command_tree result ≡ putting (word, ((name, expr_trees args.items), expr_tree value)) }
+    ensures { command_tree result ≡
+        putting (word, ((name, expr_trees args.items), expr_tree value)) }
 {
     Command::Put(word.start, name, args, value)
 }
 
 fn assignment(name: Name, parameters: Vec<Name>, value: Option<Expr>) -> Command
-    ensures { command_tree result ≡ assigned ((name, parameters.items), option_map expr_tree value) }
+    ensures { command_tree result ≡
+        assigned ((name, parameters.items), option_map expr_tree value) }
 {
     Command::Assign(name, parameters, value)
 }
@@ -76,7 +79,10 @@ fn assignment(name: Name, parameters: Vec<Name>, value: Option<Expr>) -> Command
 // ---- names
 
 fn more_names<'a>(mut all: Vec<Name>, tokens: &'a [Token]) -> Read<'a, Vec<Name>>
-    ensures { Gives (λ x. (x.0.items, x.1.now)) result (made_at (λ xs. all.items ++ xs) (more_at (Kind.Sign Sign.Comma) name_at) tokens.now) }
+    ensures { Reads (λ v. v.items) result
+        (made_at (λ xs. all.items ++ xs)
+        (more_at (Kind.Sign Sign.Comma) name_at))
+        tokens.now }
 {
     let mut rest = tokens;
     while let Some(next) = behind(Kind::Sign(Sign::Comma), rest) {
@@ -90,7 +96,7 @@ fn more_names<'a>(mut all: Vec<Name>, tokens: &'a [Token]) -> Read<'a, Vec<Name>
 /// NAME {"," NAME}
 #[tactic(auto, unfolding(crate::specs::Reading::names_at))]
 pub fn names<'a>(alloc: Global, tokens: &'a [Token]) -> Read<'a, Vec<Name>>
-    ensures { Gives (λ x. (x.0.items, x.1.now)) result (names_at tokens.now) }
+    ensures { Reads (λ v. v.items) result names_at tokens.now }
 {
     let (first, rest) = name(tokens)?;
     let mut all = Vec::new(alloc);
@@ -101,7 +107,7 @@ pub fn names<'a>(alloc: Global, tokens: &'a [Token]) -> Read<'a, Vec<Name>>
 /// ["(" names ")"]
 #[tactic(auto, unfolding(crate::specs::Reading::parameters_at))]
 pub fn parameters<'a>(alloc: Global, levels: u8, tokens: &'a [Token]) -> Read<'a, Vec<Name>>
-    ensures { Gives (λ x. (x.0.items, x.1.now)) result (parameters_at (inners levels) tokens.now) }
+    ensures { Reads (λ v. v.items) result (parameters_at (inners levels)) tokens.now }
 {
     let Some(inside) = behind(Kind::Sign(Sign::OpenParen), tokens) else {
         return Ok((Vec::new(alloc), tokens));
@@ -119,7 +125,7 @@ pub fn parameters<'a>(alloc: Global, levels: u8, tokens: &'a [Token]) -> Read<'a
 // "*" | expr
 #[tactic(auto, unfolding(crate::specs::Reading::value_at))]
 fn value<'a>(alloc: Global, levels: u8, tokens: &'a [Token]) -> Read<'a, Option<Expr>>
-    ensures { Gives (λ x. (option_map expr_tree x.0, x.1.now)) result (value_at (inners levels) tokens.now) }
+    ensures { Reads (option_map expr_tree) result (value_at (inners levels)) tokens.now }
 {
     if let Some(rest) = behind(Kind::Sign(Sign::Star), tokens) {
         return Ok((None, rest));
@@ -129,7 +135,10 @@ fn value<'a>(alloc: Global, levels: u8, tokens: &'a [Token]) -> Read<'a, Option<
 }
 
 fn assigns<'a>(alloc: Global, levels: u8, name: Name, tokens: &'a [Token]) -> Read<'a, Command>
-    ensures { Gives (λ x. (command_tree x.0, x.1.now)) result (made_at (λ v. assigned ((name, v.0), v.1)) (both_at (parameters_at (inners levels)) (behind_at (Kind.Sign Sign.Becomes) (value_at (inners levels)))) tokens.now) }
+    ensures { Reads command_tree result
+        (made_at (λ v. assigned ((name, v.0), v.1))
+        (both_at (parameters_at (inners levels)) (behind_at (Kind.Sign Sign.Becomes) (value_at (inners levels)))))
+        tokens.now }
 {
     let (parameters, rest) = parameters(alloc, levels, tokens)?;
     let (_, rest) = lexeme(Kind::Sign(Sign::Becomes), rest)?;
@@ -138,7 +147,10 @@ fn assigns<'a>(alloc: Global, levels: u8, name: Name, tokens: &'a [Token]) -> Re
 }
 
 fn inserts<'a>(alloc: Global, levels: u8, word: Token, tokens: &'a [Token]) -> Read<'a, Command>
-    ensures { Gives (λ x. (command_tree x.0, x.1.now)) result (made_at (λ v. inserted (word, v)) (called_at (inners levels)) tokens.now) }
+    ensures { Reads command_tree result
+        (made_at (λ v. inserted (word, v))
+        (called_at (inners levels)))
+        tokens.now }
 {
     let (name, rest) = name(tokens)?;
     let (args, rest) = arguments(alloc, levels, rest)?;
@@ -146,7 +158,10 @@ fn inserts<'a>(alloc: Global, levels: u8, word: Token, tokens: &'a [Token]) -> R
 }
 
 fn removes<'a>(alloc: Global, levels: u8, word: Token, tokens: &'a [Token]) -> Read<'a, Command>
-    ensures { Gives (λ x. (command_tree x.0, x.1.now)) result (made_at (λ v. removed (word, v)) (called_at (inners levels)) tokens.now) }
+    ensures { Reads command_tree result
+        (made_at (λ v. removed (word, v))
+        (called_at (inners levels)))
+        tokens.now }
 {
     let (name, rest) = name(tokens)?;
     let (args, rest) = arguments(alloc, levels, rest)?;
@@ -154,7 +169,10 @@ fn removes<'a>(alloc: Global, levels: u8, word: Token, tokens: &'a [Token]) -> R
 }
 
 fn puts<'a>(alloc: Global, levels: u8, word: Token, tokens: &'a [Token]) -> Read<'a, Command>
-    ensures { Gives (λ x. (command_tree x.0, x.1.now)) result (made_at (λ v. putting (word, v)) (put_at (inners levels)) tokens.now) }
+    ensures { Reads command_tree result
+        (made_at (λ v. putting (word, v))
+        (put_at (inners levels)))
+        tokens.now }
 {
     let (name, rest) = name(tokens)?;
     let (args, rest) = enclosed(alloc, levels, rest)?;
@@ -193,7 +211,7 @@ fn begins_cmd(tokens: &[Token]) -> bool
 #[cycle(commands)]
 #[tactic(auto, unfolding(crate::specs::Reading::block_at))]
 pub fn block<'a>(alloc: Global, levels: u8, tokens: &'a [Token]) -> Read<'a, Vec<Command>>
-    ensures { Gives (λ x. (command_trees x.0.items, x.1.now)) result (block_at (inners levels) tokens.now) }
+    ensures { Reads (λ v. command_trees v.items) result (block_at (inners levels)) tokens.now }
 {
     let Some(inside) = behind(Kind::Sign(Sign::OpenBrace), tokens) else {
         return Err(Refused::For(Stop::Unexpected(tokens)));
@@ -210,7 +228,7 @@ pub fn block<'a>(alloc: Global, levels: u8, tokens: &'a [Token]) -> Read<'a, Vec
 #[cycle(commands)]
 #[tactic(auto, unfolding(crate::specs::Reading::otherwise_at))]
 fn otherwise<'a>(alloc: Global, levels: u8, tokens: &'a [Token]) -> Read<'a, Vec<Command>>
-    ensures { Gives (λ x. (command_trees x.0.items, x.1.now)) result (otherwise_at (inners levels) tokens.now) }
+    ensures { Reads (λ v. command_trees v.items) result (otherwise_at (inners levels)) tokens.now }
 {
     match behind(Kind::Word(Word::Else), tokens) {
         Some(rest) => block(alloc, levels, rest),
@@ -220,7 +238,10 @@ fn otherwise<'a>(alloc: Global, levels: u8, tokens: &'a [Token]) -> Read<'a, Vec
 
 #[cycle(commands)]
 fn when<'a>(alloc: Global, levels: u8, word: Token, tokens: &'a [Token]) -> Read<'a, Command>
-    ensures { Gives (λ x. (command_tree x.0, x.1.now)) result (made_at (λ v. branched (word, v)) (if_at (inners levels)) tokens.now) }
+    ensures { Reads command_tree result
+        (made_at (λ v. branched (word, v))
+        (if_at (inners levels)))
+        tokens.now }
 {
     let (condition, rest) = expr(alloc, levels, tokens)?;
     let (first, rest) = block(alloc, levels, rest)?;
@@ -235,7 +256,10 @@ fn more_blocks<'a>(
     mut all: Vec<Vec<Command>>,
     tokens: &'a [Token],
 ) -> Read<'a, Vec<Vec<Command>>>
-    ensures { Gives (λ x. (block_trees x.0.items, x.1.now)) result (made_at (λ xs. block_trees all.items ++ xs) (more_at (Kind.Word Word.Or) (block_at (inners levels))) tokens.now) }
+    ensures { Reads (λ v. block_trees v.items) result
+        (made_at (λ xs. block_trees all.items ++ xs)
+        (more_at (Kind.Word Word.Or) (block_at (inners levels))))
+        tokens.now }
 {
     let mut rest = tokens;
     while let Some(next) = behind(Kind::Word(Word::Or), rest) {
@@ -249,7 +273,7 @@ fn more_blocks<'a>(
 // block {"or" block}
 #[cycle(commands)]
 fn blocks<'a>(alloc: Global, levels: u8, tokens: &'a [Token]) -> Read<'a, Vec<Vec<Command>>>
-    ensures { Gives (λ x. (block_trees x.0.items, x.1.now)) result (separated_at (Kind.Word Word.Or) (block_at (inners levels)) tokens.now) }
+    ensures { Reads (λ v. block_trees v.items) result (separated_at (Kind.Word Word.Or) (block_at (inners levels))) tokens.now }
 {
     let (first, rest) = block(alloc, levels, tokens)?;
     let mut all = Vec::new(alloc);
@@ -260,7 +284,7 @@ fn blocks<'a>(alloc: Global, levels: u8, tokens: &'a [Token]) -> Read<'a, Vec<Ve
 #[cycle(commands)]
 #[tactic(auto, unfolding(crate::specs::Reading::cmd_at))]
 fn cmd<'a>(alloc: Global, levels: u8, tokens: &'a [Token]) -> Read<'a, Command>
-    ensures { Gives (λ x. (command_tree x.0, x.1.now)) result (cmd_at (inners levels) tokens.now) }
+    ensures { Reads command_tree result (cmd_at (inners levels)) tokens.now }
 {
     let [token, rest @ ..] = tokens else {
         return Err(Refused::For(Stop::Unexpected(tokens)));
@@ -292,7 +316,7 @@ fn cmd<'a>(alloc: Global, levels: u8, tokens: &'a [Token]) -> Read<'a, Command>
 // [cmd {";" cmd} [";"]]
 #[cycle(commands)]
 fn cmds<'a>(alloc: Global, levels: u8, tokens: &'a [Token]) -> Read<'a, Vec<Command>>
-    ensures { Gives (λ x. (command_trees x.0.items, x.1.now)) result (cmds_at (inners levels) tokens.now) }
+    ensures { Reads (λ v. command_trees v.items) result (cmds_at (inners levels)) tokens.now }
 {
     let mut all = Vec::new(alloc);
     let mut rest = tokens;

@@ -1,7 +1,7 @@
 //! What stands in front.
 ghost use Rattle.std.specs.Prelude.{◌≡◌, false, [], ◌∷◌, MatchOption, ◌==◌};
 ghost use Rattle.rml_syntax.specs.Language.{place_of};
-ghost use Rattle.rml_syntax.specs.Reading.{number, Gives, Follows, begins, lexeme_at, name_at};
+ghost use Rattle.rml_syntax.specs.Reading.{number, Reads, Follows, begins, lexeme_at, name_at};
 
 use crate::tree::Name;
 use rml_lex::{Kind, Token};
@@ -33,7 +33,9 @@ fn is_one_kind(a: Kind, b: Kind) -> bool
 
 /// The tokens behind one of this kind, where it comes first.
 pub fn behind(kind: Kind, tokens: &[Token]) -> Option<&[Token]>
-    ensures { MatchOption result (begins (kind ∷ []) tokens.now ≡ false) (λ rest. Follows kind tokens.now rest.now) }
+    ensures { MatchOption result
+        (begins (kind ∷ []) tokens.now ≡ false)
+        (λ rest. Follows kind tokens.now rest.now) }
 {
     match tokens {
         [] => None,
@@ -49,7 +51,7 @@ pub fn behind(kind: Kind, tokens: &[Token]) -> Option<&[Token]>
 
 /// The token of this kind that is due.
 pub fn lexeme(kind: Kind, tokens: &[Token]) -> Read<'_, Token>
-    ensures { Gives (λ x. (x.0, x.1.now)) result (lexeme_at kind tokens.now) }
+    ensures { Reads (λ x. x) result (lexeme_at kind) tokens.now }
 {
     match tokens {
         [] => Err(Refused::For(Stop::Unexpected(tokens))),
@@ -65,7 +67,7 @@ pub fn lexeme(kind: Kind, tokens: &[Token]) -> Read<'_, Token>
 
 /// The name that is due.
 pub fn name(tokens: &[Token]) -> Read<'_, Name>
-    ensures { Gives (λ x. (x.0, x.1.now)) result (name_at tokens.now) }
+    ensures { Reads (λ x. x) result name_at tokens.now }
 {
     let (token, rest) = lexeme(Kind::Name, tokens)?;
     Ok((Name::of(&token), rest))

@@ -2,7 +2,7 @@
 ghost use Rattle.std.specs.Prelude.{◌≡◌, [], ◌∷◌, ◌++◌};
 ghost use Rattle.rml_syntax.specs.Tree as node;
 ghost use Rattle.rml_syntax.specs.Tree.{item_tree, item_trees};
-ghost use Rattle.rml_syntax.specs.Reading.{Gives, begins, both_at, made_at, many_at, behind_at, inners, name_at, names_at, named_at, parameters_at, expr_at, block_at, item_at, item_starts, items_at};
+ghost use Rattle.rml_syntax.specs.Reading.{Reads, begins, both_at, made_at, many_at, behind_at, inners, name_at, names_at, named_at, parameters_at, expr_at, block_at, item_at, item_starts, items_at};
 
 use crate::commands::{block, names, parameters};
 use crate::front::{Read, Stop, behind, lexeme, name};
@@ -15,7 +15,10 @@ use std::alloc::Global;
 // ---- what is behind an item's word
 
 fn relation<'a>(alloc: Global, levels: u8, tokens: &'a [Token]) -> Read<'a, Item>
-    ensures { Gives (λ x. (item_tree x.0, x.1.now)) result (made_at (λ v. node.Relation v.0 v.1) (both_at name_at (parameters_at (inners levels))) tokens.now) }
+    ensures { Reads item_tree result
+        (made_at (λ v. node.Relation v.0 v.1)
+        (both_at name_at (parameters_at (inners levels))))
+        tokens.now }
 {
     let (name, rest) = name(tokens)?;
     let (sorts, rest) = parameters(alloc, levels, rest)?;
@@ -23,7 +26,10 @@ fn relation<'a>(alloc: Global, levels: u8, tokens: &'a [Token]) -> Read<'a, Item
 }
 
 fn function<'a>(alloc: Global, tokens: &'a [Token]) -> Read<'a, Item>
-    ensures { Gives (λ x. (item_tree x.0, x.1.now)) result (made_at (λ v. node.Function v.0.0 v.0.1 v.1) (both_at (named_at names_at) (behind_at (Kind.Sign Sign.Arrow) name_at)) tokens.now) }
+    ensures { Reads item_tree result
+        (made_at (λ v. node.Function v.0.0 v.0.1 v.1)
+        (both_at (named_at names_at) (behind_at (Kind.Sign Sign.Arrow) name_at)))
+        tokens.now }
 {
     let (function, rest) = name(tokens)?;
     let (_, rest) = lexeme(Kind::Sign(Sign::Colon), rest)?;
@@ -34,7 +40,7 @@ fn function<'a>(alloc: Global, tokens: &'a [Token]) -> Read<'a, Item>
 }
 
 fn variable<'a>(tokens: &'a [Token]) -> Read<'a, Item>
-    ensures { Gives (λ x. (item_tree x.0, x.1.now)) result (made_at (λ v. node.Variable v.0 v.1) (named_at name_at) tokens.now) }
+    ensures { Reads item_tree result (made_at (λ v. node.Variable v.0 v.1) (named_at name_at)) tokens.now }
 {
     let (variable, rest) = name(tokens)?;
     let (_, rest) = lexeme(Kind::Sign(Sign::Colon), rest)?;
@@ -43,7 +49,10 @@ fn variable<'a>(tokens: &'a [Token]) -> Read<'a, Item>
 }
 
 fn axiom<'a>(alloc: Global, levels: u8, tokens: &'a [Token]) -> Read<'a, Item>
-    ensures { Gives (λ x. (item_tree x.0, x.1.now)) result (made_at (λ v. node.Axiom v.0 v.1) (named_at (expr_at (inners levels))) tokens.now) }
+    ensures { Reads item_tree result
+        (made_at (λ v. node.Axiom v.0 v.1)
+        (named_at (expr_at (inners levels))))
+        tokens.now }
 {
     let (name, rest) = name(tokens)?;
     let (_, rest) = lexeme(Kind::Sign(Sign::Colon), rest)?;
@@ -52,7 +61,10 @@ fn axiom<'a>(alloc: Global, levels: u8, tokens: &'a [Token]) -> Read<'a, Item>
 }
 
 fn conjecture<'a>(alloc: Global, levels: u8, tokens: &'a [Token]) -> Read<'a, Item>
-    ensures { Gives (λ x. (item_tree x.0, x.1.now)) result (made_at (λ v. node.Conjecture v.0 v.1) (named_at (expr_at (inners levels))) tokens.now) }
+    ensures { Reads item_tree result
+        (made_at (λ v. node.Conjecture v.0 v.1)
+        (named_at (expr_at (inners levels))))
+        tokens.now }
 {
     let (name, rest) = name(tokens)?;
     let (_, rest) = lexeme(Kind::Sign(Sign::Colon), rest)?;
@@ -61,7 +73,10 @@ fn conjecture<'a>(alloc: Global, levels: u8, tokens: &'a [Token]) -> Read<'a, It
 }
 
 fn action<'a>(alloc: Global, levels: u8, tokens: &'a [Token]) -> Read<'a, Item>
-    ensures { Gives (λ x. (item_tree x.0, x.1.now)) result (made_at (λ v. node.Action v.0 v.1) (both_at name_at (block_at (inners levels))) tokens.now) }
+    ensures { Reads item_tree result
+        (made_at (λ v. node.Action v.0 v.1)
+        (both_at name_at (block_at (inners levels))))
+        tokens.now }
 {
     let (name, rest) = name(tokens)?;
     let (body, rest) = block(alloc, levels, rest)?;
@@ -72,7 +87,7 @@ fn action<'a>(alloc: Global, levels: u8, tokens: &'a [Token]) -> Read<'a, Item>
 
 #[tactic(auto, unfolding(crate::specs::Reading::item_at))]
 fn item<'a>(alloc: Global, levels: u8, tokens: &'a [Token]) -> Read<'a, Item>
-    ensures { Gives (λ x. (item_tree x.0, x.1.now)) result (item_at (inners levels) tokens.now) }
+    ensures { Reads item_tree result (item_at (inners levels)) tokens.now }
 {
     let [token, rest @ ..] = tokens else {
         return Err(Refused::For(Stop::Unexpected(tokens)));
@@ -124,7 +139,7 @@ fn begins_item(tokens: &[Token]) -> bool
 }
 
 fn all_items<'a>(alloc: Global, levels: u8, tokens: &'a [Token]) -> Read<'a, Vec<Item>>
-    ensures { Gives (λ x. (item_trees x.0.items, x.1.now)) result (many_at item_starts (item_at (inners levels)) tokens.now) }
+    ensures { Reads (λ v. item_trees v.items) result (many_at item_starts (item_at (inners levels))) tokens.now }
 {
     let mut all = Vec::new(alloc);
     let mut rest = tokens;
@@ -139,7 +154,7 @@ fn all_items<'a>(alloc: Global, levels: u8, tokens: &'a [Token]) -> Read<'a, Vec
 /// ["rml" NUMBER] {item}
 #[tactic(auto, unfolding(crate::specs::Reading::items_at))]
 pub fn items<'a>(alloc: Global, levels: u8, tokens: &'a [Token]) -> Read<'a, Vec<Item>>
-    ensures { Gives (λ x. (item_trees x.0.items, x.1.now)) result (items_at (inners levels) tokens.now) }
+    ensures { Reads (λ v. item_trees v.items) result (items_at (inners levels)) tokens.now }
 {
     match behind(Kind::Word(Word::Rml), tokens) {
         Some(rest) => {

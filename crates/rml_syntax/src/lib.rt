@@ -14,4 +14,6 @@ pub use parser::parse;
 pub use tree::{Binder, Command, Expr, Item, Name, Quantifier, Tree};
 
 #[cfg(test)]
+mod examples;
+#[cfg(test)]
 mod tests;

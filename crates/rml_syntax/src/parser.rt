@@ -35,7 +35,9 @@ fn is_one(digits: &[u8]) -> bool
 // The tokens from the number on, where `rml` and a number that is not 1 come first.
 fn other_format<'a>(text: &[u8], tokens: &'a [Token]) -> Option<&'a [Token]>
     requires { AllByRecursion (EndsBy (length text.now)) tokens.now }
-    ensures { MatchOption result (is_other_format text.now tokens.now ≡ false) (λ rest. (is_other_format text.now tokens.now ≡ true) × (rest.now ≡ drop 1 tokens.now)) }
+    ensures { MatchOption result
+        (is_other_format text.now tokens.now ≡ false)
+        (λ rest. (is_other_format text.now tokens.now ≡ true) × (rest.now ≡ drop 1 tokens.now)) }
 {
     let [rml, rest @ ..] = tokens else {
         return None;

@@ -2,7 +2,7 @@
 ghost use Rattle.std.specs.Prelude.{◌≡◌, true, false, Some, [], ◌∷◌, ◌++◌, IfNone, IfSome, IfOk, Ok};
 ghost use Rattle.rml_syntax.specs.Tree as node;
 ghost use Rattle.rml_syntax.specs.Tree.{expr_tree, expr_trees, applied, joined, compared, conditional, nested, implied, equivalent};
-ghost use Rattle.rml_syntax.specs.Reading.{Gives, begins, made_at, both_at, behind_at, between_at, more_at, lexeme_at, piece, inners, arguments_at, enclosed_at, prim_at, comparison_at, cmp_at, unary_at, and_at, or_at, imp_at, iff_at, expr_at, binder_at, body_at, bound_at, exprs_at, three_at};
+ghost use Rattle.rml_syntax.specs.Reading.{Reads, begins, made_at, both_at, behind_at, between_at, more_at, lexeme_at, piece, inners, arguments_at, enclosed_at, prim_at, comparison_at, cmp_at, unary_at, and_at, or_at, imp_at, iff_at, expr_at, binder_at, body_at, bound_at, exprs_at, three_at};
 
 use crate::front::{Read, Stop, behind, lexeme, name, start};
 use crate::tree::{Binder, Expr, Name, Quantifier};
@@ -31,7 +31,8 @@ fn application(name: Name, args: Vec<Expr>) -> Expr
 }
 
 fn choice(alloc: Global, start: u64, condition: Expr, first: Expr, second: Expr) -> Mem<Expr>
-    ensures { IfOk result (λ e. expr_tree e ≡ node.Ite start (expr_tree condition) (expr_tree first) (expr_tree second)) }
+    ensures { IfOk result (λ e. expr_tree e ≡
+        node.Ite start (expr_tree condition) (expr_tree first) (expr_tree second)) }
 {
     let condition = Box::new(alloc, condition)?;
     let first = Box::new(alloc, first)?;
@@ -39,7 +40,8 @@ fn choice(alloc: Global, start: u64, condition: Expr, first: Expr, second: Expr)
 }
 
 fn comparison(alloc: Global, start: u64, left: Expr, is_equal: bool, right: Expr) -> Mem<Expr>
-    ensures { IfOk result (λ e. expr_tree e ≡ compared (start, (expr_tree left, Some (is_equal, expr_tree right)))) }
+    ensures { IfOk result (λ e. expr_tree e ≡
+        compared (start, (expr_tree left, Some (is_equal, expr_tree right)))) }
 {
     let left = Box::new(alloc, left)?;
     let right = Box::new(alloc, right)?;
@@ -79,7 +81,8 @@ fn disjunction(start: u64, mut all: Vec<Expr>) -> Expr
 }
 
 fn implication(alloc: Global, start: u64, left: Expr, right: Expr) -> Mem<Expr>
-    ensures { IfOk result (λ e. expr_tree e ≡ node.Implies start (expr_tree left) (expr_tree right)) }
+    ensures { IfOk result (λ e. expr_tree e ≡
+        node.Implies start (expr_tree left) (expr_tree right)) }
 {
     let left = Box::new(alloc, left)?;
     Ok(Expr::Implies(start, left, Box::new(alloc, right)?))
@@ -99,7 +102,8 @@ fn quantification(
     binder: Binder,
     body: Expr,
 ) -> Mem<Expr>
-    ensures { IfOk result (λ e. expr_tree e ≡ node.Quantified quantifier start binder (expr_tree body)) }
+    ensures { IfOk result (λ e. expr_tree e ≡
+        node.Quantified quantifier start binder (expr_tree body)) }
 {
     let body = Box::new(alloc, body)?;
     Ok(Expr::Quantified(quantifier, start, binder, body))
@@ -127,7 +131,7 @@ fn equality(tokens: &[Token]) -> Option<(bool, &[Token])>
 // NAME ":" NAME
 #[tactic(auto, unfolding(crate::specs::Reading::binder_at))]
 fn binder(tokens: &[Token]) -> Read<'_, Binder>
-    ensures { Gives (λ x. (x.0, x.1.now)) result (binder_at tokens.now) }
+    ensures { Reads (λ x. x) result binder_at tokens.now }
 {
     let (bound, rest) = name(tokens)?;
     let (_, rest) = lexeme(Kind::Sign(Sign::Colon), rest)?;
@@ -137,7 +141,10 @@ fn binder(tokens: &[Token]) -> Read<'_, Binder>
 
 // An expression whose parenthesis is to be closed.
 fn closed(inner: Expr, tokens: &[Token]) -> Read<'_, Expr>
-    ensures { Gives (λ x. (expr_tree x.0, x.1.now)) result (made_at (λ t. expr_tree inner) (lexeme_at (Kind.Sign Sign.CloseParen)) tokens.now) }
+    ensures { Reads expr_tree result
+        (made_at (λ t. expr_tree inner)
+        (lexeme_at (Kind.Sign Sign.CloseParen)))
+        tokens.now }
 {
     let (_, rest) = lexeme(Kind::Sign(Sign::CloseParen), tokens)?;
     Ok((inner, rest))
@@ -150,7 +157,10 @@ fn ite_closed(
     parts: (Expr, Expr, Expr),
     tokens: &[Token],
 ) -> Read<'_, Expr>
-    ensures { Gives (λ x. (expr_tree x.0, x.1.now)) result (made_at (λ t. conditional (word, ((expr_tree parts.0, expr_tree parts.1), expr_tree parts.2))) (lexeme_at (Kind.Sign Sign.CloseParen)) tokens.now) }
+    ensures { Reads expr_tree result
+        (made_at (λ t. conditional (word, ((expr_tree parts.0, expr_tree parts.1), expr_tree parts.2)))
+        (lexeme_at (Kind.Sign Sign.CloseParen)))
+        tokens.now }
 {
     let (_, rest) = lexeme(Kind::Sign(Sign::CloseParen), tokens)?;
     let (condition, first, second) = parts;
@@ -163,7 +173,10 @@ fn ite_closed(
 #[cycle(terms)]
 #[tactic(auto, unfolding(crate::specs::Reading::arguments_at))]
 fn named<'a>(alloc: Global, levels: u8, name: Name, tokens: &'a [Token]) -> Read<'a, Expr>
-    ensures { Gives (λ x. (expr_tree x.0, x.1.now)) result (made_at (λ args. applied (name, args)) (arguments_at (inners levels)) tokens.now) }
+    ensures { Reads expr_tree result
+        (made_at (λ args. applied (name, args))
+        (arguments_at (inners levels)))
+        tokens.now }
 {
     let Some(inside) = behind(Kind::Sign(Sign::OpenParen), tokens) else {
         return Ok((application(name, Vec::new(alloc)), tokens));
@@ -179,7 +192,10 @@ fn named<'a>(alloc: Global, levels: u8, name: Name, tokens: &'a [Token]) -> Read
 // "ite" "(" expr "," expr "," expr ")", behind the word.
 #[cycle(terms)]
 fn ite<'a>(alloc: Global, levels: u8, word: Token, tokens: &'a [Token]) -> Read<'a, Expr>
-    ensures { Gives (λ x. (expr_tree x.0, x.1.now)) result (made_at (λ x. conditional (word, x)) (between_at (Kind.Sign Sign.OpenParen) (piece (λ r. r.three) (inners levels)) (Kind.Sign Sign.CloseParen)) tokens.now) }
+    ensures { Reads expr_tree result
+        (made_at (λ x. conditional (word, x))
+        (between_at (Kind.Sign Sign.OpenParen) (piece (λ r. r.three) (inners levels)) (Kind.Sign Sign.CloseParen)))
+        tokens.now }
 {
     let Some(inside) = behind(Kind::Sign(Sign::OpenParen), tokens) else {
         return Err(Refused::For(Stop::Unexpected(tokens)));
@@ -195,7 +211,7 @@ fn ite<'a>(alloc: Global, levels: u8, word: Token, tokens: &'a [Token]) -> Read<
 #[cycle(terms)]
 #[tactic(auto, unfolding(crate::specs::Reading::three_at))]
 fn three<'a>(alloc: Global, levels: u8, tokens: &'a [Token]) -> Read<'a, (Expr, Expr, Expr)>
-    ensures { Gives (λ x. (((expr_tree x.0.0, expr_tree x.0.1), expr_tree x.0.2), x.1.now)) result (three_at (inners levels) tokens.now) }
+    ensures { Reads (λ x. ((expr_tree x.0, expr_tree x.1), expr_tree x.2)) result (three_at (inners levels)) tokens.now }
 {
     let (first, rest) = expr(alloc, levels, tokens)?;
     let (_, rest) = lexeme(Kind::Sign(Sign::Comma), rest)?;
@@ -208,7 +224,7 @@ fn three<'a>(alloc: Global, levels: u8, tokens: &'a [Token]) -> Read<'a, (Expr, 
 #[cycle(terms)]
 #[tactic(auto, unfolding(crate::specs::Reading::prim_at))]
 fn prim<'a>(alloc: Global, levels: u8, tokens: &'a [Token]) -> Read<'a, Expr>
-    ensures { Gives (λ x. (expr_tree x.0, x.1.now)) result (prim_at (inners levels) tokens.now) }
+    ensures { Reads expr_tree result (prim_at (inners levels)) tokens.now }
 {
     match tokens {
         [] => Err(Refused::For(Stop::Unexpected(tokens))),
@@ -233,7 +249,7 @@ fn prim<'a>(alloc: Global, levels: u8, tokens: &'a [Token]) -> Read<'a, Expr>
 #[cycle(terms)]
 #[tactic(auto, unfolding(crate::specs::Reading::cmp_at, crate::specs::Reading::right_at))]
 fn cmp<'a>(alloc: Global, levels: u8, tokens: &'a [Token]) -> Read<'a, Expr>
-    ensures { Gives (λ x. (expr_tree x.0, x.1.now)) result (cmp_at (inners levels) tokens.now) }
+    ensures { Reads expr_tree result (cmp_at (inners levels)) tokens.now }
 {
     let (left, rest) = prim(alloc, levels, tokens)?;
     let Some((is_equal, behind)) = equality(rest) else {
@@ -248,7 +264,7 @@ fn cmp<'a>(alloc: Global, levels: u8, tokens: &'a [Token]) -> Read<'a, Expr>
 #[cycle(terms)]
 #[tactic(auto, unfolding(crate::specs::Reading::unary_at))]
 fn unary<'a>(alloc: Global, levels: u8, tokens: &'a [Token]) -> Read<'a, Expr>
-    ensures { Gives (λ x. (expr_tree x.0, x.1.now)) result (unary_at (inners levels) tokens.now) }
+    ensures { Reads expr_tree result (unary_at (inners levels)) tokens.now }
 {
     match tokens {
         [token, inside @ ..] if token.kind == Kind::Sign(Sign::Not) => {
@@ -266,7 +282,7 @@ fn unary<'a>(alloc: Global, levels: u8, tokens: &'a [Token]) -> Read<'a, Expr>
 #[cycle(terms)]
 #[tactic(auto, unfolding(crate::specs::Reading::and_at))]
 fn and<'a>(alloc: Global, levels: u8, tokens: &'a [Token]) -> Read<'a, Expr>
-    ensures { Gives (λ x. (expr_tree x.0, x.1.now)) result (and_at (inners levels) tokens.now) }
+    ensures { Reads expr_tree result (and_at (inners levels)) tokens.now }
 {
     let (first, rest) = unary(alloc, levels, tokens)?;
     if behind(Kind::Sign(Sign::And), rest).is_none() {
@@ -285,7 +301,10 @@ fn more_ands<'a>(
     mut all: Vec<Expr>,
     tokens: &'a [Token],
 ) -> Read<'a, Vec<Expr>>
-    ensures { Gives (λ x. (expr_trees x.0.items, x.1.now)) result (made_at (λ xs. expr_trees all.items ++ xs) (more_at (Kind.Sign Sign.And) (unary_at (inners levels))) tokens.now) }
+    ensures { Reads (λ v. expr_trees v.items) result
+        (made_at (λ xs. expr_trees all.items ++ xs)
+        (more_at (Kind.Sign Sign.And) (unary_at (inners levels))))
+        tokens.now }
 {
     let mut rest = tokens;
     while let Some(next) = behind(Kind::Sign(Sign::And), rest) {
@@ -300,7 +319,7 @@ fn more_ands<'a>(
 #[cycle(terms)]
 #[tactic(auto, unfolding(crate::specs::Reading::or_at))]
 fn or<'a>(alloc: Global, levels: u8, tokens: &'a [Token]) -> Read<'a, Expr>
-    ensures { Gives (λ x. (expr_tree x.0, x.1.now)) result (or_at (inners levels) tokens.now) }
+    ensures { Reads expr_tree result (or_at (inners levels)) tokens.now }
 {
     let (first, rest) = and(alloc, levels, tokens)?;
     if behind(Kind::Sign(Sign::Or), rest).is_none() {
@@ -319,7 +338,10 @@ fn more_ors<'a>(
     mut all: Vec<Expr>,
     tokens: &'a [Token],
 ) -> Read<'a, Vec<Expr>>
-    ensures { Gives (λ x. (expr_trees x.0.items, x.1.now)) result (made_at (λ xs. expr_trees all.items ++ xs) (more_at (Kind.Sign Sign.Or) (and_at (inners levels))) tokens.now) }
+    ensures { Reads (λ v. expr_trees v.items) result
+        (made_at (λ xs. expr_trees all.items ++ xs)
+        (more_at (Kind.Sign Sign.Or) (and_at (inners levels))))
+        tokens.now }
 {
     let mut rest = tokens;
     while let Some(next) = behind(Kind::Sign(Sign::Or), rest) {
@@ -334,7 +356,7 @@ fn more_ors<'a>(
 #[cycle(terms)]
 #[tactic(auto, unfolding(crate::specs::Reading::imp_at))]
 fn imp<'a>(alloc: Global, levels: u8, tokens: &'a [Token]) -> Read<'a, Expr>
-    ensures { Gives (λ x. (expr_tree x.0, x.1.now)) result (imp_at (inners levels) tokens.now) }
+    ensures { Reads expr_tree result (imp_at (inners levels)) tokens.now }
 {
     let (left, rest) = or(alloc, levels, tokens)?;
     let Some(inside) = behind(Kind::Sign(Sign::Arrow), rest) else {
@@ -351,7 +373,7 @@ fn imp<'a>(alloc: Global, levels: u8, tokens: &'a [Token]) -> Read<'a, Expr>
 #[cycle(terms)]
 #[tactic(auto, unfolding(crate::specs::Reading::iff_at))]
 fn iff<'a>(alloc: Global, levels: u8, tokens: &'a [Token]) -> Read<'a, Expr>
-    ensures { Gives (λ x. (expr_tree x.0, x.1.now)) result (iff_at (inners levels) tokens.now) }
+    ensures { Reads expr_tree result (iff_at (inners levels)) tokens.now }
 {
     let (left, rest) = imp(alloc, levels, tokens)?;
     let Some(next) = behind(Kind::Sign(Sign::DoubleArrow), rest) else {
@@ -365,7 +387,7 @@ fn iff<'a>(alloc: Global, levels: u8, tokens: &'a [Token]) -> Read<'a, Expr>
 #[cycle(terms)]
 #[tactic(auto, unfolding(crate::specs::Reading::expr_at))]
 pub fn expr<'a>(alloc: Global, levels: u8, tokens: &'a [Token]) -> Read<'a, Expr>
-    ensures { Gives (λ x. (expr_tree x.0, x.1.now)) result (expr_at (inners levels) tokens.now) }
+    ensures { Reads expr_tree result (expr_at (inners levels)) tokens.now }
 {
     let [token, inside @ ..] = tokens else {
         return iff(alloc, levels, tokens);
@@ -391,7 +413,10 @@ fn bound<'a>(
     start: u64,
     tokens: &'a [Token],
 ) -> Read<'a, Expr>
-    ensures { Gives (λ x. (expr_tree x.0, x.1.now)) result (made_at (λ b. nested quantifier start b) (bound_at (inners levels)) tokens.now) }
+    ensures { Reads expr_tree result
+        (made_at (λ b. nested quantifier start b)
+        (bound_at (inners levels)))
+        tokens.now }
 {
     let (binder, rest) = binder(tokens)?;
     let (body, rest) = body(alloc, levels, quantifier, start, rest)?;
@@ -411,7 +436,10 @@ fn body<'a>(
     start: u64,
     tokens: &'a [Token],
 ) -> Read<'a, Expr>
-    ensures { Gives (λ x. (expr_tree x.0, x.1.now)) result (made_at (λ b. nested quantifier start b) (body_at (inners levels)) tokens.now) }
+    ensures { Reads expr_tree result
+        (made_at (λ b. nested quantifier start b)
+        (body_at (inners levels)))
+        tokens.now }
 {
     match tokens {
         [] => Err(Refused::For(Stop::Unexpected(tokens))),
@@ -432,7 +460,7 @@ fn body<'a>(
 #[cycle(terms)]
 #[tactic(auto, unfolding(crate::specs::Reading::exprs_at))]
 fn exprs<'a>(alloc: Global, levels: u8, tokens: &'a [Token]) -> Read<'a, Vec<Expr>>
-    ensures { Gives (λ x. (expr_trees x.0.items, x.1.now)) result (exprs_at (inners levels) tokens.now) }
+    ensures { Reads (λ v. expr_trees v.items) result (exprs_at (inners levels)) tokens.now }
 {
     let (first, rest) = expr(alloc, levels, tokens)?;
     let mut all = Vec::new(alloc);
@@ -447,7 +475,10 @@ fn more_exprs<'a>(
     mut all: Vec<Expr>,
     tokens: &'a [Token],
 ) -> Read<'a, Vec<Expr>>
-    ensures { Gives (λ x. (expr_trees x.0.items, x.1.now)) result (made_at (λ xs. expr_trees all.items ++ xs) (more_at (Kind.Sign Sign.Comma) (expr_at (inners levels))) tokens.now) }
+    ensures { Reads (λ v. expr_trees v.items) result
+        (made_at (λ xs. expr_trees all.items ++ xs)
+        (more_at (Kind.Sign Sign.Comma) (expr_at (inners levels))))
+        tokens.now }
 {
     let mut rest = tokens;
     while let Some(next) = behind(Kind::Sign(Sign::Comma), rest) {
@@ -460,7 +491,7 @@ fn more_exprs<'a>(
 
 /// "(" exprs ")"
 pub fn enclosed<'a>(alloc: Global, levels: u8, tokens: &'a [Token]) -> Read<'a, Vec<Expr>>
-    ensures { Gives (λ x. (expr_trees x.0.items, x.1.now)) result (enclosed_at (inners levels) tokens.now) }
+    ensures { Reads (λ v. expr_trees v.items) result (enclosed_at (inners levels)) tokens.now }
 {
     let Some(inside) = behind(Kind::Sign(Sign::OpenParen), tokens) else {
         return Err(Refused::For(Stop::Unexpected(tokens)));
@@ -476,7 +507,7 @@ pub fn enclosed<'a>(alloc: Global, levels: u8, tokens: &'a [Token]) -> Read<'a, 
 /// ["(" exprs ")"]
 #[tactic(auto, unfolding(crate::specs::Reading::arguments_at))]
 pub fn arguments<'a>(alloc: Global, levels: u8, tokens: &'a [Token]) -> Read<'a, Vec<Expr>>
-    ensures { Gives (λ x. (expr_trees x.0.items, x.1.now)) result (arguments_at (inners levels) tokens.now) }
+    ensures { Reads (λ v. expr_trees v.items) result (arguments_at (inners levels)) tokens.now }
 {
     match behind(Kind::Sign(Sign::OpenParen), tokens) {
         Some(_) => enclosed(alloc, levels, tokens),

@@ -1,5 +1,6 @@
 //! What no clause says: that the grammar is the language's, on its worked rows and a whole model.
 use super::*;
+use crate::examples::EXAMPLES;
 use rml_lex::{lex, place};
 use rml_row::Refused;
 use std::alloc::{AllocError, Global};
@@ -146,6 +147,16 @@ fn levels(rt: HostRuntime) -> Result<(), Fail> {
     ] {
         let text = repeated(alloc, first, count, piece, last)?;
         assert_eq!(rt; answer(alloc, &text)?, want, "at {count}");
+    }
+    Ok(())
+}
+
+#[test]
+fn each_example_has_a_tree(rt: HostRuntime) -> Result<(), Fail> {
+    for (name, count, text) in &EXAMPLES {
+        let tokens = lex(rt.alloc(), text)?;
+        let tree = parse(rt.alloc(), text, &tokens)?;
+        assert_eq!(rt; tree.items.len(), *count, "at {name}");
     }
     Ok(())
 }

@@ -1,9 +1,9 @@
-use Rattle.std.proofs.Common.{◌≡◌, true, false, [], ◌∷◌, ◌++◌, map, length, ap, sym, ◌∙◌, arith}
+use Rattle.std.proofs.Common.{◌≡◌, [], ◌∷◌, ◌++◌, sym, ◌∙◌, arith}
 use Rattle.std.proofs.lemmas.List.{map_push}
 use Rattle.std.proofs.lemmas.Result.{err_from_is_err_and}
 use Rattle.rml_syntax.specs.Tree.{item_tree, item_trees}
 use Rattle.rml_syntax.specs.Reading.{item_at, item_starts, inners}
-use Rattle.rml_syntax.proofs.Runs.{run_begins, run_goes_on, run_ends, run_done, item_shorter}
+use Rattle.rml_syntax.proofs.Runs.{run_goes_on, run_ends, run_done, item_shorter}
 use Rattle.rml_syntax.proofs.items.all_items.Goals as goal
 
 pub loop-alloc-smaller : goal.loop-alloc-smaller

@@ -1,6 +1,4 @@
-use Rattle.std.proofs.Common.{sym, subst}
 use Rattle.rml_syntax.specs.Tree.{item_trees}
-use Rattle.rml_syntax.specs.Faults.{IsFault}
 use Rattle.rml_syntax.proofs.Texts.{reads_tree, stop_fault, one_tree, one_fault, not_both, stands, within_text}
 use Rattle.rml_syntax.proofs.parser.parse.Goals as goal
 

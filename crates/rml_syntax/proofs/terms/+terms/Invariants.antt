@@ -1,4 +1,4 @@
-use Rattle.std.proofs.Common.{◌+◌, ◌*◌, length, map}
+use Rattle.std.proofs.Common.{◌+◌, ◌*◌, length}
 use Rattle.rml_lex.specs.declared.token.Kind.TheVariants.{Sign}
 use Rattle.rml_lex.specs.declared.token.Sign.TheVariants.{Comma, And, Or}
 use Rattle.rml_syntax.specs.Tree.{expr_trees}
