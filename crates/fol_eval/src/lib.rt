@@ -1,0 +1,18 @@
+//! The value of a term and the truth of a formula in a finite structure, by their definition and
+//! without memory.
+#![tactic(auto)]
+
+mod evaluation;
+
+pub use evaluation::{holds, value};
+
+/// The elements that the indices stand for, the nearest binder's first: a chain of borrowed links, so
+/// that a quantifier puts an element in front without memory.
+#[derive(Clone, Copy)]
+pub enum Env<'a> {
+    Empty,
+    Bind { element: u32, outer: &'a Env<'a> },
+}
+
+#[cfg(test)]
+mod tests;

@@ -1,0 +1,6 @@
+mod ShiftTruth
+mod ReplaceTruth
+mod Fitting
+mod Sizes
+mod Counting
+mod Rooms

@@ -1,0 +1,51 @@
+use Rattle.std.proofs.Common.{◌≡◌, false, [], ap, sym, subst, ◌∙◌, arith}
+use Rattle.fol_formula.specs.View.{form}
+use Rattle.fol_formula.specs.Truth.{truth}
+use Rattle.fol_formula.specs.Fits.{FitsForm}
+use Rattle.fol_subst.specs.Replace.{changed_form}
+use Rattle.fol_subst.specs.Limits.{is_too_large}
+use Rattle.fol_subst.specs.Changes.{change_of}
+use Rattle.fol_subst.proofs.ReplaceTruth.{can_ready, can_replace}
+use Rattle.fol_subst.proofs.Fitting.{changed-fits}
+use Rattle.fol_subst.proofs.Counting.{extent-form, over-is-too-large}
+use Rattle.fol_subst.proofs.Rooms.{room-within}
+use Rattle.fol_subst.proofs.replace.Goals as goal
+
+pub formula-requires-clause-ready : goal.formula-requires-clause-ready
+formula-requires-clause-ready c = can_ready (form c.args.within.now) (change_of c.args.change.now) c.requires
+
+pub returns-then-is_over-clause-limit : goal.returns-then-is_over-clause-limit
+returns-then-is_over-clause-limit c =
+    let within = form c.args.within.now in
+    let change = change_of c.args.change.now in
+    sym (over-is-too-large (changed_form change 0 within) c.formula.result (c.formula.ensures ∙ extent-form change within 0 (can_ready within change c.requires)))
+    ∙ sym c.is_over.ensures
+    ∙ c.if-is_over.true
+
+pub change_formula-requires-clause-ready : goal.change_formula-requires-clause-ready
+change_formula-requires-clause-ready c = can_ready (form c.args.within.now) (change_of c.args.change.now) c.requires
+
+pub change_formula-requires-clause-room : goal.change_formula-requires-clause-room
+change_formula-requires-clause-room c =
+    let within = form c.args.within.now in
+    let change = change_of c.args.change.now in
+    let small : is_too_large (changed_form change 0 within) ≡ false =
+    sym (over-is-too-large (changed_form change 0 within) c.formula.result (c.formula.ensures ∙ extent-form change within 0 (can_ready within change c.requires)))
+    ∙ sym c.is_over.ensures
+    ∙ c.if-is_over.false in
+    room-within (changed_form change 0 within) 0 c.requires.indices small (omega arith)
+
+pub returns-clause-replaced : goal.returns-clause-replaced
+returns-clause-replaced c =
+    let within = form c.args.within.now in
+    let change = change_of c.args.change.now in
+    let small : is_too_large (changed_form change 0 within) ≡ false =
+    sym (over-is-too-large (changed_form change 0 within) c.formula.result (c.formula.ensures ∙ extent-form change within 0 (can_ready within change c.requires)))
+    ∙ sym c.is_over.ensures
+    ∙ c.if-is_over.false in
+    record {
+      tree = c.in_ok-changed.ensures;
+      truth = λ s env. ap (λ q. truth s q env) c.in_ok-changed.ensures ∙ can_replace within change c.requires s env;
+      fits = λ sig sorts h can. subst (FitsForm sig sorts) (sym c.in_ok-changed.ensures) (changed-fits sig sorts change can within [] h);
+      small = ap is_too_large c.in_ok-changed.ensures ∙ small;
+    }

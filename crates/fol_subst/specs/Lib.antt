@@ -1,0 +1,9 @@
+pub mod Shift
+pub mod Replace
+pub mod Limits
+pub mod Outcome
+pub mod Extents
+pub mod Room
+pub mod Changes
+pub mod Measured
+pub mod Kept

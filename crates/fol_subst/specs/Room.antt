@@ -1,0 +1,76 @@
+-- What the building of a formula needs: the depth and the indices of the result stay within their types, and wherever
+-- the symbol stands it has as many arguments as what replaces it has parameters.
+use Rattle.std.specs.Prelude.{◌≡◌, ℕ, suc, ◌<◌, ◌≤◌, ◌^◌}
+use Rattle.fol_formula.specs.Fits.{BoundForm, BoundTerm}
+use Rattle.fol_formula.specs.Syntax.{FormTree, FormTrees, TermTree, TermTrees, top, bottom, rel, equal, negation, conjunction, disjunction, implication, equivalence, for_all, for_some, no_forms, form_then, bound, app, ite, no_terms, term_then}
+use Rattle.fol_subst.specs.Replace.{Change, change_rel, change_fun, change_const}
+
+-- under so many binders
+abbrev mutual
+  pub RoomForm : ℕ → FormTree → Type 0
+  RoomForm depth top = Unit {0}
+  RoomForm depth bottom = Unit {0}
+  RoomForm depth (rel r args) = RoomTerms depth args
+  RoomForm depth (equal a b) = RoomTerm depth a × RoomTerm depth b
+  RoomForm depth (negation p) = RoomForm depth p
+  RoomForm depth (conjunction ps) = RoomForms depth ps
+  RoomForm depth (disjunction ps) = RoomForms depth ps
+  RoomForm depth (implication p q) = RoomForm depth p × RoomForm depth q
+  RoomForm depth (equivalence p q) = RoomForm depth p × RoomForm depth q
+  RoomForm depth (for_all k p) = (suc depth < 2 ^ 63) × RoomForm (suc depth) p
+  RoomForm depth (for_some k p) = (suc depth < 2 ^ 63) × RoomForm (suc depth) p
+
+  pub RoomForms : ℕ → FormTrees → Type 0
+  RoomForms depth no_forms = Unit {0}
+  RoomForms depth (form_then p ps) = RoomForm depth p × RoomForms depth ps
+
+  pub RoomTerm : ℕ → TermTree → Type 0
+  RoomTerm depth (bound i) = i < 2 ^ 32
+  RoomTerm depth (app f args) = RoomTerms depth args
+  RoomTerm depth (ite p a b) = RoomForm depth p × RoomTerm depth a × RoomTerm depth b
+
+  pub RoomTerms : ℕ → TermTrees → Type 0
+  RoomTerms depth no_terms = Unit {0}
+  RoomTerms depth (term_then t ts) = RoomTerm depth t × RoomTerms depth ts
+
+abbrev pub size_of : TermTrees → ℕ
+size_of no_terms = 0
+size_of (term_then t ts) = suc (size_of ts)
+
+-- with so many arguments
+abbrev pub RelReady : Change → ℕ → ℕ → Type 0
+RelReady (change_rel r by) q count = q ≡ r → BoundForm count by
+RelReady (change_fun g by) q count = Unit {0}
+RelReady (change_const g index) q count = Unit {0}
+
+abbrev pub AppReady : Change → ℕ → ℕ → Type 0
+AppReady (change_rel r by) f count = Unit {0}
+AppReady (change_fun g by) f count = f ≡ g → BoundTerm count by
+AppReady (change_const g index) f count = f ≡ g → count ≡ 0
+
+abbrev mutual
+  pub ReadyForm : Change → FormTree → Type 0
+  ReadyForm c top = Unit {0}
+  ReadyForm c bottom = Unit {0}
+  ReadyForm c (rel q args) = (size_of args ≤ 8) × RelReady c q (size_of args) × ReadyTerms c args
+  ReadyForm c (equal a b) = ReadyTerm c a × ReadyTerm c b
+  ReadyForm c (negation p) = ReadyForm c p
+  ReadyForm c (conjunction ps) = ReadyForms c ps
+  ReadyForm c (disjunction ps) = ReadyForms c ps
+  ReadyForm c (implication p q) = ReadyForm c p × ReadyForm c q
+  ReadyForm c (equivalence p q) = ReadyForm c p × ReadyForm c q
+  ReadyForm c (for_all k p) = ReadyForm c p
+  ReadyForm c (for_some k p) = ReadyForm c p
+
+  pub ReadyForms : Change → FormTrees → Type 0
+  ReadyForms c no_forms = Unit {0}
+  ReadyForms c (form_then p ps) = ReadyForm c p × ReadyForms c ps
+
+  pub ReadyTerm : Change → TermTree → Type 0
+  ReadyTerm c (bound i) = Unit {0}
+  ReadyTerm c (app f args) = (size_of args ≤ 8) × AppReady c f (size_of args) × ReadyTerms c args
+  ReadyTerm c (ite p a b) = ReadyForm c p × ReadyTerm c a × ReadyTerm c b
+
+  pub ReadyTerms : Change → TermTrees → Type 0
+  ReadyTerms c no_terms = Unit {0}
+  ReadyTerms c (term_then t ts) = ReadyTerm c t × ReadyTerms c ts

@@ -1,0 +1,263 @@
+// The symbol is replaced.
+ghost use Rattle.std.specs.Prelude.{◌≡◌, ◌+◌, ◌<◌, ◌≤◌, ◌^◌, suc, IfOk, length};
+ghost use Rattle.fol_formula.specs.View.{form, forms, term as term_view, terms as terms_view};
+ghost use Rattle.fol_formula.specs.Syntax.{rel as rel_tree, app as app_tree};
+ghost use Rattle.fol_subst.specs.Replace.{changed_form, changed_forms, changed_term, changed_terms};
+ghost use Rattle.fol_subst.specs.Room.{ReadyForm, ReadyForms, ReadyTerm, ReadyTerms, RoomForm, RoomForms, RoomTerm, RoomTerms, size_of};
+ghost use Rattle.fol_subst.specs.Changes.{change_of};
+ghost use Rattle.fol_subst.specs.Measured.{Measures};
+ghost use Rattle.fol_subst.specs.Kept.{kept, kept_one};
+
+use crate::measure::Measure;
+use crate::put::{put_formula, put_term};
+use crate::replacement::Replacement;
+use fol_formula::{Formula, Term};
+use fol_sig::{FunId, RelId};
+use rml_row::Mem;
+use std::alloc::Global;
+
+#[cycle(change)]
+pub fn change_formula(
+    alloc: Global,
+    p: &Formula,
+    c: &Replacement,
+    m: &Measure,
+    depth: u64,
+) -> Mem<Formula>
+    requires measures { Measures m.now (change_of c.now) }
+    requires ready { ReadyForm (change_of c.now) (form p.now) }
+    requires room { RoomForm depth (changed_form (change_of c.now) depth (form p.now)) }
+    ensures { IfOk result (λ f. form f ≡ changed_form (change_of c.now) depth (form p.now)) }
+{
+    match p {
+        Formula::True => Ok(Formula::True),
+        Formula::False => Ok(Formula::False),
+        Formula::Rel(q, args) => change_atom(alloc, *q, args, c, m, depth),
+        Formula::Eq(a, b) => {
+            let a = change_term(alloc, a, c, m, depth)?;
+            Ok(Formula::Eq(a, change_term(alloc, b, c, m, depth)?))
+        }
+        Formula::Not(p) => Ok(Formula::Not(change_boxed(alloc, p, c, m, depth)?)),
+        Formula::And(ps) => Ok(Formula::And(change_formulas(alloc, ps, c, m, depth)?)),
+        Formula::Or(ps) => Ok(Formula::Or(change_formulas(alloc, ps, c, m, depth)?)),
+        Formula::Implies(p, q) => {
+            let p = change_boxed(alloc, p, c, m, depth)?;
+            Ok(Formula::Implies(p, change_boxed(alloc, q, c, m, depth)?))
+        }
+        Formula::Iff(p, q) => {
+            let p = change_boxed(alloc, p, c, m, depth)?;
+            Ok(Formula::Iff(p, change_boxed(alloc, q, c, m, depth)?))
+        }
+        Formula::Forall(k, p) => {
+            Ok(Formula::Forall(*k, change_boxed(alloc, p, c, m, depth + 1)?))
+        }
+        Formula::Exists(k, p) => {
+            Ok(Formula::Exists(*k, change_boxed(alloc, p, c, m, depth + 1)?))
+        }
+    }
+}
+
+#[cycle(change)]
+fn change_atom(
+    alloc: Global,
+    q: RelId,
+    args: &[Term],
+    c: &Replacement,
+    m: &Measure,
+    depth: u64,
+) -> Mem<Formula>
+    requires measures { Measures m.now (change_of c.now) }
+    requires ready { ReadyForm (change_of c.now) (rel_tree q.0 (terms_view args.now)) }
+    requires room { RoomForm depth (changed_form (change_of c.now) depth (rel_tree q.0 (terms_view args.now))) }
+    ensures { IfOk result (λ f. form f ≡ changed_form (change_of c.now) depth (rel_tree q.0 (terms_view args.now))) }
+{
+    match c {
+        Replacement::Rel(r, by) => {
+            if q.0 == r.0 {
+                let mut all = change_kept(alloc, args, c, m, depth)?;
+                all.reverse();
+                let f = put_formula(alloc, by, 0, &all)?;
+                Ok(f)
+            } else {
+                Ok(Formula::Rel(q, change_terms(alloc, args, c, m, depth)?))
+            }
+        }
+        Replacement::Fun(_, _) => Ok(Formula::Rel(q, change_terms(alloc, args, c, m, depth)?)),
+        Replacement::Const(_, _) => Ok(Formula::Rel(q, change_terms(alloc, args, c, m, depth)?)),
+    }
+}
+
+#[cycle(change)]
+fn change_application(
+    alloc: Global,
+    f: FunId,
+    args: &[Term],
+    c: &Replacement,
+    m: &Measure,
+    depth: u64,
+) -> Mem<Term>
+    requires measures { Measures m.now (change_of c.now) }
+    requires ready { ReadyTerm (change_of c.now) (app_tree f.0 (terms_view args.now)) }
+    requires room { RoomTerm depth (changed_term (change_of c.now) depth (app_tree f.0 (terms_view args.now))) }
+    ensures { IfOk result (λ t. term_view t ≡ changed_term (change_of c.now) depth (app_tree f.0 (terms_view args.now))) }
+{
+    match c {
+        Replacement::Rel(_, _) => Ok(Term::App(f, change_terms(alloc, args, c, m, depth)?)),
+        Replacement::Fun(g, by) => {
+            if f.0 == g.0 {
+                let mut all = change_kept(alloc, args, c, m, depth)?;
+                all.reverse();
+                let t = put_term(alloc, by, 0, &all)?;
+                Ok(t)
+            } else {
+                Ok(Term::App(f, change_terms(alloc, args, c, m, depth)?))
+            }
+        }
+        Replacement::Const(g, index) => {
+            if f.0 == g.0 {
+                Ok(Term::Bound((depth + *index as u64) as u32))
+            } else {
+                Ok(Term::App(f, change_terms(alloc, args, c, m, depth)?))
+            }
+        }
+    }
+}
+
+#[cycle(change)]
+fn change_boxed(
+    alloc: Global,
+    p: &Formula,
+    c: &Replacement,
+    m: &Measure,
+    depth: u64,
+) -> Mem<Box<Formula>>
+    requires measures { Measures m.now (change_of c.now) }
+    requires ready { ReadyForm (change_of c.now) (form p.now) }
+    requires room { RoomForm depth (changed_form (change_of c.now) depth (form p.now)) }
+    ensures { IfOk result (λ f. form f.value ≡ changed_form (change_of c.now) depth (form p.now)) }
+{
+    let p = change_formula(alloc, p, c, m, depth)?;
+    Ok(Box::new(alloc, p)?)
+}
+
+#[cycle(change)]
+fn change_formulas(
+    alloc: Global,
+    ps: &[Formula],
+    c: &Replacement,
+    m: &Measure,
+    depth: u64,
+) -> Mem<Vec<Formula>>
+    requires measures { Measures m.now (change_of c.now) }
+    requires ready { ReadyForms (change_of c.now) (forms ps.now) }
+    requires room { RoomForms depth (changed_forms (change_of c.now) depth (forms ps.now)) }
+    ensures { IfOk result (λ fs. forms fs.items ≡ changed_forms (change_of c.now) depth (forms ps.now)) }
+{
+    let mut all = Vec::with_capacity(alloc, ps.len())?;
+    for p in ps {
+        all.push(change_formula(alloc, p, c, m, depth)?)?;
+    }
+    Ok(all)
+}
+
+#[cycle(change)]
+fn change_term(alloc: Global, t: &Term, c: &Replacement, m: &Measure, depth: u64) -> Mem<Term>
+    requires measures { Measures m.now (change_of c.now) }
+    requires ready { ReadyTerm (change_of c.now) (term_view t.now) }
+    requires room { RoomTerm depth (changed_term (change_of c.now) depth (term_view t.now)) }
+    ensures { IfOk result (λ f. term_view f ≡ changed_term (change_of c.now) depth (term_view t.now)) }
+{
+    match t {
+        Term::Bound(i) => Ok(Term::Bound(*i)),
+        Term::App(f, args) => change_application(alloc, *f, args, c, m, depth),
+        Term::Ite(p, a, b) => {
+            let p = change_boxed(alloc, p, c, m, depth)?;
+            let a = change_boxed_term(alloc, a, c, m, depth)?;
+            Ok(Term::Ite(p, a, change_boxed_term(alloc, b, c, m, depth)?))
+        }
+    }
+}
+
+#[cycle(change)]
+fn change_boxed_term(
+    alloc: Global,
+    t: &Term,
+    c: &Replacement,
+    m: &Measure,
+    depth: u64,
+) -> Mem<Box<Term>>
+    requires measures { Measures m.now (change_of c.now) }
+    requires ready { ReadyTerm (change_of c.now) (term_view t.now) }
+    requires room { RoomTerm depth (changed_term (change_of c.now) depth (term_view t.now)) }
+    ensures { IfOk result (λ f. term_view f.value ≡ changed_term (change_of c.now) depth (term_view t.now)) }
+{
+    let t = change_term(alloc, t, c, m, depth)?;
+    Ok(Box::new(alloc, t)?)
+}
+
+#[cycle(change)]
+fn change_terms(
+    alloc: Global,
+    ts: &[Term],
+    c: &Replacement,
+    m: &Measure,
+    depth: u64,
+) -> Mem<Vec<Term>>
+    requires measures { Measures m.now (change_of c.now) }
+    requires ready { ReadyTerms (change_of c.now) (terms_view ts.now) }
+    requires room { RoomTerms depth (changed_terms (change_of c.now) depth (terms_view ts.now)) }
+    ensures { IfOk result (λ fs. terms_view fs.items ≡ changed_terms (change_of c.now) depth (terms_view ts.now)) }
+{
+    let mut all = Vec::with_capacity(alloc, ts.len())?;
+    for t in ts {
+        all.push(change_term(alloc, t, c, m, depth)?)?;
+    }
+    Ok(all)
+}
+
+// The arguments that stand in what replaces the symbol. One that does not stand there is not built.
+#[cycle(change)]
+fn change_kept(
+    alloc: Global,
+    ts: &[Term],
+    c: &Replacement,
+    m: &Measure,
+    depth: u64,
+) -> Mem<Vec<Term>>
+    requires measures { Measures m.now (change_of c.now) }
+    requires few { size_of (terms_view ts.now) ≤ 8 }
+    requires ready { ReadyTerms (change_of c.now) (terms_view ts.now) }
+    requires room { RoomTerms depth (kept (change_of c.now) (changed_terms (change_of c.now) depth (terms_view ts.now))) }
+    ensures { IfOk result (λ fs. terms_view fs.items ≡ kept (change_of c.now) (changed_terms (change_of c.now) depth (terms_view ts.now))) }
+{
+    let mut all = Vec::with_capacity(alloc, ts.len())?;
+    let mut index = ts.len();
+    for t in ts {
+        index -= 1;
+        all.push(change_one(alloc, t, c, m, depth, index)?)?;
+    }
+    Ok(all)
+}
+
+// The argument of the parameter with this index, if it stands in what replaces the symbol.
+#[cycle(change)]
+fn change_one(
+    alloc: Global,
+    t: &Term,
+    c: &Replacement,
+    m: &Measure,
+    depth: u64,
+    index: usize,
+) -> Mem<Term>
+    requires measures { Measures m.now (change_of c.now) }
+    requires few { index < 8 }
+    requires ready { ReadyTerm (change_of c.now) (term_view t.now) }
+    requires room { RoomTerm depth (kept_one (change_of c.now) index (changed_term (change_of c.now) depth (term_view t.now))) }
+    ensures { IfOk result (λ f. term_view f ≡ kept_one (change_of c.now) index (changed_term (change_of c.now) depth (term_view t.now))) }
+{
+    if m.places[index].depth == 0 {
+        Ok(Term::Bound(0))
+    } else {
+        change_term(alloc, t, c, m, depth)
+    }
+}

@@ -1,0 +1,83 @@
+// How many nodes there are, and how deep the deepest lies.
+ghost use Rattle.std.specs.Prelude.{◌≡◌};
+ghost use Rattle.fol_subst.specs.Extents.{beside, over, under, put_in, is_over, extent};
+
+// Above both limits: there the counts stop.
+const CAP: u64 = 1_000_001;
+
+#[derive(Clone, Copy)]
+pub struct Extent {
+    pub count: u64,
+    pub depth: u64,
+}
+
+impl Extent {
+    pub const NONE: Extent = Extent { count: 0, depth: 0 };
+
+    pub const ONE: Extent = Extent { count: 1, depth: 1 };
+
+    pub fn new(count: u64, depth: u64) -> Extent
+        ensures { result ≡ extent count depth }
+    {
+        Extent {
+            count: count.min(CAP),
+            depth: depth.min(CAP),
+        }
+    }
+
+    pub fn beside(self, other: Extent) -> Extent
+        ensures { result ≡ beside self other }
+    {
+        Extent {
+            count: self.count.saturating_add(other.count).min(CAP),
+            depth: self.depth.max(other.depth),
+        }
+    }
+
+    // With one node above.
+    pub fn over(self) -> Extent
+        ensures { result ≡ over self }
+    {
+        Extent {
+            count: self.count.saturating_add(1).min(CAP),
+            depth: self.depth.saturating_add(1).min(CAP),
+        }
+    }
+
+    // One level further down, where there is any.
+    pub fn under(self) -> Extent
+        ensures { result ≡ under self }
+    {
+        let depth = if self.depth == 0 {
+            0
+        } else {
+            self.depth.saturating_add(1).min(CAP)
+        };
+        Extent {
+            count: self.count,
+            depth,
+        }
+    }
+
+    // Where these places of it hold a part each.
+    pub fn put_in(self, places: Extent, part: Extent) -> Extent
+        ensures { result ≡ put_in self places part }
+    {
+        let more = places.count.saturating_mul(part.count.saturating_sub(1));
+        let deepest = places.depth.saturating_add(part.depth).saturating_sub(1);
+        Extent {
+            count: self.count.saturating_add(more).min(CAP),
+            depth: if places.depth == 0 {
+                self.depth
+            } else {
+                self.depth.max(deepest.min(CAP))
+            },
+        }
+    }
+
+    pub fn is_over(self) -> bool
+        ensures { result ≡ is_over self }
+    {
+        self.count > 1_000_000 || self.depth > 1000
+    }
+}

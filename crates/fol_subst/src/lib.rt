@@ -1,0 +1,115 @@
+//! Replacement of a symbol in a formula by what it is set to, and shifting of indices. Bound variables
+//! are never captured. How large the result is, is counted before anything is built.
+#![tactic(auto)]
+
+mod change;
+mod extent;
+mod measure;
+mod places;
+mod put;
+mod raise;
+mod replacement;
+
+ghost use Rattle.std.specs.Prelude.{◌≡◌, IfOk, IfErr, IsTrue};
+ghost use Rattle.rml_row.specs.Because.{Because};
+ghost use Rattle.fol_formula.specs.View.{form, term as term_view};
+ghost use Rattle.fol_subst.specs.Replace.{change_rel, change_fun, change_const, changed_form};
+ghost use Rattle.fol_subst.specs.Shift.{shift_form};
+ghost use Rattle.fol_subst.specs.Limits.{is_too_large, IndicesFit};
+ghost use Rattle.fol_subst.specs.Outcome.{CanReplace, IsReplacement, IsShifted};
+ghost use Rattle.fol_subst.specs.Changes.{change_of};
+
+use change::change_formula;
+use extent::Extent;
+use fol_formula::{Formula, Term};
+use fol_sig::{FunId, RelId};
+use measure::Measure;
+use raise::shift_formula;
+use replacement::Replacement;
+use rml_row::Refused;
+use std::alloc::Global;
+
+/// The result would have over 1,000,000 nodes, or be over 1,000 deep.
+#[derive(Clone, Copy, PartialEq, Eq, Debug)]
+pub struct FormulaLimit;
+
+/// The formula with `by` in the place of the relation. The indices that `by` does not bind are the
+/// relation's parameters, the last one 0.
+pub fn replace_rel(
+    alloc: Global,
+    within: &Formula,
+    rel: RelId,
+    by: &Formula,
+) -> Result<Formula, Refused<FormulaLimit>>
+    requires { CanReplace (form within.now) (change_rel rel.0 (form by.now)) }
+    ensures replaced { IfOk result (λ f. IsReplacement (form within.now) (change_rel rel.0 (form by.now)) (form f)) }
+    ensures limit { IfErr result (Because (λ _. IsTrue (is_too_large (changed_form (change_rel rel.0 (form by.now)) 0 (form within.now))))) }
+{
+    replace(alloc, within, &Replacement::Rel(rel, &*by))
+}
+
+/// The formula with `by` in the place of the function. The indices that `by` does not bind are the
+/// function's parameters, the last one 0.
+pub fn replace_fun(
+    alloc: Global,
+    within: &Formula,
+    fun: FunId,
+    by: &Term,
+) -> Result<Formula, Refused<FormulaLimit>>
+    requires { CanReplace (form within.now) (change_fun fun.0 (term_view by.now)) }
+    ensures replaced { IfOk result (λ f. IsReplacement (form within.now) (change_fun fun.0 (term_view by.now)) (form f)) }
+    ensures limit { IfErr result (Because (λ _. IsTrue (is_too_large (changed_form (change_fun fun.0 (term_view by.now)) 0 (form within.now))))) }
+{
+    replace(alloc, within, &Replacement::Fun(fun, &*by))
+}
+
+/// The formula with the bound variable that has this index outside of it in the place of the program
+/// variable `fun`.
+pub fn replace_const(
+    alloc: Global,
+    within: &Formula,
+    fun: FunId,
+    index: u32,
+) -> Result<Formula, Refused<FormulaLimit>>
+    requires { CanReplace (form within.now) (change_const fun.0 index) }
+    ensures replaced { IfOk result (λ f. IsReplacement (form within.now) (change_const fun.0 index) (form f)) }
+    ensures limit { IfErr result (Because (λ _. IsTrue (is_too_large (changed_form (change_const fun.0 index) 0 (form within.now))))) }
+{
+    replace(alloc, within, &Replacement::Const(fun, index))
+}
+
+/// Raises by `by` each index that is bound outside the formula and is at least `from` there.
+pub fn shift(
+    alloc: Global,
+    within: &Formula,
+    from: u32,
+    by: u32,
+) -> Result<Formula, Refused<FormulaLimit>>
+    requires { IndicesFit (shift_form from by (form within.now)) }
+    ensures shifted { IfOk result (λ f. IsShifted (form within.now) from by (form f)) }
+    ensures limit { IfErr result (Because (λ _. IsTrue (is_too_large (shift_form from by (form within.now))))) }
+{
+    let extent = Extent::new(within.nodes(), within.depth());
+    if extent.is_over() {
+        return Err(Refused::For(FormulaLimit));
+    }
+    let shifted = shift_formula(alloc, within, from as u64, by as u64)?;
+    Ok(shifted)
+}
+
+fn replace(
+    alloc: Global,
+    within: &Formula,
+    change: &Replacement,
+) -> Result<Formula, Refused<FormulaLimit>>
+    requires { CanReplace (form within.now) (change_of change.now) }
+    ensures replaced { IfOk result (λ f. IsReplacement (form within.now) (change_of change.now) (form f)) }
+    ensures limit { IfErr result (Because (λ _. IsTrue (is_too_large (changed_form (change_of change.now) 0 (form within.now))))) }
+{
+    let measure = Measure::of(change);
+    if measure.formula(within, change).is_over() {
+        return Err(Refused::For(FormulaLimit));
+    }
+    let changed = change_formula(alloc, within, change, &measure, 0)?;
+    Ok(changed)
+}
