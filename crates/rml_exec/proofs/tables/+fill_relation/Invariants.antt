@@ -1,0 +1,14 @@
+use Rattle.std.proofs.Common.{◌≡◌, ◌++◌, ◌∷◌, length}
+use Rattle.fol_sig.specs.Tables.{numbers, reading}
+use Rattle.fol_sig.specs.Updates.{join_below, cells_from}
+use Rattle.fol_formula.specs.View.{form}
+use Rattle.fol_formula.specs.Truth.{truth}
+use Rattle.fol_eval.specs.Elements.{elements}
+use Rattle.rml_exec.proofs.tables.+fill_relation.Given as goal
+
+abbrev pub decreases-fill_relation : goal.decreases-fill_relation
+decreases-fill_relation l = length l.sorts.now
+
+abbrev pub invariant-loop-element : goal.invariant-loop-element
+invariant-loop-element l =
+    l.cells.items ≡ l.initial.cells.items ++ join_below l.element (λ x. cells_from l.structure.sizes (λ tuple. truth (reading l.structure) (form l.by) tuple) (numbers l.rest) (x ∷ elements l.env))

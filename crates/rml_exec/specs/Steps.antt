@@ -1,0 +1,60 @@
+-- One step of following a path.
+use Rattle.std.specs.Prelude.{◌≡◌, ℕ, ◌<◌, true, false, Some, None, List, [], ◌∷◌, length, drop}
+use Rattle.std.specs.List.{AllByRecursion}
+use Rattle.fol_sig.specs.Tables.{Tables, size_at}
+use Rattle.fol_sig.specs.Symbols.{Symbols, FitsStructure}
+use Rattle.fol_formula.specs.Syntax.{FormTree}
+use Rattle.fol_formula.specs.Fits.{FitsForm}
+use Rattle.rml_command.specs.Trees.{PrimitiveTree, assume, set_rel, set_fun, havoc, abort}
+use Rattle.rml_command.specs.Outcomes.{aborted, follow_path, satisfies}
+use Rattle.rml_command.specs.Models.{FitsPrimitive}
+use Rattle.rml_exec.specs.declared.trace.Followed.{Followed}
+use Rattle.rml_exec.specs.declared.trace.Followed.TheVariants.{Ended, Aborted, Blocked}
+
+-- the elements that a step leaves
+abbrev pub elements_after : PrimitiveTree → List ℕ → List ℕ
+elements_after (assume p) xs = xs
+elements_after (set_rel r by) xs = xs
+elements_after (set_fun f by) xs = xs
+elements_after (havoc v) xs = drop 1 xs
+elements_after abort xs = xs
+
+-- the primitive and the structure have the symbols of one signature
+pub record CanUpdate (q : PrimitiveTree) (s : Tables) : Type 0 where
+  pub sig : Symbols
+  pub structure : FitsStructure sig s
+  pub fits : FitsPrimitive sig q
+
+-- so have the axioms and the structure
+pub record CanJudge (axioms : List FormTree) (s : Tables) : Type 0 where
+  pub sig : Symbols
+  pub structure : FitsStructure sig s
+  pub axioms_fit : AllByRecursion (FitsForm sig []) axioms
+
+-- and all three
+pub record CanStep (axioms : List FormTree) (q : PrimitiveTree) (s : Tables) : Type 0 where
+  pub sig : Symbols
+  pub structure : FitsStructure sig s
+  pub fits : FitsPrimitive sig q
+  pub axioms_fit : AllByRecursion (FitsForm sig []) axioms
+
+-- a step to a structure of the same symbols, whatever comes behind it
+pub record MovesTo (axioms : List FormTree) (q : PrimitiveTree) (elements : List ℕ) (s new : Tables) : Type 0 where
+  pub onward : (qs : List PrimitiveTree) → follow_path axioms (q ∷ qs) elements s ≡ follow_path axioms qs (elements_after q elements) new
+  pub fits : (sig : Symbols) → FitsStructure sig s → FitsStructure sig new
+
+abbrev pub StepsTo : List FormTree → PrimitiveTree → List ℕ → Tables → Followed → Type 0
+StepsTo axioms q elements s (Ended new) = MovesTo axioms q elements s new
+StepsTo axioms q elements s Aborted = (qs : List PrimitiveTree) → follow_path axioms (q ∷ qs) elements s ≡ Some aborted
+StepsTo axioms q elements s Blocked = (qs : List PrimitiveTree) → follow_path axioms (q ∷ qs) elements s ≡ None
+
+-- the structure is an end where it satisfies the axioms
+abbrev pub Judges : List FormTree → Tables → Followed → Type 0
+Judges axioms s (Ended new) = (new ≡ s) × (satisfies s axioms ≡ true)
+Judges axioms s Aborted = ⊥
+Judges axioms s Blocked = satisfies s axioms ≡ false
+
+-- each sort is one of the structure, and P is so of each tuple of them before these elements
+abbrev pub AtEachTuple : Tables → (List ℕ → Type 0) → List ℕ → List ℕ → Type 0
+AtEachTuple s P [] before = P before
+AtEachTuple s P (k ∷ ks) before = (k < length s.sizes) × ((x : ℕ) → x < size_at s k → AtEachTuple s P ks (x ∷ before))

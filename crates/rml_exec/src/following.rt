@@ -1,0 +1,135 @@
+// A path is followed step by step.
+ghost use Rattle.std.specs.Prelude.{◌≡◌, IfOk};
+ghost use Rattle.fol_sig.specs.Symbols.{symbols, FitsStructure};
+ghost use Rattle.rml_command.specs.View.{primitive as primitive_view};
+ghost use Rattle.rml_command.specs.Trees.{havoc as havoc_tree};
+ghost use Rattle.rml_command.specs.Outcomes.{follow_path, satisfies};
+ghost use Rattle.rml_command.specs.Models.{FitsPath};
+ghost use Rattle.rml_exec.specs.Followed.{outcome_of, EndFits};
+ghost use Rattle.rml_exec.specs.Steps.{elements_after, CanStep, CanJudge, StepsTo, Judges};
+
+use crate::tables::{set_function, set_relation, set_variable};
+use crate::trace::{Followed, Trace};
+use fol_eval::{Env, holds};
+use fol_formula::Sentence;
+use fol_sig::{FunId, Structure};
+use rml_command::{Checked, Path, Primitive};
+use rml_row::Mem;
+use std::alloc::Global;
+
+/// Follows a path from a structure. It is blocked exactly where an assumption is false, an element for a
+/// havoc is missing or out of range, or an update or a havoc breaks an axiom.
+pub fn follow(
+    alloc: Global,
+    checked: &Checked,
+    path: &Path,
+    trace: &Trace,
+    structure: &Structure,
+) -> Mem<Followed>
+    requires path { FitsPath (symbols checked.now.signature) path.now }
+    requires structure { FitsStructure (symbols checked.now.signature) structure.now }
+    ensures outcome { IfOk result (λ f. outcome_of f ≡ follow_path checked.now.axioms path.now trace.now.havoc structure.now) }
+    ensures fits { IfOk result (λ f. EndFits (symbols checked.now.signature) f) }
+{
+    let model = checked.model();
+    let axioms = model.axioms();
+    let mut now = structure.copy(alloc)?;
+    let mut elements = trace.havoc.as_slice();
+    for primitive in path.primitives() {
+        match take_step(alloc, axioms, primitive, elements, now)? {
+            Followed::Ended(next) => now = next,
+            Followed::Aborted => return Ok(Followed::Aborted),
+            Followed::Blocked => return Ok(Followed::Blocked),
+        }
+        elements = behind(primitive, elements);
+    }
+    Ok(Followed::Ended(now))
+}
+
+// The elements that a step leaves.
+fn behind<'a>(primitive: &Primitive, elements: &'a [u32]) -> &'a [u32]
+    ensures { result.now ≡ elements_after (primitive_view primitive.now) elements.now }
+{
+    match primitive {
+        Primitive::Havoc(_) if !elements.is_empty() => &elements[1..],
+        _ => elements,
+    }
+}
+
+fn take_step(
+    alloc: Global,
+    axioms: &[Sentence],
+    primitive: &Primitive,
+    elements: &[u32],
+    mut structure: Structure,
+) -> Mem<Followed>
+    requires { CanStep axioms.now (primitive_view primitive.now) structure }
+    ensures { IfOk result (λ f. StepsTo axioms.now (primitive_view primitive.now) elements.now structure f) }
+{
+    match primitive {
+        Primitive::Assume(sentence) => {
+            if holds(&structure, sentence.formula(), &Env::Empty) {
+                Ok(Followed::Ended(structure))
+            } else {
+                Ok(Followed::Blocked)
+            }
+        }
+        Primitive::SetRel(rel, by) => {
+            set_relation(alloc, &mut structure, *rel, by)?;
+            Ok(judge(axioms, structure))
+        }
+        Primitive::SetFun(fun, by) => {
+            set_function(alloc, &mut structure, *fun, by)?;
+            Ok(judge(axioms, structure))
+        }
+        Primitive::Havoc(fun) => {
+            let ended = havoc(alloc, axioms, *fun, elements, structure)?;
+            Ok(ended)
+        }
+        Primitive::Abort => Ok(Followed::Aborted),
+    }
+}
+
+fn havoc(
+    alloc: Global,
+    axioms: &[Sentence],
+    variable: FunId,
+    elements: &[u32],
+    mut structure: Structure,
+) -> Mem<Followed>
+    requires { CanStep axioms.now (havoc_tree variable.0) structure }
+    ensures { IfOk result (λ f. StepsTo axioms.now (havoc_tree variable.0) elements.now structure f) }
+{
+    let Some(element) = elements.first() else {
+        return Ok(Followed::Blocked);
+    };
+    if *element >= structure.size(structure.function_into(variable)) {
+        return Ok(Followed::Blocked);
+    }
+    set_variable(alloc, &mut structure, variable, *element)?;
+    Ok(judge(axioms, structure))
+}
+
+// A structure that breaks an axiom is no end of a step.
+fn judge(axioms: &[Sentence], structure: Structure) -> Followed
+    requires { CanJudge axioms.now structure }
+    ensures { Judges axioms.now structure result }
+{
+    if are_true(axioms, &structure) {
+        Followed::Ended(structure)
+    } else {
+        Followed::Blocked
+    }
+}
+
+fn are_true(sentences: &[Sentence], structure: &Structure) -> bool
+    requires { CanJudge sentences.now structure.now }
+    ensures { result ≡ satisfies structure.now sentences.now }
+{
+    for sentence in sentences {
+        if !holds(structure, sentence.formula(), &Env::Empty) {
+            return false;
+        }
+    }
+    true
+}
