@@ -491,7 +491,7 @@ conjecture choosable: forall R:round, V:value. proposal(R, V) & ~le(R, r0) & V ~
 # Processes sit on a ring (ternary relation between) and carry distinct keys in a total order.
 # A process announces its key to its neighbour; a process passes on a key that is not below its own;
 # a process that gets its own key back is elected.  Messages may be duplicated: taking one out of the
-# inbox is optional here, unlike in the worked example of the papers.
+# inbox is optional here.
 # Conjectures: one_leader is the safety property (at most one is elected).  leader_top and self_top say
 # that an elected process, and one whose own key has come back, has the greatest key.  no_bypass says
 # that a key does not get past a process with a greater key.
@@ -548,7 +548,7 @@ conjecture self_top: forall P:proc, Q:proc. inbox(label(P), P) -> below(label(Q)
 # Processes sit on a ring (ternary relation between) and carry distinct keys in a total order.
 # A process announces its key to its neighbour; a process passes on a key that is not below its own;
 # a process that gets its own key back is elected.  Messages may be duplicated: taking one out of the
-# inbox is optional here, unlike in the worked example of the papers.
+# inbox is optional here.
 # Conjectures: one_leader is the safety property (at most one is elected).  leader_top and self_top say
 # that an elected process, and one whose own key has come back, has the greatest key.  no_bypass says
 # that a key does not get past a process with a greater key.
