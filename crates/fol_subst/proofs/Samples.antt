@@ -1,15 +1,16 @@
 -- What the tests replace fits.
 use Rattle.std.proofs.Common.{◌≡◌, ℕ, ◌==◌, cond, List, [], ◌∷◌, refl, subst, sym, arith}
 use Rattle.fol_sig.specs.Symbols.{Symbols}
-use Rattle.fol_formula.specs.Syntax.{FormTree, TermTree, rel, equal, disjunction, for_all, for_some, form_then, no_forms, bound, app, term_then, no_terms}
+use Rattle.fol_formula.specs.Syntax.{FormTree, TermTree, rel, equal, conjunction, disjunction, for_all, for_some, form_then, no_forms, bound, app, term_then, no_terms}
 use Rattle.fol_formula.specs.Fits.{FitsForm}
-use Rattle.fol_subst.specs.Replace.{change_rel, change_fun, change_const}
+use Rattle.fol_subst.specs.Replace.{change_rel, change_fun, change_const, CanChange}
 use Rattle.fol_subst.specs.Shift.{shift_form}
 use Rattle.fol_subst.specs.Limits.{IndicesFit}
 use Rattle.fol_subst.specs.Outcome.{CanReplace}
+use Rattle.fol_subst.proofs.Rooms.{short_lists_suffice}
 
 -- one sort, a relation, a variable and a function
-abbrev sample : Symbols
+abbrev pub sample : Symbols
 sample = record {
   sorts = 1;
   relations = 1;
@@ -24,6 +25,18 @@ grown = disjunction (form_then (rel 0 (term_then (bound 0) no_terms)) (form_then
 
 abbrev pub image : TermTree
 image = app 1 (term_then (bound 0) no_terms)
+
+abbrev pub doubled : FormTree
+doubled = conjunction (form_then (rel 0 (term_then (bound 0) no_terms)) (form_then (rel 0 (term_then (bound 0) no_terms)) no_forms))
+
+pub doubled-fits : (p : FormTree) → p ≡ doubled → FitsForm sample (0 ∷ []) p
+doubled-fits p e = subst (FitsForm sample (0 ∷ [])) (sym e) ((omega arith, omega arith, ((omega arith, refl), tt)), ((omega arith, omega arith, ((omega arith, refl), tt)), tt))
+
+pub can_double : (by : FormTree) → by ≡ doubled → CanChange sample (0 ∷ []) (change_rel 0 by)
+can_double by e = (omega arith, doubled-fits by e)
+
+pub doubling : (p by : FormTree) → FitsForm sample (0 ∷ []) p → by ≡ doubled → CanReplace p (change_rel 0 by)
+doubling p by h e = short_lists_suffice sample (0 ∷ []) p (change_rel 0 by) h (can_double by e) (omega arith)
 
 grown-fits : (sorts : List ℕ) → FitsForm sample (0 ∷ sorts) grown
 grown-fits sorts = ((omega arith, omega arith, ((omega arith, refl), tt)), ((0, (omega arith, refl), (omega arith, refl, omega arith, tt)), tt))

@@ -2,7 +2,7 @@
 // function f.
 ghost use Rattle.std.specs.Prelude.{◌≡◌, IfOk};
 ghost use Rattle.fol_formula.specs.View.{form, term as term_view};
-ghost use Rattle.fol_formula.specs.Syntax.{rel as rel_tree, equal, disjunction, for_all, for_some, form_then, no_forms, bound, app, term_then, no_terms};
+ghost use Rattle.fol_formula.specs.Syntax.{rel as rel_tree, equal, conjunction, disjunction, for_all, for_some, form_then, no_forms, bound, app, term_then, no_terms};
 
 use super::*;
 use fol_sig::Sort;
@@ -27,6 +27,20 @@ fn grown(alloc: Global) -> Mem<Formula>
     parts.push(Formula::Rel(R, args))?;
     parts.push(Formula::Eq(Term::Bound(0), Term::App(V, Vec::new(alloc))))?;
     Ok(Formula::Or(parts))
+}
+
+// r(x) and r(x)
+fn doubled(alloc: Global) -> Mem<Formula>
+    ensures { IfOk result (λ p. form p ≡ conjunction (form_then (rel_tree 0 (term_then (bound 0) no_terms)) (form_then (rel_tree 0 (term_then (bound 0) no_terms)) no_forms))) }
+{
+    let mut left = Vec::new(alloc);
+    left.push(Term::Bound(0))?;
+    let mut right = Vec::new(alloc);
+    right.push(Term::Bound(0))?;
+    let mut parts = Vec::new(alloc);
+    parts.push(Formula::Rel(R, left))?;
+    parts.push(Formula::Rel(R, right))?;
+    Ok(Formula::And(parts))
 }
 
 // forall x. exists x. r(x) or x = v
@@ -108,5 +122,18 @@ fn indices_are_raised(rt: HostRuntime) -> Result<(), Fail> {
         text.as_str(),
         "Or([Rel(RelId(0), [Bound(2)]), Eq(Bound(2), App(FunId(0), []))])"
     );
+    Ok(())
+}
+
+#[test]
+fn a_formula_over_the_limit_is_refused(rt: HostRuntime) -> Result<(), Fail> {
+    let alloc = rt.alloc();
+    let mut formula = doubled(alloc)?;
+    for _turn in 0..17 {
+        formula = replace_rel(alloc, &formula, R, &doubled(alloc)?)?;
+    }
+    assert_eq!(rt; formula.nodes(), 786431);
+    let refused = replace_rel(alloc, &formula, R, &doubled(alloc)?).err();
+    assert_eq!(rt; refused, Some(Refused::For(FormulaLimit)));
     Ok(())
 }
