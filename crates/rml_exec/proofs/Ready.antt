@@ -1,17 +1,13 @@
 -- What fits may be evaluated at each tuple.
-use Rattle.std.proofs.Common.{◌≡◌, ℕ, suc, ◌<◌, List, [], ◌∷◌, length, All, sym, ap, ◌∙◌, subst, arith}
+use Rattle.std.proofs.Common.{◌≡◌, ℕ, suc, ◌<◌, List, [], ◌∷◌, length, All, sym, subst, arith}
 use Rattle.std.specs.Prelude.{reverse}
 use mathlib.Core.List.{reverse_aux}
 use Rattle.std.proofs.lemmas.List.Elements.{All-get_or}
-use Rattle.fol_sig.specs.Tables.{Tables, InRange, IsFullRelation, IsFullFunction, reading, relation_at, function_at, size_at}
+use Rattle.fol_sig.specs.Tables.{Tables, InRange, IsFullRelation, IsFullFunction, relation_at, function_at}
 use Rattle.fol_sig.specs.Symbols.{Symbols, FitsStructure}
-use Rattle.fol_sig.specs.Updates.{GivesElements, cells_from, with_function_cells}
 use Rattle.fol_formula.specs.Syntax.{FormTree, TermTree}
-use Rattle.fol_formula.specs.Truth.{value}
 use Rattle.fol_formula.specs.Fits.{FitsForm, FitsTerm, HasTruth, HasValue}
-use Rattle.fol_formula.specs.Agree.{ValuesAreInRange}
-use Rattle.rml_command.specs.Trees.{set_rel, set_fun, havoc}
-use Rattle.rml_command.specs.Outcomes.{set_variable}
+use Rattle.rml_command.specs.Trees.{set_rel, set_fun}
 use Rattle.rml_command.specs.Models.{FitsPrimitive}
 use Rattle.rml_exec.specs.Steps.{CanUpdate, AtEachTuple}
 

@@ -1,18 +1,15 @@
 -- One turn of the loop that follows a path.
-use Rattle.std.proofs.Common.{◌≡◌, ℕ, ◌<◌, ◌≤◌, true, false, cond, Option, None, List, [], ◌∷◌, length, get_or, drop, map, ◌+◌, sym, ap, ◌∙◌, subst}
-use Rattle.std.proofs.lemmas.Bool.{lt-ltb, le-ltb}
+use Rattle.std.proofs.Common.{◌≡◌, ℕ, ◌<◌, Option, List, ◌∷◌, length, get_or, drop, map, ◌+◌, sym, ap, ◌∙◌, subst}
 use Rattle.std.proofs.lemmas.List.{drop_more}
 use Rattle.fol_sig.specs.Tables.{Tables}
 use Rattle.fol_sig.specs.Symbols.{Symbols, FitsStructure}
-use Rattle.fol_formula.specs.Syntax.{FormTree, TermTree}
-use Rattle.rml_command.specs.Trees.{PrimitiveTree, set_rel, set_fun, havoc}
-use Rattle.rml_command.specs.Outcomes.{Outcome, follow_path, satisfies, set_relation, set_function, set_variable, range_of}
+use Rattle.fol_formula.specs.Syntax.{FormTree}
+use Rattle.rml_command.specs.Trees.{PrimitiveTree}
+use Rattle.rml_command.specs.Outcomes.{Outcome, follow_path}
 use Rattle.rml_command.specs.Models.{FitsPath}
 use Rattle.rml_command.specs.View.{primitive}
 use Rattle.rml_command.specs.declared.command.Primitive.{Primitive}
-use Rattle.rml_exec.specs.Steps.{MovesTo, StepsTo, Judges, elements_after}
-use Rattle.rml_exec.specs.declared.trace.Followed.{Followed}
-use Rattle.rml_exec.specs.declared.trace.Followed.TheVariants.{Ended, Aborted, Blocked}
+use Rattle.rml_exec.specs.Steps.{MovesTo, elements_after}
 
 primitives-drop : (ps : List Primitive) (i : ℕ) (p : Primitive) → i < length ps → p ≡ get_or ps i p → map primitive (drop i ps) ≡ primitive p ∷ map primitive (drop (i + 1) ps)
 primitives-drop ps i p lt is = ap (map primitive) (drop_more ps i p lt) ∙ ap (λ q. primitive q ∷ map primitive (drop (i + 1) ps)) (sym is)

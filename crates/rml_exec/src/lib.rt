@@ -7,3 +7,6 @@ mod trace;
 
 pub use following::follow;
 pub use trace::{Counterexample, Followed, Trace};
+
+#[cfg(test)]
+mod tests;
