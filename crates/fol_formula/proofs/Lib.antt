@@ -4,5 +4,6 @@ pub mod Quantified
 pub mod AgreeTruth
 pub mod Closed
 mod Deciding
+mod Decisions
 pub mod Inclusions
 mod NormalForms

@@ -10,3 +10,4 @@ pub mod Inclusions
 pub mod Deciding
 pub mod Agree
 pub mod Closed
+pub mod Decisions

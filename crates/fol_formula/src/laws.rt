@@ -2,6 +2,7 @@
 ghost use Rattle.fol_formula.specs.Agree.{TruthAgrees, ValuesAgree, ValuesAreInRange};
 ghost use Rattle.fol_formula.specs.Closed.{FitsIsBound, FitsIsBoundTerm, TruthReadsNoMore, ValueReadsNoMore, FitsUnderMore, FitsUnderMoreTerm};
 ghost use Rattle.fol_formula.specs.NormalForms.{UniversalByNormalForm, ExistsForallByNormalForm, NormalFormKeepsTruth};
+ghost use Rattle.fol_formula.specs.Decisions.{FragmentsAreDecided};
 ghost use Rattle.fol_formula.specs.Inclusions.{NegationExchanges, UniversalIsEa, NormalIsEa, QuantifierFreeIsUniversal};
 
 /// Structures that agree wherever a formula looks give it one truth, and the value of a term is an
@@ -35,4 +36,9 @@ pub fn inclusion()
     ensures universal { UniversalIsEa }
     ensures normal { NormalIsEa }
     ensures quantifier_free { QuantifierFreeIsUniversal }
+{}
+
+/// A formula is universal, or exists-forall, or it is not; and so is its negation.
+pub fn decision()
+    ensures { FragmentsAreDecided }
 {}

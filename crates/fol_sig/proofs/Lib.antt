@@ -4,4 +4,5 @@ pub mod Sets
 pub mod Blank
 pub mod Orders
 pub mod Cycles
+pub mod FirstCycles
 pub mod Waiting

@@ -2,6 +2,7 @@
 ghost use Rattle.std.specs.Prelude.{ℕ, List, Bool, ◌<◌, length};
 ghost use Rattle.fol_sig.specs.Tables.{Tables, IsStructure, InRange, function_at, fun_at, size_at};
 ghost use Rattle.fol_sig.specs.Strata.{OrderHasNoCycle, FirstCycleIsOne};
+ghost use Rattle.fol_sig.specs.Cycles.{CycleHasFirst};
 ghost use Rattle.fol_sig.specs.Updates.{UpdatesRelation, UpdatesFunction};
 
 /// An updated symbol has the new value at each tuple, each other symbol is as before, and the updated
@@ -21,4 +22,9 @@ pub fn value_law()
 pub fn strata_laws()
     ensures acyclic { OrderHasNoCycle }
     ensures one { FirstCycleIsOne }
+{}
+
+/// Where no function is the first that closes a cycle, none stands on one.
+pub fn cycle_law()
+    ensures { CycleHasFirst }
 {}

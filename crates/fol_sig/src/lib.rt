@@ -14,7 +14,7 @@ mod sorts;
 mod structure;
 mod table;
 
-pub use laws::{strata_laws, update_laws, value_law};
+pub use laws::{cycle_law, strata_laws, update_laws, value_law};
 pub use order::{Cycle, Strata};
 pub use passes::strata;
 pub use signature::Signature;
