@@ -1,5 +1,5 @@
 -- Models as plain data, and what holds of every one.
-use Rattle.std.specs.Prelude.{◌≡◌, ◌⊎◌, ◌+◌, ◌<◌, ◌≤◌, List, [], length, reverse}
+use Rattle.std.specs.Prelude.{◌≡◌, ◌⊎◌, ℕ, ◌+◌, ◌<◌, ◌≤◌, List, [], length, reverse}
 use Rattle.std.specs.List.{AllByRecursion}
 use Rattle.fol_sig.specs.Tables.{Declared}
 use Rattle.fol_sig.specs.Symbols.{Symbols, symbols}
@@ -66,6 +66,17 @@ pub record IsPlaced (m : ModelTree) : Type 0 where
   pub axioms : length m.places.axioms ≡ length m.axioms
   pub conjectures : length m.places.conjectures ≡ length m.conjectures
   pub actions : length m.places.actions ≡ length m.actions
+
+-- each place is among n bytes
+pub record ArePlacesWithin (n : ℕ) (p : Places) : Type 0 where
+  pub functions : AllByRecursion (λ at. at ≤ n) p.functions
+  pub axioms : AllByRecursion (λ at. at ≤ n) p.axioms
+  pub conjectures : AllByRecursion (λ at. at ≤ n) p.conjectures
+  pub init : p.init ≤ n
+  pub actions : AllByRecursion (λ at. at ≤ n) p.actions
+  pub last : p.last ≤ n
+  pub conditions : AllByRecursion (λ c. c.at ≤ n) p.conditions
+  pub quantifiers : AllByRecursion (λ at. at ≤ n) p.quantifiers
 
 -- What a condition of the text assumes: `assume p` assumes p, `assert p` aborts behind an assumption of the negation,
 -- and `if p` assumes p in its first branch and the negation in its second.

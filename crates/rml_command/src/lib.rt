@@ -16,7 +16,7 @@ pub use checked::Checked;
 pub use command::{Command, Primitive};
 pub use goal::{About, Goal, Stage};
 pub use laws::{block_law, goal_law, list_law, path_law, run_law, update_law, value_law};
-pub use listing::{MAX_PATHS, TooManyPaths, paths};
+pub use listing::{MAX_PATHS, TooManyPaths, has_few_paths, paths};
 pub use model::{Model, Parts};
 pub use names::{Name, Names};
 pub use path::Path;

@@ -1,5 +1,5 @@
 // The paths of a block, counted before they are listed.
-ghost use Rattle.std.specs.Prelude.{◌≡◌, ◌+◌, ◌*◌, ◌<◌, ◌≤◌, ◌++◌, ◌∷◌, [], length, IfOk, IfErr, OnOk};
+ghost use Rattle.std.specs.Prelude.{◌≡◌, ◌+◌, ◌*◌, ◌<◌, ◌≤◌, ◌++◌, ◌∷◌, [], length, IfOk, IfErr, OnOk, IsTrue, ◌↔◌};
 ghost use Rattle.std.specs.List.{flat_map};
 ghost use Rattle.rml_row.specs.Because.{Because};
 ghost use Rattle.rml_command.specs.View.{primitive as primitive_view, command as command_view, commands};
@@ -25,13 +25,20 @@ pub fn paths(alloc: Global, command: &Command) -> Result<Vec<Path>, Refused<TooM
     ensures few { OnOk result (length (paths_of (command_view command.now)) ≤ MAX_PATHS) }
     ensures many { IfErr result (Because (λ cause. MAX_PATHS < length (paths_of (command_view command.now)))) }
 {
-    let counts = count(command);
-    if sum(counts.onward, counts.stopped) > MAX_PATHS {
+    if !has_few_paths(command) {
         return Err(Refused::For(TooManyPaths));
     }
     let start = only(alloc, Path::new(alloc))?;
     let all = extend(alloc, start, command)?;
     Ok(all)
+}
+
+/// Whether a block has at most `MAX_PATHS` paths. No path is built, and no memory is taken.
+pub fn has_few_paths(command: &Command) -> bool
+    ensures { IsTrue result ↔ (length (paths_of (command_view command.now)) ≤ MAX_PATHS) }
+{
+    let counts = count(command);
+    sum(counts.onward, counts.stopped) <= MAX_PATHS
 }
 
 // How many paths go on, and how many end in abort. Both stop one above the limit.

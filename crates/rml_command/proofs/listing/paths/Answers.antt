@@ -1,15 +1,22 @@
-use Rattle.std.proofs.Common.{arith, ◌∷◌, [], ap, ◌∙◌}
+use Rattle.std.proofs.Common.{◌≡◌, ℕ, ◌<◌, ◌≤◌, nat_lt, Bool, true, false, IsTrue, ◌↔◌, ◌∷◌, [], length, refl, sym, ap, ◌∙◌}
 use Rattle.std.specs.List.{flat_map}
+use Rattle.std.proofs.lemmas.Bool.{ltb-true, ltb-false}
 use Rattle.rml_command.specs.View.{command}
 use Rattle.rml_command.specs.Paths.{continued, paths_of}
-use Rattle.rml_command.proofs.Counting.{length-counts, continued-start}
+use Rattle.rml_command.proofs.Counting.{continued-start}
 use Rattle.rml_command.proofs.listing.paths.Goals as goal
 
-pub returns-then-sum-gt-MAX_PATHS-clause-many : goal.returns-then-sum-gt-MAX_PATHS-clause-many
-returns-then-sum-gt-MAX_PATHS-clause-many c = omega (arith, length-counts (paths_of (command c.args.command.now)), c.count-counts.ensures.onward, c.count-counts.ensures.stopped, c.sum.ensures, c.if-sum-gt-MAX_PATHS.true)
+more : (n : ℕ) (x : Bool) → nat_lt 4096 n ≡ x → (n ≤ 4096 → ⊥) → 4096 < n
+more n true e never = ltb-true 4096 n e
+more n false e never = absurd (never (ltb-false 4096 n e))
+
+pub returns-then-not-has_few_paths-clause-many : goal.returns-then-not-has_few_paths-clause-many
+returns-then-not-has_few_paths-clause-many c =
+    let n = length (paths_of (command c.args.command.now)) in
+    more n (nat_lt 4096 n) refl (λ le. let has : true ≡ false = sym (c.has_few_paths.ensures.1 le) ∙ c.if-not-has_few_paths.true in cc)
 
 pub returns-clause-few : goal.returns-clause-few
-returns-clause-few c = omega (arith, length-counts (paths_of (command c.args.command.now)), c.count-counts.ensures.onward, c.count-counts.ensures.stopped, c.sum.ensures, c.if-sum-gt-MAX_PATHS.false)
+returns-clause-few c = c.has_few_paths.ensures.0 c.if-not-has_few_paths.false
 
 pub returns-clause-paths : goal.returns-clause-paths
 returns-clause-paths c =
