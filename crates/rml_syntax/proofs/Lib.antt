@@ -11,3 +11,4 @@ pub mod Between
 pub mod Runs
 pub mod Texts
 pub mod Within
+pub mod Shapes

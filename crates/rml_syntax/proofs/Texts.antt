@@ -20,6 +20,8 @@ use Rattle.rml_syntax.proofs.Exact.{chosen, ok_is, err_is, same_kind, same_numbe
 use Rattle.rml_syntax.proofs.Fronts.{cut}
 use Rattle.rml_syntax.proofs.Grammar.{file_good}
 use Rattle.rml_syntax.specs.Within.{TreeWithin}
+use Rattle.rml_syntax.specs.Shape.{IsShaped}
+use Rattle.rml_syntax.proofs.Shapes.{is_shaped}
 use Rattle.rml_syntax.proofs.Within.{tree_within}
 use Rattle.rml_syntax.proofs.Whole.{all_found, all_only, unexpected, deep, IsRefused, OpensTooMany}
 
@@ -244,3 +246,6 @@ stands text ts f h p = rw p.place (first_within text p.front p.rest (subst (AllB
 
 pub within_text : (text : List ℕ) (ts : Tokens) (tree : List ItemTree) → IsTree text ts tree → AllByRecursion (EndsBy (length text)) ts → TreeWithin (length text) tree
 within_text text ts tree h all = tree_within (length text) max_levels ts tree h.1 all
+
+pub shaped_text : (text : List ℕ) (ts : Tokens) (tree : List ItemTree) → IsTree text ts tree → AllByRecursion (EndsBy (length text)) ts → IsShaped tree
+shaped_text text ts tree h all = is_shaped (length text) ts tree h.1 all

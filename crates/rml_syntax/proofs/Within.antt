@@ -18,10 +18,10 @@ use Rattle.rml_syntax.specs.Grammar.{Inner, between, behind, separated, named, l
 use Rattle.rml_syntax.specs.Within.{NameWithin, NamesWithin, BinderWithin, ExprWithin, ExprsWithin, ValueWithin, CommandWithin, BlockWithin, BlocksWithin, CommandsWithin, ItemWithin, TreeWithin}
 
 -- where tokens end by n, the value that they spell is so
-record Keeps (n : ℕ) {A : Type 0} (a : Piece A) (W : A → Type 0) : Type 0 where
-  keeps : (ts : Tokens) (x : A) → a.whole ts x → AllByRecursion (EndsBy n) ts → W x
+pub record Keeps (n : ℕ) {A : Type 0} (a : Piece A) (W : A → Type 0) : Type 0 where
+  pub keeps : (ts : Tokens) (x : A) → a.whole ts x → AllByRecursion (EndsBy n) ts → W x
 
-abbrev OnSome : {A : Type 0} → (A → Type 0) → Option A → Type 0
+abbrev pub OnSome : {A : Type 0} → (A → Type 0) → Option A → Type 0
 OnSome W None = Unit {0}
 OnSome W (Some x) = W x
 
@@ -35,39 +35,39 @@ cut_parts n ts u v e h = parts (EndsBy n) u v (subst (AllByRecursion (EndsBy n))
 -- ---- the words
 
 module _ (n : ℕ) where
-  lexeme_keeps : (k : Kind) → Keeps n (lexeme k) (EndsBy n)
+  pub lexeme_keeps : (k : Kind) → Keeps n (lexeme k) (EndsBy n)
   lexeme_keeps k = record { keeps = λ ts x h all. (subst (AllByRecursion (EndsBy n)) h.0 all).0 }
 
-  nothing_keeps : {A : Type 0} (W : A → Type 0) → Keeps n (nothing {A = A}) W
+  pub nothing_keeps : {A : Type 0} (W : A → Type 0) → Keeps n (nothing {A = A}) W
   nothing_keeps W = record { keeps = λ ts x h all. absurd h }
 
-  both_keeps : {A B : Type 0} {a : Piece A} {b : Piece B} {V : A → Type 0} {W : B → Type 0} → Keeps n a V → Keeps n b W → Keeps n (a ⊗ b) (λ x. V x.0 × W x.1)
+  pub both_keeps : {A B : Type 0} {a : Piece A} {b : Piece B} {V : A → Type 0} {W : B → Type 0} → Keeps n a V → Keeps n b W → Keeps n (a ⊗ b) (λ x. V x.0 × W x.1)
   both_keeps P Q = record { keeps = λ ts x h all. let s = cut_parts n ts h.0 h.1 h.2 all in (P.keeps h.0 x.0 h.3 s.0, Q.keeps h.1 x.1 h.4 s.1) }
 
-  opens_keeps : {A : Type 0} {a : Piece A} {W : A → Type 0} (k : Kind) → Keeps n a W → Keeps n (opens k a) (λ x. EndsBy n x.0 × W x.1)
+  pub opens_keeps : {A : Type 0} {a : Piece A} {W : A → Type 0} (k : Kind) → Keeps n a W → Keeps n (opens k a) (λ x. EndsBy n x.0 × W x.1)
   opens_keeps k Q = record { keeps = λ ts x h all. let s = cut_parts n ts h.0 h.1 h.2 all in ((lexeme_keeps k).keeps h.0 x.0 h.3 s.0, Q.keeps h.1 x.1 h.4 s.1) }
 
-  made_keeps : {A B : Type 0} {a : Piece A} {V : A → Type 0} {W : B → Type 0} (f : A → B) → ((x : A) → V x → W (f x)) → Keeps n a V → Keeps n (a ⇒ f) W
+  pub made_keeps : {A B : Type 0} {a : Piece A} {V : A → Type 0} {W : B → Type 0} (f : A → B) → ((x : A) → V x → W (f x)) → Keeps n a V → Keeps n (a ⇒ f) W
   made_keeps {W = W} f so P = record { keeps = λ ts y h all. subst W (sym h.2) (so h.0 (P.keeps ts h.0 h.1 all)) }
 
-  either_keeps : {A : Type 0} {a b : Piece A} {W : A → Type 0} → Keeps n a W → Keeps n b W → Keeps n (a ∣ b) W
+  pub either_keeps : {A : Type 0} {a b : Piece A} {W : A → Type 0} → Keeps n a W → Keeps n b W → Keeps n (a ∣ b) W
   either_keeps P Q = record { keeps = λ ts x h all. elim h [ inl p ↦ P.keeps ts x p all | inr q ↦ Q.keeps ts x q all ] }
 
-  optional_keeps : {A : Type 0} {a : Piece A} {W : A → Type 0} → Keeps n a W → Keeps n (optional a) (OnSome W)
+  pub optional_keeps : {A : Type 0} {a : Piece A} {W : A → Type 0} → Keeps n a W → Keeps n (optional a) (OnSome W)
   optional_keeps {A = A} {a = a} {W = W} P = record { keeps = each }
     where
       each : (ts : Tokens) (x : Option A) → phrase.optional a.whole ts x → AllByRecursion (EndsBy n) ts → OnSome W x
       each ts None h all = tt
       each ts (Some x) h all = P.keeps ts x h all
 
-  many_keeps : {A : Type 0} {a : Piece A} {W : A → Type 0} → Keeps n a W → Keeps n (many a) (AllByRecursion W)
+  pub many_keeps : {A : Type 0} {a : Piece A} {W : A → Type 0} → Keeps n a W → Keeps n (many a) (AllByRecursion W)
   many_keeps {A = A} {a = a} {W = W} P = record { keeps = each }
     where
       each : (ts : Tokens) (xs : List A) → phrase.many a.whole ts xs → AllByRecursion (EndsBy n) ts → AllByRecursion W xs
       each ts [] h all = tt
       each ts (x ∷ xs) h all = let s = cut_parts n ts h.0 h.1 h.2 all in (P.keeps h.0 x h.3 s.0, each h.1 xs h.4 s.1)
 
-  listed_keeps : {A : Type 0} {a : Piece A} {W : A → Type 0} (k : Kind) → Keeps n a W → Keeps n (listed k a) (AllByRecursion W)
+  pub listed_keeps : {A : Type 0} {a : Piece A} {W : A → Type 0} (k : Kind) → Keeps n a W → Keeps n (listed k a) (AllByRecursion W)
   listed_keeps {A = A} {a = a} {W = W} k P = record { keeps = each }
     where
       each : (ts : Tokens) (xs : List A) → phrase.listed k a.whole ts xs → AllByRecursion (EndsBy n) ts → AllByRecursion W xs
@@ -85,18 +85,18 @@ module _ (n : ℕ) where
   place_within [] all = omega arith
   place_within (t ∷ ts) all = omega (arith, all.0.0, all.0.1)
 
-  placed_keeps : {A : Type 0} {a : Piece A} {W : A → Type 0} → Keeps n a W → Keeps n (placed a) (λ x. (x.0 ≤ n) × W x.1)
+  pub placed_keeps : {A : Type 0} {a : Piece A} {W : A → Type 0} → Keeps n a W → Keeps n (placed a) (λ x. (x.0 ≤ n) × W x.1)
   placed_keeps P = record { keeps = λ ts x h all. (subst (λ m. m ≤ n) (sym h.0) (place_within ts all), P.keeps ts x.1 h.1 all) }
 
   -- ---- the words of the grammar itself
 
-  between_keeps : {A : Type 0} {a : Piece A} {W : A → Type 0} (j k : Kind) → Keeps n a W → Keeps n (between j a k) W
+  pub between_keeps : {A : Type 0} {a : Piece A} {W : A → Type 0} (j k : Kind) → Keeps n a W → Keeps n (between j a k) W
   between_keeps {W = W} j k P = made_keeps {W = W} (λ x. x.0.1) (λ x h. h.0.1) (both_keeps (opens_keeps j P) (lexeme_keeps k))
 
-  behind_keeps : {A : Type 0} {a : Piece A} {W : A → Type 0} (k : Kind) → Keeps n a W → Keeps n (behind k a) W
+  pub behind_keeps : {A : Type 0} {a : Piece A} {W : A → Type 0} (k : Kind) → Keeps n a W → Keeps n (behind k a) W
   behind_keeps {W = W} k P = made_keeps {W = W} (λ x. x.1) (λ x h. h.1) (both_keeps (lexeme_keeps k) P)
 
-  separated_keeps : {A : Type 0} {a : Piece A} {W : A → Type 0} (k : Kind) → Keeps n a W → Keeps n (separated k a) (AllByRecursion W)
+  pub separated_keeps : {A : Type 0} {a : Piece A} {W : A → Type 0} (k : Kind) → Keeps n a W → Keeps n (separated k a) (AllByRecursion W)
   separated_keeps {W = W} k P = made_keeps {W = AllByRecursion W} (λ x. x.0 ∷ x.1) (λ x h. (h.0, h.1)) (both_keeps P (many_keeps (behind_keeps k P)))
 
   start_within : (t : Token) → EndsBy n t → t.start ≤ n
@@ -104,7 +104,7 @@ module _ (n : ℕ) where
 
   -- ---- the nodes
 
-  or_none_within : {A : Type 0} (W : A → Type 0) (x : Option (List A)) → OnSome (AllByRecursion W) x → AllByRecursion W (or_none x)
+  pub or_none_within : {A : Type 0} (W : A → Type 0) (x : Option (List A)) → OnSome (AllByRecursion W) x → AllByRecursion W (or_none x)
   or_none_within W None h = tt
   or_none_within W (Some xs) h = h
 
@@ -147,19 +147,19 @@ module _ (n : ℕ) where
 
   -- ---- the productions
 
-  name_keeps : Keeps n g.name (NameWithin n)
+  pub name_keeps : Keeps n g.name (NameWithin n)
   name_keeps = made_keeps name_of (λ t h. h) (lexeme_keeps kind.Name)
 
-  names_keeps : Keeps n g.names (NamesWithin n)
+  pub names_keeps : Keeps n g.names (NamesWithin n)
   names_keeps = separated_keeps _ name_keeps
 
-  named_keeps : {A : Type 0} {a : Piece A} {W : A → Type 0} → Keeps n a W → Keeps n (named a) (λ x. NameWithin n x.0 × W x.1)
+  pub named_keeps : {A : Type 0} {a : Piece A} {W : A → Type 0} → Keeps n a W → Keeps n (named a) (λ x. NameWithin n x.0 × W x.1)
   named_keeps P = both_keeps name_keeps (behind_keeps _ P)
 
-  binder_keeps : Keeps n g.binder (BinderWithin n)
+  pub binder_keeps : Keeps n g.binder (BinderWithin n)
   binder_keeps = made_keeps binder_of (λ x h. h) (named_keeps name_keeps)
 
-  comparison_keeps : Keeps n g.comparison (λ b. Unit {0})
+  pub comparison_keeps : Keeps n g.comparison (λ b. Unit {0})
   comparison_keeps = record { keeps = λ ts x h all. tt }
 
   record InnerKeeps (I : Inner) : Type 0 where

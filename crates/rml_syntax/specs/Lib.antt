@@ -5,3 +5,4 @@ pub mod Grammar
 pub mod Faults
 pub mod Reading
 pub mod Within
+pub mod Shape

@@ -6,6 +6,7 @@ ghost use Rattle.rml_lex.specs.Tokens.{EndsBy, StandsBy};
 ghost use Rattle.rml_syntax.specs.Tree.{ItemTree, item_trees, file_tree};
 ghost use Rattle.rml_syntax.specs.Faults.{is_one, IsTree, IsFault, place_at, AnswersTree, AnswersFault};
 ghost use Rattle.rml_syntax.specs.Within.{TreeWithin};
+ghost use Rattle.rml_syntax.specs.Shape.{IsShaped};
 ghost use Rattle.rml_syntax.specs.Reading.{Gives, all_at, read_at, is_other_format, fault_of};
 
 use crate::front::Stop;
@@ -108,6 +109,8 @@ pub fn parse(alloc: Global, text: &[u8], tokens: &[Token]) -> Result<Tree, Refus
     ensures fault { IfErr result (Because (IsFault text.now tokens.now)) }
     // the names and the nodes stand in the text
     ensures within { IfOk result (λ tree. TreeWithin (length text.now) (file_tree tree)) }
+    // at most 100 binders lie inside one another, and each choice has a branch
+    ensures shape { IfOk result (λ tree. IsShaped (file_tree tree)) }
     // the tree, and the fault, is answered where there is one, unless memory runs out
     ensures found { (tree : List ItemTree) → IsTree text.now tokens.now tree → AnswersTree result tree }
     ensures refused { (fault : Fault) → IsFault text.now tokens.now fault → AnswersFault result fault }

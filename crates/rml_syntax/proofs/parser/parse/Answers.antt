@@ -1,5 +1,5 @@
 use Rattle.rml_syntax.specs.Tree.{item_trees}
-use Rattle.rml_syntax.proofs.Texts.{reads_tree, stop_fault, one_tree, one_fault, not_both, stands, within_text}
+use Rattle.rml_syntax.proofs.Texts.{reads_tree, stop_fault, one_tree, one_fault, not_both, stands, within_text, shaped_text}
 use Rattle.rml_syntax.proofs.parser.parse.Goals as goal
 
 pub returns-in-Ok-clause-tree : goal.returns-in-Ok-clause-tree
@@ -7,6 +7,9 @@ returns-in-Ok-clause-tree c = reads_tree c.args.text.now c.args.tokens.now (item
 
 pub returns-in-Ok-clause-within : goal.returns-in-Ok-clause-within
 returns-in-Ok-clause-within c = within_text c.args.text.now c.args.tokens.now (item_trees c.in-Ok.items.items) (reads_tree _ _ (item_trees c.in-Ok.items.items) c.in-Ok.ensures) c.requires
+
+pub returns-in-Ok-clause-shape : goal.returns-in-Ok-clause-shape
+returns-in-Ok-clause-shape c = shaped_text c.args.text.now c.args.tokens.now (item_trees c.in-Ok.items.items) (reads_tree _ _ (item_trees c.in-Ok.items.items) c.in-Ok.ensures) c.requires
 
 pub returns-in-Ok-clause-found : goal.returns-in-Ok-clause-found
 returns-in-Ok-clause-found c = λ tree is. one_tree c.args.text.now c.args.tokens.now _ tree (reads_tree _ _ (item_trees c.in-Ok.items.items) c.in-Ok.ensures) is
