@@ -1,0 +1,10 @@
+pub mod Literals
+pub mod Clauses
+pub mod Formulas
+pub mod Words
+pub mod Starts
+pub mod Numerals
+pub mod Answers
+pub mod Reading
+pub mod Writing
+pub mod ReaderState

@@ -1,0 +1,128 @@
+// Formulas in conjunctive normal form.
+ghost use Rattle.std.specs.Prelude.{◌≡◌, IfOk};
+
+use crate::Clause;
+use rml_row::{Mem, Row};
+use std::alloc::Global;
+use std::marker::Model;
+
+/// What an id stands for: a clause, or one that is always true.
+#[derive(Drop)]
+pub enum Entry {
+    Clause(Clause),
+    True,
+}
+
+impl Entry {
+    pub fn copy(&self, alloc: Global) -> Mem<Entry>
+        ensures { IfOk result (λ copy. copy ≡ self.now) }
+    {
+        Ok(match self {
+            Entry::Clause(clause) => Entry::Clause(clause.copy(alloc)?),
+            Entry::True => Entry::True,
+        })
+    }
+}
+
+/// A formula in conjunctive normal form: clauses with the ids 1 to their number, over the variables
+/// 1 to `variables`.
+#[derive(Drop)]
+pub struct Cnf {
+    variables: u32,
+    clauses: Row<Entry>,
+}
+
+impl Model for Cnf {
+    ghost use Rattle.cnf_base.specs.Formulas.{Formula};
+
+    ghost Value = { Formula };
+
+    ghost use Rattle.cnf_base.specs.Formulas.{IsFormula};
+
+    ghost view = { λ c. record { variables = c.variables; clauses = c.clauses } };
+
+    ghost invariant = { λ c. IsFormula (record { variables = c.variables; clauses = c.clauses }) };
+}
+
+impl Cnf {
+    ghost use Rattle.cnf_base.specs.Formulas.{IsFormula};
+
+    pub fn new(variables: u32, clauses: Row<Entry>) -> Cnf
+        requires { IsFormula (record { variables = variables; clauses = clauses }) }
+        ensures { result ≡ record { variables = variables; clauses = clauses } }
+    {
+        Cnf { variables, clauses }
+    }
+
+    pub fn variables(&self) -> u32
+        ensures value { result ≡ self.now.variables }
+        ensures formula { IsFormula self.now }
+    {
+        self.variables
+    }
+
+    pub fn clauses(&self) -> &[Entry]
+        ensures value { result.now ≡ self.now.clauses }
+        ensures formula { IsFormula self.now }
+    {
+        self.clauses.as_slice()
+    }
+
+    pub fn copy(&self, alloc: Global) -> Mem<Cnf>
+        ensures { IfOk result (λ copy. copy ≡ self.now) }
+    {
+        let clauses = copy_entries(alloc, self.clauses.as_slice())?;
+        Ok(Cnf {
+            variables: self.variables,
+            clauses,
+        })
+    }
+}
+
+fn copy_entries(alloc: Global, entries: &[Entry]) -> Mem<Row<Entry>>
+    ensures { IfOk result (λ copies. copies ≡ entries.now) }
+{
+    let mut copies = Vec::with_capacity(alloc, entries.len())?;
+    for entry in entries {
+        copies.push(entry.copy(alloc)?)?;
+    }
+    Ok(Row::from_vec(copies))
+}
+
+/// A truth value for each variable.
+#[derive(Drop)]
+pub struct Values {
+    values: Vec<bool>,
+}
+
+impl Model for Values {
+    ghost use Rattle.std.specs.Prelude.{List, Bool};
+
+    ghost Value = { List Bool };
+
+    ghost view = { λ v. v.values.items };
+}
+
+impl Values {
+    ghost use Rattle.std.specs.Prelude.{◌<◌, ◌≤◌, length};
+    ghost use Rattle.cnf_base.specs.Formulas.{value_of};
+
+    pub fn from_vec(values: Vec<bool>) -> Values
+        ensures { result ≡ values.items }
+    {
+        Values { values }
+    }
+
+    pub fn as_slice(&self) -> &[bool]
+        ensures { result.now ≡ self.now }
+    {
+        &self.values
+    }
+
+    pub fn value(&self, variable: u32) -> bool
+        requires { (0 < variable) × (variable ≤ length self.now) }
+        ensures { result ≡ value_of self.now variable }
+    {
+        self.values[variable as usize - 1]
+    }
+}

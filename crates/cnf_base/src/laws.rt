@@ -1,0 +1,48 @@
+// What follows from the definitions alone.
+ghost use Rattle.std.specs.Prelude.{ℕ, ◌+◌, ◌≤◌, Bool, true, false, not, List, [], ◌∷◌, ◌++◌, length, decimal, Some, Ok, ◌≡◌, ◌↔◌};
+ghost use Rattle.cnf_base.specs.Literals.{opposite, variable_of, is_positive, literal_of, is_true, IsLiteral, AreLiterals};
+ghost use Rattle.cnf_base.specs.declared.cnf.Entry.TheVariants.{Clause};
+ghost use Rattle.cnf_base.specs.Clauses.{IsClause, IsEntry, entry_of, SatisfiesClause, SatisfiesEntry};
+ghost use Rattle.cnf_base.specs.Formulas.{Formula};
+ghost use Rattle.cnf_base.specs.declared.text.Mode.{Mode};
+ghost use Rattle.cnf_base.specs.declared.text.Numeral.{Numeral};
+ghost use Rattle.cnf_base.specs.declared.text.Mode.TheVariants.{InLine};
+ghost use Rattle.cnf_base.specs.Words.{is_blank, behind, words_from};
+ghost use Rattle.cnf_base.specs.Starts.{IsBetween};
+ghost use Rattle.cnf_base.specs.Numerals.{number_of};
+ghost use Rattle.cnf_base.specs.Reading.{read_of};
+ghost use Rattle.cnf_base.specs.Writing.{literal_text, text_of, CanWrite};
+
+/// A literal and its opposite.
+pub fn opposite_laws()
+    ensures twice { (l : ℕ) → opposite (opposite l) ≡ l }
+    ensures differs { (l : ℕ) → opposite l ≡ l → ⊥ }
+    ensures variable { (l : ℕ) → variable_of (opposite l) ≡ variable_of l }
+    ensures literal { (n l : ℕ) → IsLiteral n l → IsLiteral n (opposite l) }
+    ensures truth { (value : ℕ → Bool) (l : ℕ) → is_true value (opposite l) ≡ not (is_true value l) }
+{}
+
+/// What a list of literals makes is over the same variables, and the same truth values satisfy it; a
+/// clause makes itself.
+pub fn entry_laws()
+    ensures entry { (n : ℕ) (ls : List ℕ) → AreLiterals n ls → IsEntry n (entry_of [] ls) }
+    ensures truth { (value : ℕ → Bool) (ls : List ℕ) → SatisfiesEntry value (entry_of [] ls) ↔ SatisfiesClause value ls }
+    ensures clause { (ls : List ℕ) → IsClause ls → entry_of [] ls ≡ Clause ls }
+{}
+
+/// What is written is read again.
+pub fn round_trip()
+    ensures { (f : Formula) → CanWrite f → read_of (text_of f) ≡ Ok f }
+{}
+
+/// A number, or a literal, in front of a blank is one word, which says it.
+pub fn word_laws()
+    ensures number { (mode : Mode) (n : ℕ) (rest : List ℕ) (b at : ℕ) → IsBetween mode → n ≤ 2147483647 → is_blank b ≡ true
+        → words_from mode at (decimal n ++ b ∷ rest) ≡ record { at = at; text = decimal n } ∷ words_from (behind b) (at + length (decimal n) + 1) rest }
+    ensures number_value { (n : ℕ) → n ≤ 2147483647 → number_of (decimal n) ≡ Some (record { negative = false; value = n }) }
+    ensures literal { (mode : Mode) (n l : ℕ) (rest : List ℕ) (at : ℕ) → IsBetween mode → n ≤ 2147483647 → IsLiteral n l
+        → words_from mode at (literal_text l ++ 32 ∷ rest) ≡ record { at = at; text = literal_text l } ∷ words_from InLine (at + length (literal_text l) + 1) rest }
+    ensures literal_value { (n l : ℕ) → n ≤ 2147483647 → IsLiteral n l → number_of (literal_text l) ≡ Some (record { negative = not (is_positive l); value = variable_of l }) }
+    ensures small { (text : List ℕ) (n : Numeral) → number_of text ≡ Some n → n.value ≤ 2147483647 }
+    ensures same { (l : ℕ) → literal_of (not (not (is_positive l))) (variable_of l) ≡ l }
+{}

@@ -1,0 +1,25 @@
+//! Clauses over numbered variables, and their text.
+#![tactic(auto)]
+
+mod clause;
+mod cnf;
+mod laws;
+mod lit;
+mod number;
+mod reader;
+mod text;
+mod words;
+mod writer;
+
+pub use clause::{Clause, entry};
+pub use cnf::{Cnf, Entry, Values};
+pub use laws::{entry_laws, opposite_laws, round_trip, word_laws};
+pub use lit::Lit;
+pub use number::{literal_of, number_of};
+pub use reader::read_cnf;
+pub use text::{CnfFault, Mode, Numeral, Stage};
+pub use words::{Word, Words};
+pub use writer::{push_decimal, push_literals, write_cnf};
+
+#[cfg(test)]
+mod tests;

@@ -1,0 +1,171 @@
+// Reads the text of a formula.
+ghost use Rattle.std.specs.Prelude.{◌≡◌, ◌<◌, ◌^◌, ℕ, List, [], ◌∷◌, ◌++◌, Ok, length, OnOk, IfSome};
+ghost use Rattle.cnf_base.specs.Clauses.{entry_of};
+ghost use Rattle.cnf_base.specs.Formulas.{Formula, IsFormula};
+ghost use Rattle.cnf_base.specs.Reading.{at_start, body_number, take_word, ended, read_of};
+ghost use Rattle.cnf_base.specs.Answers.{Answers};
+ghost use Rattle.cnf_base.specs.ReaderState.{state_of, Takes};
+ghost use Rattle.rml_row.specs.declared.refused.Refused.{Refused};
+ghost use Rattle.rml_row.specs.declared.refused.Refused.TheVariants.{For};
+
+use crate::number::{literal_of, number_of};
+use crate::text::{CnfFault, Numeral, Stage};
+use crate::words::Words;
+use crate::{Cnf, Entry, Lit, entry};
+use rml_row::{Mem, Refused, Row};
+use std::alloc::Global;
+
+// What was read so far.
+#[derive(Drop)]
+struct Reading {
+    stage: Stage,
+    variables: u32,
+    count: u32,
+    entries: Row<Entry>,
+    lits: Vec<Lit>,
+}
+
+fn fault(code: u8, at: u64) -> Refused<CnfFault>
+    ensures { result ≡ For (record { code = code; at = at }) }
+{
+    Refused::For(CnfFault { code, at })
+}
+
+impl Reading {
+    fn new(alloc: Global) -> Reading
+        ensures { state_of result ≡ at_start }
+    {
+        Reading {
+            stage: Stage::Problem,
+            variables: 0,
+            count: 0,
+            entries: Row::new(alloc),
+            lits: Vec::new(alloc),
+        }
+    }
+
+    // Takes a number of the body.
+    fn take_number(
+        &mut self,
+        alloc: Global,
+        number: Option<Numeral>,
+        at: u64,
+    ) -> Result<(), Refused<CnfFault>>
+        requires { IfSome number (λ n. n.value < 2 ^ 31) }
+        ensures { Takes (body_number (state_of self.old) number at) self.new result }
+    {
+        let Some(number) = number else {
+            return Err(fault(2, at));
+        };
+        if number.value > self.variables {
+            return Err(fault(3, at));
+        }
+        if self.entries.len() as u64 == self.count as u64 {
+            return Err(fault(4, at));
+        }
+        if number.value == 0 {
+            match self.end_clause(alloc) {
+                Ok(()) => return Ok(()),
+                Err(_) => return Err(Refused::NoMemory),
+            }
+        }
+        match self.lits.push(literal_of(number)) {
+            Ok(()) => Ok(()),
+            Err(_) => Err(Refused::NoMemory),
+        }
+    }
+
+    // Ends a clause.
+    fn end_clause(&mut self, alloc: Global) -> Mem<()>
+        ensures { OnOk result (state_of self.new ≡ record (state_of self.old) { entries = self.old.entries ++ entry_of [] self.old.lits.items ∷ []; lits = [] }) }
+    {
+        let made = entry(alloc, self.lits.as_slice())?;
+        self.entries.push(made)?;
+        self.lits.clear();
+        Ok(())
+    }
+
+    // Takes a word.
+    fn take_word(&mut self, alloc: Global, word: &[u8], at: u64) -> Result<(), Refused<CnfFault>>
+        ensures { Takes (take_word (state_of self.old) (record { at = at; text = word.now })) self.new result }
+    {
+        match self.stage {
+            Stage::Problem => {
+                if word != b"p".as_slice() {
+                    return Err(fault(1, at));
+                }
+                self.stage = Stage::Format;
+                Ok(())
+            }
+            Stage::Format => {
+                if word != b"cnf".as_slice() {
+                    return Err(fault(1, at));
+                }
+                self.stage = Stage::Variables;
+                Ok(())
+            }
+            Stage::Variables => match number_of(word) {
+                Some(
+                    Numeral {
+                        negative: false,
+                        value,
+                    },
+                ) => {
+                    self.stage = Stage::Clauses;
+                    self.variables = value;
+                    Ok(())
+                }
+                _ => Err(fault(1, at)),
+            },
+            Stage::Clauses => match number_of(word) {
+                Some(
+                    Numeral {
+                        negative: false,
+                        value,
+                    },
+                ) => {
+                    self.stage = Stage::Body;
+                    self.count = value;
+                    Ok(())
+                }
+                _ => Err(fault(1, at)),
+            },
+            Stage::Body => self.take_number(alloc, number_of(word), at),
+        }
+    }
+}
+
+/// The formula that a text in the format DIMACS CNF says, or its first fault, in reading order. Lines
+/// that begin with `c` are comments, wherever they stand. A literal that is repeated counts once; a
+/// clause with opposite literals keeps its id and is always true.
+pub fn read_cnf(alloc: Global, text: &[u8]) -> Result<Cnf, Refused<CnfFault>>
+    ensures { Answers (read_of text.now) result }
+{
+    let mut reading = Reading::new(alloc);
+    let mut words = Words::of(text);
+    while let Some(word) = words.next_word() {
+        match reading.take_word(alloc, word.text, word.at) {
+            Ok(()) => {}
+            Err(e) => return Err(e),
+        }
+    }
+    finish(reading, text.len() as u64)
+}
+
+// What was read, at the end of a text.
+fn finish(reading: Reading, at: u64) -> Result<Cnf, Refused<CnfFault>>
+    requires { (f : Formula) → ended (state_of reading) at ≡ Ok f → IsFormula f }
+    ensures { Answers (ended (state_of reading) at) result }
+{
+    match reading.stage {
+        Stage::Body => {}
+        _ => return Err(fault(1, at)),
+    }
+    if reading.lits.len() != 0 {
+        return Err(fault(5, at));
+    }
+    if reading.entries.len() as u64 != reading.count as u64 {
+        return Err(fault(4, at));
+    }
+    Ok(Cnf::new(reading.variables, reading.entries))
+}

@@ -1,0 +1,144 @@
+// The words of a text.
+ghost use Rattle.std.specs.Prelude.{◌≡◌, ◌≤◌, ◌<◌, ◌+◌, ◌^◌, ℕ, List, [], ◌∷◌, length, not, MatchOption};
+ghost use Rattle.std.specs.List.{prefix_len};
+ghost use Rattle.cnf_base.specs.Words.{is_blank, behind, next_mode, begins_word, words_from, words_of};
+ghost use Rattle.cnf_base.specs.Starts.{IsAtStart};
+
+use crate::text::Mode;
+use std::marker::Model;
+
+/// A word of a text, and the place of its first byte.
+#[derive(Clone, Copy)]
+pub struct Word<'a> {
+    pub at: u64,
+    pub text: &'a [u8],
+}
+
+/// The words of a text that are not taken yet. Words are separated by blanks; a line whose first byte
+/// is `c` is a comment.
+#[derive(Drop)]
+pub struct Words<'a> {
+    rest: &'a [u8],
+    at: u64,
+    mode: Mode,
+}
+
+impl<'a> Model for Words<'a> {
+    ghost use Rattle.std.specs.Prelude.{List, ◌+◌, ◌<◌, ◌^◌, length};
+    ghost use Rattle.cnf_base.specs.Words.{Word, words_from};
+
+    ghost Value = { List Word };
+
+    ghost view = { λ w. words_from w.mode w.at w.rest.now };
+
+    ghost invariant = { λ w. w.at + length w.rest.now < 2 ^ 63 };
+}
+
+fn is_blank(b: u8) -> bool
+    ensures { result ≡ is_blank b }
+{
+    matches!(b, b' ' | b'\t' | b'\r' | b'\n')
+}
+
+fn behind(b: u8) -> Mode
+    ensures { result ≡ behind b }
+{
+    if b == b'\n' {
+        Mode::LineStart
+    } else if is_blank(b) {
+        Mode::InLine
+    } else {
+        Mode::InWord
+    }
+}
+
+fn next_mode(mode: Mode, b: u8) -> Mode
+    ensures { result ≡ next_mode mode b }
+{
+    match mode {
+        Mode::Comment => if b == b'\n' {
+            Mode::LineStart
+        } else {
+            Mode::Comment
+        },
+        Mode::LineStart => if b == b'c' { Mode::Comment } else { behind(b) },
+        Mode::InLine | Mode::InWord => behind(b),
+    }
+}
+
+fn begins_word(mode: Mode, b: u8) -> bool
+    ensures { result ≡ begins_word mode b }
+{
+    match mode {
+        Mode::Comment | Mode::InWord => false,
+        Mode::LineStart => if b == b'c' { false } else { !is_blank(b) },
+        Mode::InLine => !is_blank(b),
+    }
+}
+
+// How many bytes stand before the next blank.
+fn word_len(bytes: &[u8]) -> usize
+    ensures bound { result ≤ length bytes.now }
+    ensures value { result ≡ prefix_len (λ b. not (is_blank b)) bytes.now }
+{
+    let mut count = 0;
+    let mut rest = bytes;
+    while let [b, after @ ..] = rest {
+        if is_blank(*b) {
+            return count;
+        }
+        count += 1;
+        rest = after;
+    }
+    count
+}
+
+// Goes over blanks and comments, up to the first byte of a word.
+fn at_word<'a>(rest: &'a [u8], at: u64, mode: Mode) -> (&'a [u8], u64, Mode)
+    requires { at + length rest.now < 2 ^ 63 }
+    ensures place { result.1 + length result.0.now ≡ at + length rest.now }
+    ensures start { IsAtStart result.2 result.0.now }
+    ensures words { words_from result.2 result.1 result.0.now ≡ words_from mode at rest.now }
+{
+    let mut rest = rest;
+    let mut at = at;
+    let mut mode = mode;
+    while let [b, after @ ..] = rest {
+        if begins_word(mode, *b) {
+            return (rest, at, mode);
+        }
+        mode = next_mode(mode, *b);
+        at += 1;
+        rest = after;
+    }
+    (rest, at, mode)
+}
+
+impl<'a> Words<'a> {
+    pub fn of(text: &'a [u8]) -> Words<'a>
+        ensures { result ≡ words_of text.now }
+    {
+        let _len = text.len();
+        Words {
+            rest: text,
+            at: 0,
+            mode: Mode::LineStart,
+        }
+    }
+
+    /// Takes the next word.
+    pub fn next_word(&mut self) -> Option<Word<'a>>
+        ensures { MatchOption result (self.old ≡ []) (λ w. self.old ≡ record { at = w.at; text = w.text.now } ∷ self.new) }
+    {
+        let (rest, at, _mode) = at_word(self.rest, self.at, self.mode);
+        let len = word_len(rest);
+        if len == 0 {
+            return None;
+        }
+        let (text, after) = rest.split_at(len);
+        self.rest = after;
+        self.at = at + len as u64;
+        self.mode = Mode::InWord;
+        Some(Word { at, text })
+    }
+}

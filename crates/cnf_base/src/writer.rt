@@ -1,0 +1,87 @@
+// Writes the text of a formula.
+ghost use Rattle.std.specs.Prelude.{◌≡◌, ◌++◌, ◌∷◌, OnOk, IfOk, decimal};
+ghost use Rattle.cnf_base.specs.Writing.{literal_text, literals_text, entry_text, entries_text, text_of};
+
+use crate::{Cnf, Entry, Lit};
+use itoa::Buffer;
+use rml_row::Mem;
+use std::alloc::Global;
+
+/// The number in decimal digits, behind what is there.
+pub fn push_decimal(out: &mut Vec<u8>, n: u64) -> Mem<()>
+    ensures { OnOk result (out.new.items ≡ out.old.items ++ decimal n) }
+{
+    let mut buffer = Buffer::new();
+    out.extend_from_slice(buffer.format(n).as_bytes())?;
+    Ok(())
+}
+
+#[tactic(auto, using(std::proofs::Common::append_assoc))]
+fn push_literal(out: &mut Vec<u8>, lit: Lit) -> Mem<()>
+    ensures { OnOk result (out.new.items ≡ out.old.items ++ literal_text lit) }
+{
+    if !lit.is_positive() {
+        out.push(b'-')?;
+    }
+    push_decimal(out, lit.variable() as u64)?;
+    Ok(())
+}
+
+/// The literals, each with a blank behind it, behind what is there.
+#[tactic(auto, using(std::proofs::Common::append_assoc))]
+pub fn push_literals(out: &mut Vec<u8>, lits: &[Lit]) -> Mem<()>
+    ensures { OnOk result (out.new.items ≡ out.old.items ++ literals_text lits.now) }
+{
+    let mut rest = lits;
+    while let [lit, after @ ..] = rest {
+        push_literal(out, *lit)?;
+        out.push(b' ')?;
+        rest = after;
+    }
+    Ok(())
+}
+
+#[tactic(auto, using(std::proofs::Common::append_assoc))]
+fn push_entry(out: &mut Vec<u8>, entry: &Entry) -> Mem<()>
+    ensures { OnOk result (out.new.items ≡ out.old.items ++ entry_text entry.now) }
+{
+    match entry {
+        Entry::Clause(clause) => {
+            push_literals(out, clause.as_slice())?;
+            out.extend_from_slice(b"0\n")?;
+            Ok(())
+        }
+        Entry::True => {
+            out.extend_from_slice(b"1 -1 0\n")?;
+            Ok(())
+        }
+    }
+}
+
+#[tactic(auto, using(std::proofs::Common::append_assoc))]
+fn push_entries(out: &mut Vec<u8>, entries: &[Entry]) -> Mem<()>
+    ensures { OnOk result (out.new.items ≡ out.old.items ++ entries_text entries.now) }
+{
+    let mut rest = entries;
+    while let [entry, after @ ..] = rest {
+        push_entry(out, entry)?;
+        rest = after;
+    }
+    Ok(())
+}
+
+/// The text of a formula in the format DIMACS CNF: the header, then a clause a line. It is read again
+/// as the same formula where it has at most 2147483647 variables and as many clauses.
+#[tactic(auto, using(std::proofs::Common::append_assoc))]
+pub fn write_cnf(alloc: Global, cnf: &Cnf) -> Mem<Vec<u8>>
+    ensures { IfOk result (λ text. text.items ≡ text_of cnf.now) }
+{
+    let mut out = Vec::new(alloc);
+    out.extend_from_slice(b"p cnf ")?;
+    push_decimal(&mut out, cnf.variables() as u64)?;
+    out.push(b' ')?;
+    push_decimal(&mut out, cnf.clauses().len() as u64)?;
+    out.push(b'\n')?;
+    push_entries(&mut out, cnf.clauses())?;
+    Ok(out)
+}
