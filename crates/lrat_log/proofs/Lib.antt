@@ -1,0 +1,6 @@
+pub mod Opposites
+pub mod Sound
+pub mod Growth
+pub mod Resolvent
+pub mod Readings
+pub mod Again

@@ -1,0 +1,25 @@
+// What the layers that decide share: limits, and what shows that a budget was spent.
+ghost use Rattle.std.specs.Prelude.{◌≤◌, ◌<◌};
+
+use crate::Log;
+use cnf_base::Cnf;
+
+/// The limits of a decision: the number of ground terms, the size of the ground formula, and the
+/// number of clauses that the solver may learn.
+#[derive(Clone, Copy)]
+pub struct Limits {
+    pub terms: u64,
+    pub ground_size: u64,
+    pub conflicts: u64,
+    ghost terms_in_range: { (0 < terms) × (terms ≤ 100000) },
+    ghost ground_size_in_range: { (0 < ground_size) × (ground_size ≤ 50000000) },
+    ghost conflicts_in_range: { (0 < conflicts) × (conflicts ≤ 10000000) },
+}
+
+/// A budget of learnt clauses that was spent, with the clauses and the log that show it.
+#[derive(Drop)]
+pub struct Spent {
+    pub budget: u64,
+    pub cnf: Cnf,
+    pub log: Log,
+}
