@@ -1,0 +1,10 @@
+pub mod Literals
+pub mod Lines
+pub mod Steps
+pub mod Search
+pub mod Marks
+pub mod Deletion
+pub mod Growth
+pub mod Taken
+pub mod Room
+pub mod Stepping

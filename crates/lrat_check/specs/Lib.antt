@@ -1,0 +1,6 @@
+pub mod Spans
+pub mod TableValue
+pub mod TableState
+pub mod Checked
+pub mod CheckerState
+pub mod Whole

@@ -1,0 +1,187 @@
+// A checker of logs.
+use crate::table::Table;
+use cnf_base::{Cnf, Entry, Lit};
+use lrat_log::{Line, Outcome, soundness};
+use rml_row::{Mem, Refused, Row};
+use std::alloc::Global;
+use std::marker::Model;
+
+/// A line was refused: 1 unknown id, 2 hint is neither unit nor false, 3 no conflict. The id is the
+/// line's.
+#[derive(Clone, Copy, PartialEq, Eq, Debug)]
+pub struct Refusal {
+    pub code: u8,
+    pub id: u64,
+}
+
+/// A checker of logs: a formula, and the lines that were accepted one after another.
+#[derive(Drop)]
+pub struct Checker {
+    cnf: Cnf,
+    lines: Vec<Line>,
+    table: Table,
+    is_refuted: bool,
+}
+
+impl Model for Checker {
+    ghost use Rattle.lrat_check.specs.Checked.{Checked};
+
+    ghost Value = { Checked };
+
+    ghost use Rattle.lrat_check.specs.CheckerState.{value_of_checker, IsChecker};
+
+    ghost view = { value_of_checker };
+
+    ghost invariant = { IsChecker };
+}
+
+ghost use Rattle.std.specs.Prelude.{◌≡◌, ℕ, ◌+◌, ◌<◌, ◌≤◌, List, [], ◌∷◌, ◌++◌, length, All, IfOk, OnOk, OnErr, IfErr, IsTrue};
+ghost use Rattle.rml_row.specs.Because.{Because};
+ghost use Rattle.cnf_base.specs.Formulas.{IsUnsatisfiable};
+ghost use Rattle.lrat_log.specs.declared.line.Line.TheVariants.{Add, Delete};
+ghost use Rattle.lrat_log.specs.declared.outcome.Outcome.TheVariants.{Accepted};
+ghost use Rattle.lrat_log.specs.Held.{held_of, with_entry};
+ghost use Rattle.lrat_log.specs.Accepted.{outcome_of, outcome_of_addition, outcome_of_deletion, IsAccepted, adds_empty};
+ghost use Rattle.lrat_check.specs.TableValue.{held_by_table};
+ghost use Rattle.lrat_check.specs.Checked.{Checked, held_by, last_of, MayStep, Follows, IsRefusal};
+
+impl Checker {
+    /// A checker that has accepted no line yet. The formula is copied.
+    pub fn new(alloc: Global, cnf: &Cnf) -> Mem<Checker>
+        ensures { IfOk result (λ c. c ≡ record { formula = cnf.now; lines = [] }) }
+    {
+        let copy = cnf.copy(alloc)?;
+        let table = table_of(alloc, &copy)?;
+        Ok(Checker {
+            cnf: copy,
+            lines: Vec::new(alloc),
+            table,
+            is_refuted: false,
+        })
+    }
+
+    /// Whether an addition without literals was accepted.
+    pub fn is_refuted(&self) -> bool
+        ensures exact { result ≡ adds_empty self.now.lines }
+        ensures unsatisfiable { IsTrue result → IsUnsatisfiable self.now.formula }
+    {
+        soundness();
+        self.is_refuted
+    }
+
+    /// Takes one line, if it is accepted. A step costs the literals of the line's hints, whatever else
+    /// is held.
+    pub fn step(&mut self, line: &Line) -> Result<(), Refused<Refusal>>
+        requires { MayStep self.old line.now }
+        ensures accepted { OnOk result (outcome_of (held_by self.old) line.now ≡ Accepted) }
+        ensures kept { OnOk result (self.new ≡ record { formula = self.old.formula; lines = self.old.lines ++ line.now ∷ [] }) }
+        ensures follows { OnOk result (Follows self.old line.now) }
+        ensures refused { IfErr result (Because (IsRefusal (outcome_of (held_by self.old) line.now) line.now)) }
+        ensures unchanged { OnErr result (self.new ≡ self.old) }
+    {
+        soundness();
+        match line {
+            Line::Add { id, lits, hints } => self.take_addition(*id, lits, hints),
+            Line::Delete { id, ids } => self.take_deletion(*id, ids),
+        }
+    }
+
+    /// The lines that were accepted.
+    pub fn lines(&self) -> &[Line]
+        ensures value { result.now ≡ self.now.lines }
+        ensures accepted { IsAccepted self.now.formula self.now.lines }
+    {
+        self.lines.as_slice()
+    }
+
+    fn take_addition(
+        &mut self,
+        id: u64,
+        lits: &Row<Lit>,
+        hints: &Row<u64>,
+    ) -> Result<(), Refused<Refusal>>
+        requires { MayStep self.old (Add id lits.now hints.now) }
+        ensures accepted { OnOk result (outcome_of_addition (held_by self.old) lits.now hints.now ≡ Accepted) }
+        ensures kept { OnOk result (self.new ≡ record { formula = self.old.formula; lines = self.old.lines ++ Add id lits.now hints.now ∷ [] }) }
+        ensures refused { IfErr result (Because (IsRefusal (outcome_of_addition (held_by self.old) lits.now hints.now) (Add id lits.now hints.now))) }
+        ensures unchanged { OnErr result (self.new ≡ self.old) }
+    {
+        let clause = lits.as_slice();
+        let checked = self.table.check_addition(clause, hints.as_slice())?;
+        match checked.0 {
+            Outcome::Refused(code) => return Err(Refused::For(Refusal { code, id })),
+            Outcome::Accepted => {}
+        }
+        let line = copy_addition(*self.lines.allocator(), id, lits, hints)?;
+        self.lines.reserve(1)?;
+        self.table.add(id, clause, checked.1)?;
+        self.is_refuted = self.is_refuted | clause.is_empty();
+        match self.lines.push(line) {
+            Ok(()) => {}
+            Err(_) => unreachable!(),
+        }
+        Ok(())
+    }
+
+    fn take_deletion(&mut self, id: u64, ids: &Row<u64>) -> Result<(), Refused<Refusal>>
+        ensures accepted { OnOk result (outcome_of_deletion (held_by self.old) ids.now ≡ Accepted) }
+        ensures kept { OnOk result (self.new ≡ record { formula = self.old.formula; lines = self.old.lines ++ Delete id ids.now ∷ [] }) }
+        ensures refused { IfErr result (Because (IsRefusal (outcome_of_deletion (held_by self.old) ids.now) (Delete id ids.now))) }
+        ensures unchanged { OnErr result (self.new ≡ self.old) }
+    {
+        match self.table.check_deletion(ids.as_slice()) {
+            Outcome::Refused(code) => return Err(Refused::For(Refusal { code, id })),
+            Outcome::Accepted => {}
+        }
+        let line = copy_deletion(*self.lines.allocator(), id, ids)?;
+        match self.lines.push(line) {
+            Ok(()) => {}
+            Err(_) => return Err(Refused::NoMemory),
+        }
+        self.table.delete(ids.as_slice());
+        Ok(())
+    }
+}
+
+fn copy_addition(alloc: Global, id: u64, lits: &Row<Lit>, hints: &Row<u64>) -> Mem<Line>
+    ensures { IfOk result (λ line. line ≡ Add id lits.now hints.now) }
+{
+    Ok(Line::Add {
+        id,
+        lits: Row::from_vec(Vec::from_slice(alloc, lits.as_slice())?),
+        hints: Row::from_vec(Vec::from_slice(alloc, hints.as_slice())?),
+    })
+}
+
+fn copy_deletion(alloc: Global, id: u64, ids: &Row<u64>) -> Mem<Line>
+    ensures { IfOk result (λ line. line ≡ Delete id ids.now) }
+{
+    Ok(Line::Delete {
+        id,
+        ids: Row::from_vec(Vec::from_slice(alloc, ids.as_slice())?),
+    })
+}
+
+// A table that holds the clauses of a formula, under the ids 1, 2, ..
+fn table_of(alloc: Global, cnf: &Cnf) -> Mem<Table>
+    ensures held { IfOk result (λ t. (k : ℕ) → held_by_table t k ≡ held_of cnf.now k) }
+    ensures last { IfOk result (λ t. All (λ s. s.id ≤ length cnf.now.clauses) t.spans) }
+{
+    let mut table = Table::new(alloc, cnf.clauses().len())?;
+    for (i, entry) in cnf.clauses().iter().enumerate() {
+        let id = i as u64 + 1;
+        add_entry(&mut table, id, entry)?;
+    }
+    Ok(table)
+}
+
+fn add_entry(table: &mut Table, id: u64, entry: &Entry) -> Mem<()>
+    requires { All (λ s. s.id < id) table.old.spans }
+    ensures held { OnOk result ((k : ℕ) → held_by_table table.new k ≡ with_entry (held_by_table table.old) id entry.now k) }
+    ensures spans { OnOk result (All (λ s. s.id ≤ id) table.new.spans) }
+{
+    match entry {
+        Entry::Clause(clause) => table.add(id, clause.as_slice(), false),
+        Entry::True => table.add(id, &[], true),
+    }
+}

@@ -1,0 +1,15 @@
+//! A checker of logs in the format LRAT, without RAT steps.
+#![tactic(auto)]
+
+mod checker;
+mod hints;
+mod spans;
+mod stamps;
+mod table;
+mod whole;
+
+pub use checker::{Checker, Refusal};
+pub use whole::check_log;
+
+#[cfg(test)]
+mod tests;

@@ -1,0 +1,33 @@
+// A whole log.
+ghost use Rattle.std.specs.Prelude.{◌≡◌, length, Some, IfOk, IfErr, OnOk};
+ghost use Rattle.rml_row.specs.Because.{Because};
+ghost use Rattle.lrat_log.specs.Held.{held_of};
+ghost use Rattle.lrat_log.specs.Accepted.{IsAccepted};
+ghost use Rattle.lrat_log.specs.Logs.{IsLogOver};
+ghost use Rattle.lrat_check.specs.Whole.{first_refusal};
+
+use crate::checker::{Checker, Refusal};
+use cnf_base::Cnf;
+use lrat_log::Log;
+use rml_row::Refused;
+use std::alloc::Global;
+
+/// A checker that has accepted every line of a log, or the refusal of the first line that is not
+/// accepted. Whether the log refutes the formula is then `is_refuted`.
+pub fn check_log(alloc: Global, cnf: &Cnf, log: &Log) -> Result<Checker, Refused<Refusal>>
+    requires { IsLogOver cnf.now.variables (length cnf.now.clauses) log.now }
+    ensures checked { IfOk result (λ c. c ≡ record { formula = cnf.now; lines = log.now }) }
+    ensures accepted { OnOk result (IsAccepted cnf.now log.now) }
+    ensures refused { IfErr result (Because (λ r. first_refusal (held_of cnf.now) log.now ≡ Some r)) }
+{
+    let mut checker = Checker::new(alloc, cnf)?;
+    let mut rest = log.lines();
+    while let [line, after @ ..] = rest {
+        match checker.step(line) {
+            Ok(()) => {}
+            Err(e) => return Err(e),
+        }
+        rest = after;
+    }
+    Ok(checker)
+}
