@@ -1,0 +1,138 @@
+// What is shown of a group that fails.
+ghost use Rattle.std.specs.Prelude.{◌≡◌, ◌++◌, OnOk};
+ghost use Rattle.rml_report.specs.Reports.{IsRefutation};
+ghost use Rattle.rml_report.specs.Words.{name_at};
+ghost use Rattle.rml_report.specs.ReportText.{path_line, stopped_text, least_text, least_line, outcome_of, end_tables, end_text, outcome_text, block_text};
+
+use crate::cause::{Cause, Least};
+use crate::tables::{push_sorts, push_tables};
+use crate::words::{
+    push_cause, push_labelled, push_name, push_number, push_numbers_line, push_text,
+};
+use fol_sig::Sort;
+use rml_command::{About, Checked, Names};
+use rml_exec::{Counterexample, Followed, follow};
+use rml_row::Mem;
+use std::alloc::Global;
+
+#[tactic(auto, using(std::proofs::Common::append_assoc), unfolding(crate::specs::ReportText::path_line))]
+fn push_path_line(alloc: Global, out: &mut Vec<u8>, path: u32, paths: u32) -> Mem<()>
+    ensures { OnOk result (out.new.items ≡ out.old.items ++ path_line path paths) }
+{
+    push_text(out, "  path ")?;
+    push_number(alloc, out, path as u64)?;
+    push_text(out, " of ")?;
+    push_number(alloc, out, paths as u64)?;
+    push_text(out, "\n")?;
+    Ok(())
+}
+
+#[tactic(auto, using(std::proofs::Common::append_assoc), unfolding(crate::specs::ReportText::stopped_text))]
+fn push_stopped(
+    alloc: Global,
+    out: &mut Vec<u8>,
+    names: &Names,
+    sort: Sort,
+    size: u64,
+    cause: &Cause,
+) -> Mem<()>
+    ensures { OnOk result (out.new.items ≡ out.old.items ++ stopped_text (name_at names.now.sorts sort.0) size cause.now) }
+{
+    push_labelled(out, "stopped ", names.sorts.as_slice(), sort.0, " ")?;
+    push_number(alloc, out, size)?;
+    push_text(out, " ")?;
+    push_cause(alloc, out, cause)?;
+    Ok(())
+}
+
+fn push_least(alloc: Global, out: &mut Vec<u8>, names: &Names, least: &Least) -> Mem<()>
+    ensures { OnOk result (out.new.items ≡ out.old.items ++ least_text names.now least.now) }
+{
+    match least {
+        Least::Yes => push_text(out, "yes"),
+        Least::NotSought => push_text(out, "not sought"),
+        Least::Stopped { sort, size, cause } => push_stopped(
+            alloc, out, names, *sort, *size, cause,
+        ),
+    }
+}
+
+#[tactic(auto, using(std::proofs::Common::append_assoc), unfolding(crate::specs::ReportText::least_line))]
+fn push_least_line(alloc: Global, out: &mut Vec<u8>, names: &Names, least: &Least) -> Mem<()>
+    ensures { OnOk result (out.new.items ≡ out.old.items ++ least_line names.now least.now) }
+{
+    push_text(out, "  least: ")?;
+    push_least(alloc, out, names, least)?;
+    push_text(out, "\n")?;
+    Ok(())
+}
+
+// The tables of the structure in which the shown path ends.
+fn push_end_tables(
+    alloc: Global,
+    out: &mut Vec<u8>,
+    checked: &Checked,
+    shown: &Counterexample,
+) -> Mem<()>
+    requires { IsRefutation checked.now shown.now }
+    ensures { OnOk result (out.new.items ≡ out.old.items ++ end_tables checked.now.names (outcome_of checked.now shown.now)) }
+{
+    let path = checked.path(&shown.goal);
+    match follow(alloc, checked, path, &shown.trace, &shown.structure)? {
+        Followed::Ended(end) => push_tables(alloc, out, checked.model(), &end),
+        Followed::Aborted | Followed::Blocked => Ok(()),
+    }
+}
+
+#[tactic(auto, using(std::proofs::Common::append_assoc), unfolding(crate::specs::ReportText::end_text))]
+fn push_end(alloc: Global, out: &mut Vec<u8>, checked: &Checked, shown: &Counterexample) -> Mem<()>
+    requires { IsRefutation checked.now shown.now }
+    ensures { OnOk result (out.new.items ≡ out.old.items ++ end_text checked.now shown.now) }
+{
+    push_text(out, "  after\n")?;
+    push_end_tables(alloc, out, checked, shown)?;
+    push_numbers_line(alloc, out, "  values:", shown.values.as_slice())?;
+    Ok(())
+}
+
+fn push_outcome(
+    alloc: Global,
+    out: &mut Vec<u8>,
+    checked: &Checked,
+    about: About,
+    shown: &Counterexample,
+) -> Mem<()>
+    requires { IsRefutation checked.now shown.now }
+    ensures { OnOk result (out.new.items ≡ out.old.items ++ outcome_text checked.now about shown.now) }
+{
+    match about {
+        About::Abort => push_text(out, "  aborts\n"),
+        About::Conjecture(_) => push_end(alloc, out, checked, shown),
+    }
+}
+
+/// The lines of a group that fails, from the end of its head on.
+#[tactic(auto, using(std::proofs::Common::append_assoc), unfolding(crate::specs::ReportText::block_text))]
+pub fn push_block(
+    alloc: Global,
+    out: &mut Vec<u8>,
+    checked: &Checked,
+    about: About,
+    paths: u32,
+    least: &Least,
+    shown: &Counterexample,
+) -> Mem<()>
+    requires { IsRefutation checked.now shown.now }
+    ensures { OnOk result (out.new.items ≡ out.old.items ++ block_text checked.now about paths least.now shown.now) }
+{
+    let model = checked.model();
+    push_text(out, ": fails\n")?;
+    push_path_line(alloc, out, shown.trace.path, paths)?;
+    push_least_line(alloc, out, model.names(), least)?;
+    push_text(out, "  before\n")?;
+    push_sorts(alloc, out, model, &shown.structure)?;
+    push_tables(alloc, out, model, &shown.structure)?;
+    push_numbers_line(alloc, out, "  havoc:", shown.trace.havoc.as_slice())?;
+    push_outcome(alloc, out, checked, about, shown)?;
+    Ok(())
+}
