@@ -1,0 +1,116 @@
+// A model is checked.
+ghost use Rattle.std.specs.Prelude.{◌≡◌, map, IfOk, OnOk, IfErr};
+ghost use Rattle.std.specs.List.{AllByRecursion};
+ghost use Rattle.rml_row.specs.Because.{Because};
+ghost use Rattle.rml_lex.specs.declared.token.Fault.{Fault as OneFault};
+ghost use Rattle.rml_command.specs.View.{command as command_view};
+ghost use Rattle.rml_command.specs.Paths.{paths_of};
+ghost use Rattle.rml_command.specs.Models.{EachBlock};
+ghost use Rattle.rml_command.specs.Fragment.{HasFewPaths, IsChecked};
+ghost use Rattle.rml_fragment.specs.First.{IsFirst};
+ghost use Rattle.rml_fragment.specs.Faults.{Breaks, HasLongBlock, IsFault};
+
+use crate::fragment::fragment_fault;
+use crate::laws::passing_law;
+use crate::long::long_block_fault;
+use rml_command::{Checked, Command, Model, Path, paths};
+use rml_lex::Fault;
+use rml_row::{Mem, Refused, Row};
+use std::alloc::{AllocError, Global};
+
+/// The model with the paths of its blocks, or its fault: 15 to 19 where it leaves the fragment, and only
+/// where it does not, 20 for a block of more than 4,096 paths. A model with a fault is dropped.
+pub fn check(alloc: Global, model: Model) -> Result<Checked, Refused<Fault>>
+    ensures model { IfOk result (λ c. c ≡ model) }
+    ensures checked { OnOk result (IsChecked model) }
+    ensures faultless { OnOk result ((fault : OneFault) → IsFault model fault → ⊥) }
+    ensures fault { IfErr result (Because (IsFault model)) }
+{
+    match fragment_fault(alloc, &model)? {
+        Some(fault) => Err(Refused::For(fault)),
+        None => check_blocks(alloc, model),
+    }
+}
+
+// The model is in the fragment.
+fn check_blocks(alloc: Global, model: Model) -> Result<Checked, Refused<Fault>>
+    requires { (fault : OneFault) → Breaks model fault → ⊥ }
+    ensures model { IfOk result (λ c. c ≡ model) }
+    ensures checked { OnOk result (IsChecked model) }
+    ensures faultless { OnOk result ((fault : OneFault) → HasLongBlock model fault → ⊥) }
+    ensures fault { IfErr result (Because (IsFirst (HasLongBlock model))) }
+{
+    let _ = model.signature();
+    passing_law();
+    match long_block_fault(&model) {
+        Some(fault) => Err(Refused::For(fault)),
+        None => {
+            let checked = with_paths(alloc, model)?;
+            Ok(checked)
+        }
+    }
+}
+
+fn with_paths(alloc: Global, model: Model) -> Mem<Checked>
+    requires { IsChecked model }
+    ensures { IfOk result (λ c. c ≡ model) }
+{
+    match block_lists(alloc, &model) {
+        Err(wanting) => Err(wanting),
+        Ok(
+            BlockPaths {
+                init,
+                actions,
+                last,
+            },
+        ) => Ok(Checked::new(model, init, actions, last)),
+    }
+}
+
+// The paths of the blocks of a model.
+#[derive(Drop)]
+struct BlockPaths {
+    init: Row<Path>,
+    actions: Row<Row<Path>>,
+    last: Row<Path>,
+}
+
+fn block_lists(alloc: Global, model: &Model) -> Mem<BlockPaths>
+    requires { EachBlock HasFewPaths model.now }
+    ensures init { IfOk result (λ l. l.init ≡ paths_of model.now.init) }
+    ensures actions { IfOk result (λ l. l.actions ≡ map paths_of model.now.actions) }
+    ensures last { IfOk result (λ l. l.last ≡ paths_of model.now.last) }
+{
+    let init = block_paths(alloc, model.init())?;
+    let actions = action_paths(alloc, model.actions())?;
+    let last = block_paths(alloc, model.last())?;
+    Ok(BlockPaths {
+        init,
+        actions,
+        last,
+    })
+}
+
+fn block_paths(alloc: Global, block: &Command) -> Mem<Row<Path>>
+    requires { HasFewPaths (command_view block.now) }
+    ensures { IfOk result (λ ps. ps ≡ paths_of (command_view block.now)) }
+{
+    match paths(alloc, block) {
+        Ok(all) => Ok(Row::from_vec(all)),
+        Err(Refused::For(_)) => unreachable!(),
+        Err(Refused::NoMemory) => Err(AllocError),
+    }
+}
+
+fn action_paths(alloc: Global, actions: &[Command]) -> Mem<Row<Row<Path>>>
+    requires { AllByRecursion HasFewPaths (map command_view actions.now) }
+    ensures { IfOk result (λ all. all ≡ map paths_of (map command_view actions.now)) }
+{
+    let mut all = Row::new(alloc);
+    let mut rest = actions;
+    while let [action, after @ ..] = rest {
+        all.push(block_paths(alloc, action)?)?;
+        rest = after;
+    }
+    Ok(all)
+}

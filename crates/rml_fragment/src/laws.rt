@@ -1,0 +1,23 @@
+// What follows from the definitions alone. The function is its contract, and does nothing.
+ghost use Rattle.rml_fragment.specs.Laws.{FaultsAreExact, FaultsStandInText, PassedIsChecked};
+
+/// A model has at most one fault, and has none exactly where it can be checked.
+pub fn fault_law()
+    ensures { FaultsAreExact }
+{
+    fol_sig::cycle_law();
+    fol_formula::decision();
+}
+
+/// The fault of a model stands where its places do.
+pub fn place_law()
+    ensures { FaultsStandInText }
+{}
+
+// Where no phase gives a fault, the model can be checked.
+pub fn passing_law()
+    ensures { PassedIsChecked }
+{
+    fol_sig::cycle_law();
+    fol_formula::decision();
+}
