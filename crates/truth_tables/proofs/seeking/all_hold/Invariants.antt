@@ -1,0 +1,15 @@
+use Rattle.std.proofs.Common.{◌≡◌, [], length}
+use Rattle.std.specs.List.{AllByRecursion}
+use Rattle.fol_sig.specs.Symbols.{symbols}
+use Rattle.fol_formula.specs.Fits.{FitsForm}
+use Rattle.rml_command.specs.Outcomes.{satisfies}
+use Rattle.truth_tables.proofs.seeking.all_hold.Given as goal
+
+abbrev pub invariant-loop-rest : goal.invariant-loop-rest
+invariant-loop-rest l = record {
+  left : satisfies l.structure l.rest ≡ satisfies l.structure l.sentences;
+  fits : AllByRecursion (FitsForm (symbols l.checked.signature) []) l.rest;
+}
+
+abbrev pub decreases-loop-rest : goal.decreases-loop-rest
+decreases-loop-rest l = length l.rest
