@@ -4,3 +4,6 @@
 mod request;
 
 pub use request::{Request, read_words};
+
+#[cfg(test)]
+mod tests;
