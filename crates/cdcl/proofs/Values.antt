@@ -1,0 +1,112 @@
+-- Truth values that satisfy a formula.
+use Rattle.std.proofs.Common.{◌≡◌, ℕ, ◌+◌, ◌-◌, ◌*◌, ◌/◌, ◌%◌, ◌<◌, ◌≤◌, ◌⊎◌, not, Bool, true, false, List, [], ◌∷◌, ◌++◌, length, get_or, arith, ap, sym, ◌∙◌, inl, inr, Some}
+use Rattle.std.proofs.lemmas.Grind.{common_steps}
+use Rattle.std.proofs.lemmas.Bool.{cases_lt}
+use Rattle.std.proofs.Math.ListN.{get_or-append}
+use Rattle.std.proofs.Math.Seq.{get_or-append_seam}
+use Rattle.cnf_base.specs.declared.cnf.Entry.{Entry}
+use Rattle.cnf_base.specs.declared.cnf.Entry.TheVariants.{Clause, True}
+use Rattle.cnf_base.specs.Literals.{variable_of, opposite, is_true, IsLiteral}
+use Rattle.cnf_base.specs.Clauses.{SatisfiesEntry}
+use Rattle.cnf_base.specs.Formulas.{Formula, IsModel, value_of}
+use Rattle.lrat_log.specs.declared.line.Line.{Line}
+use Rattle.lrat_log.specs.Learnt.{IsConsistent}
+use Rattle.cdcl.specs.declared.search.Search.{Search}
+use Rattle.cdcl.specs.TrailValue.{TrailValue}
+use Rattle.cdcl.specs.Trail.{is_set}
+use Rattle.cdcl.specs.Assigned.{AreAllSet, HasValue}
+use Rattle.cdcl.specs.State.{held_in, pairs_of}
+use Rattle.cdcl.specs.Solver.{IsSolver}
+use Rattle.cdcl.specs.Logged.{IsLogged}
+use Rattle.cdcl.proofs.Entries.{held_at}
+use Rattle.cdcl.proofs.Literals.{opposite-even, opposite-odd}
+use Rattle.cdcl.proofs.Members.{member_all}
+use Rattle.cdcl.proofs.Trails.{trail_consistent}
+use Rattle.cdcl.proofs.Watching.{safe_satisfied}
+use Rattle.cdcl.proofs.Logging.{literal_in}
+
+pub value_more : (vs : List Bool) (index : ℕ) (b : Bool) (set : ℕ → Bool) (size : ℕ) → length vs ≡ index → (2 * (index + 1) < size → b ≡ set (2 * (index + 1)))
+    → ((i : ℕ) → 0 < i → i ≤ index → 2 * i < size → value_of vs i ≡ set (2 * i)) → (i : ℕ) → 0 < i → i ≤ index + 1 → 2 * i < size → value_of (vs ++ b ∷ []) i ≡ set (2 * i)
+value_more vs index b set size n here a i p h s = at (cases_lt i (index + 1))
+  where
+    at : (i < index + 1) ⊎ (index + 1 ≤ i) → value_of (vs ++ b ∷ []) i ≡ set (2 * i)
+    at (inl q) = get_or-append vs (b ∷ []) false (i - 1) (omega arith) ∙ a i p (omega arith) s
+    at (inr q) =
+        let e : i ≡ index + 1 = omega arith in
+        let k : i - 1 ≡ length vs = omega arith in
+        ap (λ (j : ℕ). get_or (vs ++ b ∷ []) j false) k ∙ get_or-append_seam vs b [] false ∙ here (let x = s in omega arith) ∙ ap (λ (j : ℕ). set (2 * j)) (sym e)
+
+-- a literal is the one or the other of its variable
+even_or_odd : (l : ℕ) → (l ≡ 2 * variable_of l) ⊎ (l ≡ 2 * variable_of l + 1)
+even_or_odd l = at (cases_lt (l % 2) 1)
+  where
+    at : (l % 2 < 1) ⊎ (1 ≤ l % 2) → (l ≡ 2 * (l / 2)) ⊎ (l ≡ 2 * (l / 2) + 1)
+    at (inl h) = inl (omega arith)
+    at (inr h) = inr (omega arith)
+
+true_even : (value : ℕ → Bool) (v : ℕ) → is_true value (2 * v) ≡ value v
+unfolding is_true
+true_even value v = grind (arith, common_steps)
+
+true_odd : (value : ℕ → Bool) (v : ℕ) → is_true value (2 * v + 1) ≡ not (value v)
+unfolding is_true
+true_odd value v = grind (arith, common_steps)
+
+-- a literal that is set is true
+set_is_true : (set value : ℕ → Bool) (l size : ℕ) → IsConsistent set → ((i : ℕ) → 0 < i → 2 * i < size → value i ≡ set (2 * i)) → 0 < variable_of l → 2 * variable_of l < size → set l ≡ true → is_true value l ≡ true
+set_is_true set value l size k a p h s = at (even_or_odd l)
+  where
+    at : (l ≡ 2 * variable_of l) ⊎ (l ≡ 2 * variable_of l + 1) → is_true value l ≡ true
+    at (inl e) = ap (is_true value) e ∙ true_even value (variable_of l) ∙ a (variable_of l) p h ∙ ap set (sym e) ∙ s
+    at (inr e) =
+        let t : set (2 * variable_of l + 1) ≡ true = ap set (sym e) ∙ s in
+        let f : set (2 * variable_of l) ≡ false = ap set (sym (opposite-odd (variable_of l))) ∙ k (2 * variable_of l + 1) t in
+        ap (is_true value) e ∙ true_odd value (variable_of l) ∙ ap not (a (variable_of l) p h ∙ f)
+
+-- where all variables are set, each literal or its opposite is
+set_or_opposite : (t : TrailValue) (l : ℕ) → AreAllSet t → 0 < variable_of l → l < t.size → opposite l < t.size → (is_set t.steps l ≡ true) ⊎ (is_set t.steps (opposite l) ≡ true)
+set_or_opposite t l a p h g = at (even_or_odd l)
+  where
+    at : (l ≡ 2 * variable_of l) ⊎ (l ≡ 2 * variable_of l + 1) → (is_set t.steps l ≡ true) ⊎ (is_set t.steps (opposite l) ≡ true)
+    at (inl e) =
+        let o : opposite l ≡ 2 * variable_of l + 1 = ap opposite e ∙ opposite-even (variable_of l) in
+        two (a (variable_of l) p (omega arith))
+      where
+        two : HasValue t (variable_of l) → (is_set t.steps l ≡ true) ⊎ (is_set t.steps (opposite l) ≡ true)
+        two (inl s) = inl (ap (is_set t.steps) e ∙ s)
+        two (inr s) = inr (ap (is_set t.steps) (ap opposite e ∙ opposite-even (variable_of l)) ∙ s)
+    at (inr e) = two (a (variable_of l) p (omega arith))
+      where
+        two : HasValue t (variable_of l) → (is_set t.steps l ≡ true) ⊎ (is_set t.steps (opposite l) ≡ true)
+        two (inl s) = inr (ap (is_set t.steps) (ap opposite e ∙ opposite-odd (variable_of l)) ∙ s)
+        two (inr s) = inl (ap (is_set t.steps) e ∙ s)
+
+-- the truth values of a search of which nothing is left to draw
+pub model : (f : Formula) (s : Search) (lines : List Line) (values : List Bool) → IsSolver s → s.head ≡ length s.state.trail.steps → AreAllSet s.state.trail → IsLogged f s.state.clauses lines
+    → length values ≡ f.variables → ((i : ℕ) → 0 < i → i ≤ f.variables → 2 * i < s.state.trail.size → value_of values i ≡ is_set s.state.trail.steps (2 * i)) → IsModel f values
+model f s lines values v h all g n a = (n, λ k e q. at k e (g.formula (k + 1) e (held_at f.clauses k ∙ q)))
+  where
+    at : (k : ℕ) (e : Entry) → held_in s.state (k + 1) ≡ Some e → SatisfiesEntry (value_of values) e
+    at k True q = tt
+    at k (Clause c) q =
+        let small = v.search.state.small (k + 1) c q in
+        let over = g.over (k + 1) c q in
+        let safe = v.search.levels.watching.at_head k c q in
+        let t = safe_satisfied (is_set s.state.trail.steps) c (pairs_of s.state k)
+        (λ l m. (let b = member_all s.state.trail.size c l small m in set_or_opposite s.state.trail l all (literal_in f.variables c l over m).0 b.0 b.1))
+        (rw h at safe) in
+        let il = literal_in f.variables c t.0 over t.1 in
+        let b = member_all s.state.trail.size c t.0 small t.1 in
+        (t.0, t.1, one t.0 il b.0 t.2)
+      where
+        one : (l : ℕ) → IsLiteral f.variables l → l < s.state.trail.size → is_set s.state.trail.steps l ≡ true → is_true (value_of values) l ≡ true
+        one l il lt on = literal_true l il (even_or_odd l) lt on
+          where
+            literal_true : (l : ℕ) → IsLiteral f.variables l → (l ≡ 2 * variable_of l) ⊎ (l ≡ 2 * variable_of l + 1) → l < s.state.trail.size → is_set s.state.trail.steps l ≡ true → is_true (value_of values) l ≡ true
+            literal_true l il q lt on =
+                set_is_true (is_set s.state.trail.steps) (λ i. value_of values i) l (2 * variable_of l + 1) (trail_consistent (held_in s.state) s.state.trail.steps (length s.state.trail.steps) v.search.state.trail (omega arith))
+                (λ i p b. a i p (let x = il.1 in omega arith) (below q i b)) il.0 (omega arith) on
+              where
+                below : (l ≡ 2 * variable_of l) ⊎ (l ≡ 2 * variable_of l + 1) → (i : ℕ) → 2 * i < 2 * variable_of l + 1 → 2 * i < s.state.trail.size
+                below (inl e) i b = omega arith
+                below (inr e) i b = omega arith

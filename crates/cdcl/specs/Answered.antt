@@ -1,0 +1,26 @@
+-- What a solver answers.
+use Rattle.std.specs.Prelude.{ℕ, ◌<◌, ◌≡◌, [], length}
+use Rattle.cnf_base.specs.Formulas.{Formula, IsModel}
+use Rattle.lrat_log.specs.Refutations.{IsRefutation, IsSpent}
+use Rattle.lrat_log.specs.Learnt.{IsResolvent}
+use Rattle.cdcl.specs.declared.search.Search.{Search}
+use Rattle.cdcl.specs.declared.solver.Turn.{Turn}
+use Rattle.cdcl.specs.declared.solver.Turn.TheVariants.{Satisfied, Refuted, Conflict}
+use Rattle.cdcl.specs.Trail.{IsConflict}
+use Rattle.cdcl.specs.Assigned.{AreAllSet}
+use Rattle.cdcl.specs.State.{held_in}
+use Rattle.cdcl.specs.Solver.{IsSolver}
+use Rattle.cdcl.specs.declared.solver.Solved.{Solved}
+use Rattle.cdcl.specs.declared.solver.Solved.TheVariants.{Sat, Unsat, Spent}
+
+-- truth values that satisfy the formula, a refutation of it within the budget, or a log that spends the budget
+abbrev pub IsAnswer : Formula → ℕ → Solved → Type 0
+IsAnswer f budget (Sat values) = IsModel f values
+IsAnswer f budget (Unsat log) = IsRefutation f budget log
+IsAnswer f budget (Spent log) = IsSpent f budget log
+
+-- All variables are set and nothing is left to draw; the hints refute; or a clause is false above level 0.
+abbrev pub IsTurn : Search → Turn → Type 0
+IsTurn s Satisfied = IsSolver s × (s.head ≡ length s.state.trail.steps) × AreAllSet s.state.trail
+IsTurn s (Refuted hints) = IsResolvent (held_in s.state) [] hints.items
+IsTurn s (Conflict id) = IsSolver s × (0 < length s.starts.items) × IsConflict (held_in s.state) s.state.trail.steps id

@@ -1,0 +1,279 @@
+// From a conflict back to a clause that follows.
+ghost use Rattle.std.specs.Prelude.{List, ◌≡◌, ◌≢◌, ◌⊎◌, ℕ, Bool, true, false, not, ◌==◌, ◌&&◌, ◌||◌, ◌+◌, ◌-◌, ◌*◌, ◌^◌, ◌<◌, ◌≤◌, [], ◌∷◌, ◌++◌, length, All, IfOk, OnOk, get_or, reverse, Some, min};
+ghost use Rattle.cnf_base.specs.declared.cnf.Entry.TheVariants.{Clause};
+ghost use Rattle.cnf_base.specs.Literals.{opposite, member};
+ghost use Rattle.lrat_log.specs.Learnt.{IsResolvent, IsQuiet, IsLearnt};
+ghost use Rattle.cdcl.specs.Trail.{reason_at, was_set, IsBelow, IsConflict};
+ghost use Rattle.cdcl.specs.Learning.{is_marked, is_except, HasTops, AreBeforeSecond, IsSecond};
+ghost use Rattle.cdcl.specs.State.{held_in, IsState};
+
+use crate::state::State;
+use crate::trail::{Step, Trail};
+use cnf_base::Lit;
+use rml_row::Mem;
+use std::alloc::Global;
+
+/// What a conflict gives: the learnt literals, from the newest on, and the hints, from the last on.
+#[derive(Drop)]
+pub struct Learnt {
+    pub literals: Vec<Lit>,
+    pub hints: Vec<u64>,
+    pub tops: usize,
+    pub second: usize,
+}
+
+/// The levels that an analysis tells apart: `root` is where level 1 begins, `top` where the highest level does.
+#[derive(Clone, Copy)]
+pub struct Levels {
+    pub root: usize,
+    pub top: usize,
+}
+
+fn is_left_out(except: &Option<Lit>, l: Lit) -> bool
+    ensures { result ≡ is_except except.now l }
+{
+    match except {
+        Some(e) => l == *e,
+        None => false,
+    }
+}
+
+fn newly_open(marks: &[bool], literal: Lit, trail: &Trail, top: usize) -> usize
+    requires small { literal < length marks.now }
+    requires size { length marks.now ≡ trail.now.size }
+{
+    if !marks[literal.code() as usize] && trail.is_from(literal, top) {
+        1
+    } else {
+        0
+    }
+}
+
+/// Marks the literals whose opposites stand in a clause, but for one literal. Counts those set at the top level.
+fn mark_clause(
+    marks: &mut [bool],
+    clause: &[Lit],
+    except: Option<Lit>,
+    trail: &Trail,
+    top: usize,
+) -> usize
+    requires small { All (λ l. (l < trail.now.size) × (opposite l < trail.now.size)) clause.now }
+    requires size { length marks.old ≡ trail.now.size }
+    ensures { (l : ℕ) → is_marked marks.new l ≡ (is_marked marks.old l || (member (opposite l) clause.now && not (is_except except (opposite l)))) }
+{
+    let mut open = 0usize;
+    for l in clause {
+        if !is_left_out(&except, *l) {
+            let o = l.opposite();
+            open = open.wrapping_add(newly_open(marks, o, trail, top));
+            marks[o.code() as usize] = true;
+        }
+    }
+    open
+}
+
+fn unmark(marks: &mut [bool], literal: Lit)
+    requires { literal < length marks.old }
+    ensures { (l : ℕ) → is_marked marks.new l ≡ (is_marked marks.old l && not (l == literal)) }
+{
+    marks[literal.code() as usize] = false;
+}
+
+/// Whether the other literals of a reason are marked already, or set at level 0.
+fn is_implied(marks: &[bool], clause: &[Lit], except: Lit, trail: &Trail, root: usize) -> bool
+    requires small { All (λ l. (l < trail.now.size) × (opposite l < trail.now.size)) clause.now }
+    requires size { length marks.now ≡ trail.now.size }
+{
+    for l in clause {
+        if *l != except {
+            let o = l.opposite();
+            if !marks[o.code() as usize] && trail.is_from(o, root) {
+                return false;
+            }
+        }
+    }
+    true
+}
+
+/// Whether the reason's other literals are marked already, or set at level 0, for a literal below the top level.
+fn is_reason_implied(state: &State, marks: &[bool], levels: Levels, t: usize, step: &Step) -> bool
+    requires state { IsState state.now }
+    requires held { (step.now.reason ≡ 0) ⊎ ((c : List ℕ) × (held_in state.now step.now.reason ≡ Some (Clause c))) }
+    requires size { length marks.now ≡ state.now.trail.size }
+{
+    if step.reason == 0 || t >= levels.top {
+        return false;
+    }
+    is_implied(
+        marks,
+        state.clauses.clause(step.reason),
+        step.literal,
+        &state.trail,
+        levels.root,
+    )
+}
+
+/// Whether a marked literal is learnt and not resolved: always where it was decided.
+fn is_kept(
+    step: &Step,
+    t: usize,
+    levels: Levels,
+    open: usize,
+    tops: usize,
+    decisions_only: bool,
+    is_implied: bool,
+) -> bool
+    ensures decision { step.now.reason ≡ 0 → result ≡ true }
+    ensures root { step.now.reason ≢ 0 → t < levels.top → t < levels.root → result ≡ false }
+    ensures only { step.now.reason ≢ 0 → levels.top ≤ t → decisions_only ≡ true → result ≡ false }
+{
+    if step.reason == 0 {
+        true
+    } else if t >= levels.top {
+        !decisions_only && open == 1 && tops == 0
+    } else {
+        t >= levels.root && !is_implied
+    }
+}
+
+fn less_open(open: usize, t: usize, top: usize) -> usize {
+    if t >= top { open.wrapping_sub(1) } else { open }
+}
+
+/// One more literal is learnt: one of the top level counts, up to 2.
+fn count_tops(tops: usize, t: usize, top: usize) -> usize
+    ensures at_top { top ≤ t → result ≡ min (tops + 1) 2 }
+    ensures below { t < top → result ≡ tops }
+{
+    if t < top {
+        tops
+    } else if tops < 2 {
+        tops + 1
+    } else {
+        2
+    }
+}
+
+/// The place behind the newest learnt literal below the top level, or 0.
+fn second_place(second: usize, t: usize, top: usize) -> usize
+    requires { t < 2 ^ 63 }
+    ensures at_top { top ≤ t → result ≡ second }
+    ensures first { t < top → second ≡ 0 → result ≡ t + 1 }
+    ensures later { t < top → 0 < second → result ≡ second }
+{
+    if t < top && second == 0 {
+        t + 1
+    } else {
+        second
+    }
+}
+
+/// Walks down the trail. A marked literal is resolved with its reason, or its opposite is learnt.
+fn analyse(
+    alloc: Global,
+    state: &State,
+    marks: &mut [bool],
+    levels: Levels,
+    conflict: u32,
+    decisions_only: bool,
+) -> Mem<Learnt>
+    requires state { IsState state.now }
+    requires size { length marks.old ≡ state.now.trail.size }
+    requires clear { (l : ℕ) → is_marked marks.old l ≡ false }
+    requires conflict { IsConflict (held_in state.now) state.now.trail.steps conflict }
+    requires decisions { (i : ℕ) → levels.top < i → i < length state.now.trail.steps → reason_at state.now.trail.steps i ≢ 0 }
+    ensures resolvent { IfOk result (λ w. IsResolvent (held_in state.now) w.literals.items (reverse w.hints.items)) }
+    ensures tops { IfOk result (λ w. HasTops state.now.trail.steps levels.top w.literals.items w.tops) }
+    ensures some { IsQuiet (held_in state.now) (was_set state.now.trail.steps levels.top) → IfOk result (λ w. 0 < w.tops) }
+    ensures root { length state.now.trail.steps ≤ levels.root → length state.now.trail.steps ≤ levels.top → ((i : ℕ) → i < length state.now.trail.steps → reason_at state.now.trail.steps i ≢ 0) → IfOk result (λ w. w.literals.items ≡ []) }
+    ensures second { IfOk result (λ w. AreBeforeSecond state.now.trail.steps levels.top w.literals.items w.second) }
+    ensures second_at_most { IfOk result (λ w. w.second ≤ levels.top) }
+    ensures second_stands { IfOk result (λ w. IsSecond state.now.trail.steps w.literals.items w.second) }
+    ensures below { IfOk result (λ w. (x : ℕ) → member x w.literals.items ≡ true → IsBelow state.now.trail.steps (length state.now.trail.steps) (opposite x)) }
+    ensures one { decisions_only ≡ true → IfOk result (λ w. w.tops ≤ 1) }
+    ensures clear { OnOk result ((l : ℕ) → is_marked marks.new l ≡ false) }
+{
+    let mut found = Vec::new(alloc);
+    let mut hints = Vec::new(alloc);
+    let mut tops = 0;
+    let mut second = 0;
+    hints.push(conflict as u64)?;
+    let clause = state.clauses.clause(conflict);
+    let mut open = mark_clause(marks, clause, None, &state.trail, levels.top);
+    let mut t = state.trail.len();
+    while t > 0 {
+        t -= 1;
+        let step = state.trail.step(t);
+        if marks[step.literal.code() as usize] {
+            unmark(marks, step.literal);
+            let implied = is_reason_implied(state, marks, levels, t, &step);
+            let kept = is_kept(&step, t, levels, open, tops, decisions_only, implied);
+            open = less_open(open, t, levels.top);
+            if kept {
+                tops = count_tops(tops, t, levels.top);
+                second = second_place(second, t, levels.top);
+                found.push(step.literal.opposite())?;
+            } else {
+                hints.push(step.reason as u64)?;
+                let reason = state.clauses.clause(step.reason);
+                let more = mark_clause(marks, reason, Some(step.literal), &state.trail, levels.top);
+                open = open.wrapping_add(more);
+            }
+        }
+    }
+    Ok(Learnt {
+        literals: found,
+        hints,
+        tops,
+        second,
+    })
+}
+
+/// Learns a clause from a conflict above level 0. Its first literal alone was set at the top level: the first unique
+/// implication point, or else the decision.
+pub fn learn(
+    alloc: Global,
+    state: &State,
+    marks: &mut [bool],
+    levels: Levels,
+    conflict: u32,
+) -> Mem<Learnt>
+    requires state { IsState state.now }
+    requires size { length marks.old ≡ state.now.trail.size }
+    requires clear { (l : ℕ) → is_marked marks.old l ≡ false }
+    requires conflict { IsConflict (held_in state.now) state.now.trail.steps conflict }
+    requires decisions { (i : ℕ) → levels.top < i → i < length state.now.trail.steps → reason_at state.now.trail.steps i ≢ 0 }
+    requires quiet { IsQuiet (held_in state.now) (was_set state.now.trail.steps levels.top) }
+    requires level { levels.top ≤ length state.now.trail.steps }
+    ensures learnt { IfOk result (λ w. IsLearnt (held_in state.now) w.literals.items (reverse w.hints.items)) }
+    ensures one { IfOk result (λ w. HasTops state.now.trail.steps levels.top w.literals.items 1) }
+    ensures second { IfOk result (λ w. AreBeforeSecond state.now.trail.steps levels.top w.literals.items w.second) }
+    ensures second_at_most { IfOk result (λ w. w.second ≤ levels.top) }
+    ensures second_stands { IfOk result (λ w. IsSecond state.now.trail.steps w.literals.items w.second) }
+    ensures clear { OnOk result ((l : ℕ) → is_marked marks.new l ≡ false) }
+{
+    let first = analyse(alloc, state, marks, levels, conflict, false)?;
+    if first.tops == 1 {
+        return Ok(first);
+    }
+    let second = analyse(alloc, state, marks, levels, conflict, true)?;
+    Ok(second)
+}
+
+/// The hints of the empty clause, from the last on, from a conflict at level 0.
+pub fn refute(alloc: Global, state: &State, marks: &mut [bool], conflict: u32) -> Mem<Vec<u64>>
+    requires state { IsState state.now }
+    requires size { length marks.old ≡ state.now.trail.size }
+    requires clear { (l : ℕ) → is_marked marks.old l ≡ false }
+    requires conflict { IsConflict (held_in state.now) state.now.trail.steps conflict }
+    requires decisions { (i : ℕ) → i < length state.now.trail.steps → reason_at state.now.trail.steps i ≢ 0 }
+    ensures { IfOk result (λ hints. IsResolvent (held_in state.now) [] (reverse hints.items)) }
+{
+    let end = state.trail.len();
+    let levels = Levels {
+        root: end,
+        top: end,
+    };
+    let found = analyse(alloc, state, marks, levels, conflict, true)?;
+    Ok(found.hints)
+}

@@ -1,0 +1,147 @@
+// Unit propagation.
+ghost use Rattle.std.specs.Prelude.{List, ◌≡◌, ◌≢◌, ◌⊎◌, ℕ, Bool, true, false, ◌+◌, ◌-◌, ◌*◌, ◌^◌, ◌<◌, ◌≤◌, [], ◌∷◌, ◌++◌, length, All, IfOk, OnOk, MatchOption, IfSome, IfNone, get_or, set, Some};
+ghost use Rattle.cnf_base.specs.declared.cnf.Entry.TheVariants.{Clause};
+ghost use Rattle.cnf_base.specs.Literals.{opposite, member};
+ghost use Rattle.cdcl.specs.Trail.{held_by, is_set, literal_at, IsTrail, IsConflict};
+ghost use Rattle.cdcl.specs.Visit.{AreFalseBut, IsOpen};
+ghost use Rattle.cdcl.specs.State.{held_in, IsState, Grows, IsVisiting, IsWatchingAt};
+
+use crate::state::State;
+use crate::trail::Trail;
+use crate::watches::{Pair, Watch, WatchList};
+use cnf_base::Lit;
+use rml_row::Mem;
+use std::alloc::Global;
+
+/// A literal of a clause that is not false and neither of two.
+fn open_literal(trail: &Trail, clause: &[Lit], one: Lit, other: Lit) -> Option<Lit>
+    requires { All (λ l. (l < trail.now.size) × (opposite l < trail.now.size)) clause.now }
+    ensures { MatchOption result (AreFalseBut (is_set trail.now.steps) clause.now one other) (IsOpen (is_set trail.now.steps) clause.now one other) }
+{
+    for l in clause {
+        if *l != one && *l != other && !trail.is_true(l.opposite()) {
+            return Some(*l);
+        }
+    }
+    None
+}
+
+/// The literal of a pair beside one of them.
+fn other_of(pair: Pair, one: Lit) -> Lit
+    ensures stands { (result ≡ pair.first) ⊎ (result ≡ pair.second) }
+    ensures different { (pair.first ≡ pair.second → ⊥) → result ≢ one }
+{
+    if pair.first == one {
+        pair.second
+    } else {
+        pair.first
+    }
+}
+
+impl State {
+    /// Visits the watch at index `i` of the list of the literal that became false at place `head`. The answer is the
+    /// clause's id where it is false.
+    fn visit(&mut self, list: &mut WatchList, head: usize, i: usize) -> Mem<Option<u32>>
+        requires state { IsState self.old }
+        requires index { i < length list.old }
+        requires visited { IsVisiting self.old head list.old (i + 1) }
+        ensures state { OnOk result (IsState self.new) }
+        ensures grows { OnOk result (Grows self.old self.new) }
+        ensures length { OnOk result (i ≤ length list.new) }
+        ensures visited { IfOk result (λ r. IfNone r (IsVisiting self.new head list.new i)) }
+        ensures conflict { IfOk result (λ r. IfSome r (λ id. IsConflict (held_in self.new) self.new.trail.steps id)) }
+        ensures stopped { IfOk result (λ r. IfSome r (λ id. IsVisiting self.new head list.new (i + 1))) }
+    {
+        let watch = list.get(i);
+        if self.trail.is_true(watch.blocker) {
+            return Ok(None);
+        }
+        let false_one = self.trail.step(head).literal.opposite();
+        let other = other_of(self.watches.pair(watch.place), false_one);
+        let kept = Watch {
+            place: watch.place,
+            blocker: other,
+        };
+        if self.trail.is_true(other) {
+            list.set(i, kept);
+            return Ok(None);
+        }
+        let id = watch.place + 1;
+        match open_literal(&self.trail, self.clauses.clause(id), false_one, other) {
+            Some(l) => {
+                self.watches.move_to(watch.place, l, other)?;
+                list.remove(i);
+                Ok(None)
+            }
+            None => {
+                if self.trail.is_true(other.opposite()) {
+                    return Ok(Some(id));
+                }
+                self.trail.push(other, id)?;
+                list.set(i, kept);
+                Ok(None)
+            }
+        }
+    }
+
+    /// Visits a whole list, up to the first clause that is false.
+    fn visit_list(&mut self, list: &mut WatchList, head: usize) -> Mem<Option<u32>>
+        requires state { IsState self.old }
+        requires visited { IsVisiting self.old head list.old (length list.old) }
+        ensures state { OnOk result (IsState self.new) }
+        ensures grows { OnOk result (Grows self.old self.new) }
+        ensures visited { IfOk result (λ r. IfNone r (IsVisiting self.new head list.new 0)) }
+        ensures conflict { IfOk result (λ r. IfSome r (λ id. IsConflict (held_in self.new) self.new.trail.steps id)) }
+        ensures stopped { IfOk result (λ r. IfSome r (λ id. (n : ℕ) × IsVisiting self.new head list.new n)) }
+    {
+        let mut i = list.len();
+        while i > 0 {
+            i -= 1;
+            match self.visit(list, head, i)? {
+                Some(id) => return Ok(Some(id)),
+                None => {}
+            }
+        }
+        Ok(None)
+    }
+
+    /// Draws the consequences of the literal at place `head`.
+    fn propagate_one(&mut self, alloc: Global, head: usize) -> Mem<Option<u32>>
+        requires state { IsState self.old }
+        requires within { head < length self.old.trail.steps }
+        requires watching { IsWatchingAt self.old head }
+        ensures state { OnOk result (IsState self.new) }
+        ensures grows { OnOk result (Grows self.old self.new) }
+        ensures watching { IfOk result (λ r. IfNone r (IsWatchingAt self.new (head + 1))) }
+        ensures conflict { IfOk result (λ r. IfSome r (λ id. IsConflict (held_in self.new) self.new.trail.steps id)) }
+        ensures stopped { IfOk result (λ r. IfSome r (λ id. IsWatchingAt self.new head)) }
+    {
+        let false_one = self.trail.step(head).literal.opposite();
+        let mut list = self.watches.take_list(alloc, false_one);
+        let conflict = self.visit_list(&mut list, head)?;
+        self.watches.put_list(false_one, list);
+        Ok(conflict)
+    }
+
+    /// Sets what the clauses force, until all is drawn or a clause is false. The answer is then that clause's id.
+    pub fn propagate(&mut self, alloc: Global, head: &mut usize) -> Mem<Option<u32>>
+        requires state { IsState self.old }
+        requires within { head.old ≤ length self.old.trail.steps }
+        requires watching { IsWatchingAt self.old head.old }
+        ensures state { OnOk result (IsState self.new) }
+        ensures grows { OnOk result (Grows self.old self.new) }
+        ensures within { OnOk result (head.new ≤ length self.new.trail.steps) }
+        ensures watching { OnOk result (IsWatchingAt self.new head.new) }
+        ensures conflict { IfOk result (λ r. IfSome r (λ id. IsConflict (held_in self.new) self.new.trail.steps id)) }
+        ensures drawn { IfOk result (λ r. IfNone r (head.new ≡ length self.new.trail.steps)) }
+    {
+        while *head < self.trail.len() {
+            match self.propagate_one(alloc, *head)? {
+                Some(id) => return Ok(Some(id)),
+                None => {}
+            }
+            *head += 1;
+        }
+        Ok(None)
+    }
+}

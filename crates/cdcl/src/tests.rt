@@ -1,0 +1,78 @@
+// Formulas that are satisfied, refuted or spend a budget, from their texts.
+use super::{Solved, solve};
+use cnf_base::read_cnf;
+use rml_row::Refused;
+use std::alloc::Global;
+
+/// Four pigeons and three holes: pigeon p sits in hole h where variable 3 p + h is true.
+const PIGEONS: &'static [u8] = b"p cnf 12 22
+1 2 3 0 4 5 6 0 7 8 9 0 10 11 12 0
+-1 -4 0 -1 -7 0 -1 -10 0 -4 -7 0 -4 -10 0 -7 -10 0
+-2 -5 0 -2 -8 0 -2 -11 0 -5 -8 0 -5 -11 0 -8 -11 0
+-3 -6 0 -3 -9 0 -3 -12 0 -6 -9 0 -6 -12 0 -9 -12 0
+";
+
+// What a search ends with, and how many values or lines it has.
+#[derive(Clone, Copy, PartialEq, Eq, Debug)]
+enum Answer {
+    Sat(usize),
+    Unsat(usize),
+    Spent(usize),
+    Fault(u8),
+    NoMemory,
+}
+
+fn answer_of(alloc: Global, text: &[u8], budget: u64) -> Answer {
+    let cnf = match read_cnf(alloc, text) {
+        Ok(cnf) => cnf,
+        Err(Refused::For(fault)) => return Answer::Fault(fault.code),
+        Err(Refused::NoMemory) => return Answer::NoMemory,
+    };
+    if cnf.clauses().len() > 100 || budget > 1000 || cnf.variables() > 1000 {
+        return Answer::Fault(0);
+    }
+    match solve(alloc, &cnf, budget) {
+        Ok(Solved::Sat(values)) => Answer::Sat(values.as_slice().len()),
+        Ok(Solved::Unsat(log)) => Answer::Unsat(log.lines().len()),
+        Ok(Solved::Spent(log)) => Answer::Spent(log.lines().len()),
+        Err(_) => Answer::NoMemory,
+    }
+}
+
+#[test]
+fn no_clauses_and_empty_ones(rt: HostRuntime) {
+    let alloc = rt.alloc();
+    assert_eq!(rt; answer_of(alloc, b"p cnf 0 0\n", 0), Answer::Sat(0));
+    assert_eq!(rt; answer_of(alloc, b"p cnf 5 0\n", 0), Answer::Sat(5));
+    assert_eq!(rt; answer_of(alloc, b"p cnf 0 1\n0\n", 0), Answer::Unsat(1));
+    assert_eq!(rt;
+        answer_of(alloc, b"p cnf 2 2\n1 2 0\n0\n", 9),
+        Answer::Unsat(1)
+    );
+}
+
+#[test]
+fn clauses_of_one_literal_and_true_ones(rt: HostRuntime) {
+    let alloc = rt.alloc();
+    assert_eq!(rt;
+        answer_of(alloc, b"p cnf 2 2\n1 0\n-2 0\n", 0),
+        Answer::Sat(2)
+    );
+    assert_eq!(rt;
+        answer_of(alloc, b"p cnf 2 3\n1 0\n-1 2 0\n-2 0\n", 0),
+        Answer::Unsat(1)
+    );
+    assert_eq!(rt;
+        answer_of(alloc, b"p cnf 2 2\n1 0\n-1 0\n", 0),
+        Answer::Unsat(1)
+    );
+    assert_eq!(rt; answer_of(alloc, b"p cnf 1 1\n1 -1 0\n", 0), Answer::Sat(1));
+}
+
+#[test]
+fn pigeons_under_two_budgets(rt: HostRuntime) {
+    let alloc = rt.alloc();
+    assert_eq!(rt; answer_of(alloc, PIGEONS, 1), Answer::Spent(1));
+    assert_eq!(rt; answer_of(alloc, PIGEONS, 0), Answer::Spent(0));
+    assert!(rt; matches!(answer_of(alloc, PIGEONS, 1000), Answer::Unsat(_)));
+}
