@@ -1,0 +1,55 @@
+-- The model of a text, and the fault of a text. Four phases judge it, one behind the other: its bytes, its grammar, its
+-- names and sorts, and the fragment with the number of paths. The fault is that of the earliest phase that has one.
+use Rattle.std.specs.Prelude.{◌≡◌, ◌⊎◌, ℕ, List, Option, Some, None}
+use Rattle.rml_lex.specs.declared.token.Token.{Token}
+use Rattle.rml_lex.specs.declared.token.Fault.{Fault}
+use Rattle.rml_lex.specs.Tokens.{AreTokens}
+use Rattle.rml_lex.specs.Tokens as bytes
+use Rattle.rml_syntax.specs.Tree.{ItemTree}
+use Rattle.rml_syntax.specs.Faults.{IsTree}
+use Rattle.rml_syntax.specs.Faults as grammar
+use Rattle.rml_sorts.specs.Items.{model_of, fault_of}
+use Rattle.rml_command.specs.Models.{ModelTree}
+use Rattle.rml_command.specs.Fragment.{IsChecked}
+use Rattle.rml_fragment.specs.Faults as fragment
+
+-- the bytes are these tokens, and the tokens this tree
+pub record IsTreeOf (text : List ℕ) (tree : List ItemTree) : Type 0 where
+  pub tokens : List Token
+  pub are_tokens : AreTokens text tokens
+  pub is_tree : IsTree text tokens tree
+
+-- a tree whose names and sorts are right
+pub record IsResolved (text : List ℕ) (tree : List ItemTree) : Type 0 where
+  pub read : IsTreeOf text tree
+  pub right : fault_of text tree ≡ None
+
+-- The model of a text: no phase has a fault, so it is in the fragment, and its blocks have few paths.
+pub record IsModelOf (text : List ℕ) (m : ModelTree) : Type 0 where
+  pub tree : List ItemTree
+  pub resolved : IsResolved text tree
+  pub model : m ≡ model_of text tree
+  pub faultless : (f : Fault) → fragment.IsFault m f → ⊥
+  pub checked : IsChecked m
+
+-- a fault of the grammar
+pub record IsGrammarFault (text : List ℕ) (f : Fault) : Type 0 where
+  pub tokens : List Token
+  pub are_tokens : AreTokens text tokens
+  pub fault : grammar.IsFault text tokens f
+
+-- a fault of names and sorts
+pub record IsNameFault (text : List ℕ) (f : Fault) : Type 0 where
+  pub tree : List ItemTree
+  pub read : IsTreeOf text tree
+  pub fault : fault_of text tree ≡ Some f
+
+-- a fault of the fragment, or of the number of paths
+pub record IsFragmentFault (text : List ℕ) (f : Fault) : Type 0 where
+  pub tree : List ItemTree
+  pub resolved : IsResolved text tree
+  pub fault : fragment.IsFault (model_of text tree) f
+
+-- The fault of a text.
+abbrev pub IsFaultOf : List ℕ → Fault → Type 0
+IsFaultOf text f = bytes.IsFault text f ⊎ (IsGrammarFault text f ⊎ (IsNameFault text f ⊎ IsFragmentFault text f))

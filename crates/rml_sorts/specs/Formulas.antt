@@ -1,0 +1,83 @@
+-- The formulas and terms that expressions stand for. An expression that is not what it has to be where it stands is a
+-- fault; what these functions give for it is read by nobody.
+use Rattle.std.specs.Prelude.{ℕ, Bool, true, false, if◌then◌else◌, List, [], ◌∷◌, ◌++◌}
+use Rattle.fol_formula.specs.Syntax.{FormTree, FormTrees, TermTree, TermTrees, top, bottom, rel, equal, negation, conjunction, disjunction, implication, equivalence, for_all, for_some, no_forms, form_then, bound, app, ite, no_terms, term_then}
+use Rattle.rml_syntax.specs.declared.tree.Quantifier.{Quantifier}
+use Rattle.rml_syntax.specs.declared.tree.Quantifier.TheVariants.{Forall, Exists}
+use Rattle.rml_syntax.specs.Tree.{ExprTree, ExprTrees, True, False, Apply, Ite, Equal, Not, And, Or, Implies, Iff, Quantified, no_expr, and_expr}
+use Rattle.rml_command.specs.Models.{ModelTree}
+use Rattle.rml_sorts.specs.declared.meaning.Meaning.{Meaning}
+use Rattle.rml_sorts.specs.declared.meaning.Meaning.TheVariants.{Bound, Relation, Function, Unknown}
+use Rattle.rml_sorts.specs.Meanings.{bytes_of, BoundName, meaning_of, sort_number, binding}
+
+abbrev pub atom_of : Meaning → TermTrees → FormTree
+atom_of (Relation r) args = rel r args
+atom_of _ args = bottom
+
+abbrev pub application_of : Meaning → TermTrees → TermTree
+application_of (Bound i k) args = bound i
+application_of (Function f) args = app f args
+application_of _ args = bound 0
+
+abbrev pub quantified : Quantifier → ℕ → FormTree → FormTree
+quantified Forall k p = for_all k p
+quantified Exists k p = for_some k p
+
+module _ (text : List ℕ) where
+  abbrev mutual
+    -- the formula of an expression in a formula's place
+    pub formula_of : ModelTree → List BoundName → ExprTree → FormTree
+    formula_of m bs (True at) = top
+    formula_of m bs (False at) = bottom
+    formula_of m bs (Apply name args) = atom_of (meaning_of m bs (bytes_of text name)) (terms_of m bs args)
+    formula_of m bs (Ite at c a b) = bottom
+    formula_of m bs (Equal at a b) = equal (term_of m bs a) (term_of m bs b)
+    formula_of m bs (Not at a) = negation (formula_of m bs a)
+    formula_of m bs (And at args) = conjunction (formulas_of m bs args)
+    formula_of m bs (Or at args) = disjunction (formulas_of m bs args)
+    formula_of m bs (Implies at a b) = implication (formula_of m bs a) (formula_of m bs b)
+    formula_of m bs (Iff at a b) = equivalence (formula_of m bs a) (formula_of m bs b)
+    formula_of m bs (Quantified q at b a) = quantified q (sort_number text m b.sort) (formula_of m (binding text m b ∷ bs) a)
+
+    pub formulas_of : ModelTree → List BoundName → ExprTrees → FormTrees
+    formulas_of m bs no_expr = no_forms
+    formulas_of m bs (and_expr e es) = form_then (formula_of m bs e) (formulas_of m bs es)
+
+    -- the term of an expression in a term's place
+    pub term_of : ModelTree → List BoundName → ExprTree → TermTree
+    term_of m bs (True at) = bound 0
+    term_of m bs (False at) = bound 0
+    term_of m bs (Apply name args) = application_of (meaning_of m bs (bytes_of text name)) (terms_of m bs args)
+    term_of m bs (Ite at c a b) = ite (formula_of m bs c) (term_of m bs a) (term_of m bs b)
+    term_of m bs (Equal at a b) = bound 0
+    term_of m bs (Not at a) = bound 0
+    term_of m bs (And at args) = bound 0
+    term_of m bs (Or at args) = bound 0
+    term_of m bs (Implies at a b) = bound 0
+    term_of m bs (Iff at a b) = bound 0
+    term_of m bs (Quantified q at b a) = bound 0
+
+    pub terms_of : ModelTree → List BoundName → ExprTrees → TermTrees
+    terms_of m bs no_expr = no_terms
+    terms_of m bs (and_expr e es) = term_then (term_of m bs e) (terms_of m bs es)
+
+-- ---- the places of quantifiers where none may stand
+
+-- The quantifiers of an expression that stand inside an `ite`; with `true`, all of them.
+abbrev mutual
+  pub quantifiers_in : Bool → ExprTree → List ℕ
+  quantifiers_in all (True at) = []
+  quantifiers_in all (False at) = []
+  quantifiers_in all (Apply name args) = quantifiers_in_each all args
+  quantifiers_in all (Ite at c a b) = quantifiers_in true c ++ (quantifiers_in true a ++ quantifiers_in true b)
+  quantifiers_in all (Equal at a b) = quantifiers_in all a ++ quantifiers_in all b
+  quantifiers_in all (Not at a) = quantifiers_in all a
+  quantifiers_in all (And at args) = quantifiers_in_each all args
+  quantifiers_in all (Or at args) = quantifiers_in_each all args
+  quantifiers_in all (Implies at a b) = quantifiers_in all a ++ quantifiers_in all b
+  quantifiers_in all (Iff at a b) = quantifiers_in all a ++ quantifiers_in all b
+  quantifiers_in all (Quantified q at b a) = (if all then at ∷ [] else []) ++ quantifiers_in all a
+
+  pub quantifiers_in_each : Bool → ExprTrees → List ℕ
+  quantifiers_in_each all no_expr = []
+  quantifiers_in_each all (and_expr e es) = quantifiers_in all e ++ quantifiers_in_each all es

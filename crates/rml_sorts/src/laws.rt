@@ -1,0 +1,12 @@
+// What follows from the definitions alone.
+ghost use Rattle.rml_sorts.specs.Laws.{ModelsAreWhole, PlacesStandInText};
+
+/// The model of a tree without a fault of names and sorts is whole: what a `Model` has to be.
+pub fn model_law()
+    ensures { ModelsAreWhole }
+{}
+
+/// The places of the model of a tree stand where the names and words of the tree do.
+pub fn place_law()
+    ensures { PlacesStandInText }
+{}
