@@ -1,5 +1,5 @@
 -- Demands that are all met.
-use Rattle.std.proofs.Common.{◌≡◌, ℕ, Bool, true, false, if◌then◌else◌, List, [], ◌∷◌, ◌++◌, Option, Some, None, refl}
+use Rattle.std.proofs.Common.{◌≡◌, Bool, true, false, if◌then◌else◌, List, [], ◌∷◌, ◌++◌, Option, Some, None, refl}
 use Rattle.rml_lex.specs.declared.token.Fault.{Fault}
 use Rattle.rml_sorts.specs.Demands.{Demand, first_fault}
 

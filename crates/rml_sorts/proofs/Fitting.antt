@@ -1,10 +1,10 @@
 -- Expressions whose demands are met stand for formulas and terms that fit.
-use Rattle.std.proofs.Common.{◌≡◌, ◌<◌, ◌≤◌, ◌+◌, ◌==◌, ℕ, zero, suc, Bool, true, false, not, is_some, if◌then◌else◌, List, [], ◌∷◌, ◌++◌, length, map, slice_index, unwrap_or, take, drop, position, Option, Some, None, refl, sym, subst, ap, ◌∙◌, arith}
+use Rattle.std.proofs.Common.{◌≡◌, ◌<◌, ◌+◌, ◌==◌, ℕ, suc, Bool, true, false, is_some, if◌then◌else◌, List, [], ◌∷◌, ◌++◌, length, map, slice_index, unwrap_or, Option, Some, None, refl, sym, subst, ◌∙◌, arith}
 use Rattle.std.specs.Str.{bytes_eq}
 use Rattle.std.proofs.lemmas.List.Quantifiers.{position-Some}
 use Rattle.std.proofs.lemmas.Bool.{eqb-true}
 use Rattle.fol_sig.specs.Symbols.{Symbols, symbols, AreSorted}
-use Rattle.fol_formula.specs.Syntax.{FormTree, FormTrees, TermTree, TermTrees, bound, app}
+use Rattle.fol_formula.specs.Syntax.{FormTree, TermTrees}
 use Rattle.fol_formula.specs.Fits.{FitsForm, FitsForms, FitsTerm, FitsTerms}
 use Rattle.rml_lex.specs.declared.token.Fault.{Fault}
 use Rattle.rml_syntax.specs.declared.tree.Name.{Name}
@@ -15,8 +15,8 @@ use Rattle.rml_command.specs.Models.{ModelTree, IsNamed}
 use Rattle.rml_sorts.specs.declared.meaning.Meaning.{Meaning}
 use Rattle.rml_sorts.specs.declared.meaning.Meaning.TheVariants as meaning
 use Rattle.rml_sorts.specs.declared.meaning.Wanted.TheVariants.{Formula, Term}
-use Rattle.rml_sorts.specs.Meanings.{bytes_of, place_among, symbol_by, symbol_of, is_known, is_relation, argument_sorts, result_sort, BoundName, meaning_from, meaning_of, sort_by_name, sort_number, binding, term_sort}
-use Rattle.rml_sorts.specs.Demands.{Demand, first_fault, expr_count, is_expected, handed_on, name_demands, no_term_code, asks, demands, formula_demands, argument_demands, binder_demands}
+use Rattle.rml_sorts.specs.Meanings.{bytes_of, place_among, symbol_by, symbol_of, argument_sorts, result_sort, BoundName, meaning_from, meaning_of, sort_by_name, sort_number, binding, term_sort}
+use Rattle.rml_sorts.specs.Demands.{Demand, first_fault, expr_count, is_expected, handed_on, name_demands, asks, demands, formula_demands, argument_demands}
 use Rattle.rml_sorts.specs.Formulas.{atom_of, application_of, quantified, formula_of, formulas_of, term_of, terms_of}
 use Rattle.rml_sorts.proofs.Firsts.{met, met_left, met_right}
 

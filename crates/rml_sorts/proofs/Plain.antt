@@ -1,6 +1,6 @@
 -- Where no quantifier stands inside an `ite`, formulas have plain terms; where none stands at all, they have none.
 use Rattle.std.proofs.Common.{◌≡◌, ℕ, Bool, true, false, List, [], ◌∷◌, ◌++◌, refl}
-use Rattle.fol_formula.specs.Syntax.{FormTree, FormTrees, TermTree, TermTrees}
+use Rattle.fol_formula.specs.Syntax.{FormTree, TermTrees}
 use Rattle.fol_formula.specs.Fragments.{IsQuantifierFree, AreQuantifierFree, IsQuantifierFreeTerm, AreQuantifierFreeTerms, HasPlainTerms, HavePlainTerms}
 use Rattle.rml_syntax.specs.declared.tree.Quantifier.{Quantifier}
 use Rattle.rml_syntax.specs.declared.tree.Quantifier.TheVariants.{Forall, Exists}

@@ -1,24 +1,24 @@
 -- The primitives of commands whose demands are met fit.
-use Rattle.std.proofs.Common.{◌≡◌, ◌<◌, ◌≤◌, ◌+◌, ◌==◌, ◌||◌, ℕ, zero, suc, Bool, true, false, not, is_some, List, [], ◌∷◌, ◌++◌, length, map, reverse, slice_index, Option, Some, None, refl, sym, subst, ap, ◌∙◌, arith, append_assoc, length-append}
+use Rattle.std.proofs.Common.{◌≡◌, ◌==◌, ◌||◌, ℕ, suc, true, is_some, List, [], ◌∷◌, ◌++◌, length, reverse, slice_index, Option, Some, None, refl, sym, subst, ap, ◌∙◌, arith, append_assoc, length-append}
 use Rattle.std.proofs.lemmas.List.{append-nil, reverse-append, length-reverse}
 use Rattle.std.proofs.Math.Seq.{get_or-append_seam}
 use Rattle.std.proofs.lemmas.Bool.{eqb-true}
 use Rattle.fol_sig.specs.Symbols.{Symbols, symbols, AreSorted}
-use Rattle.fol_formula.specs.Syntax.{FormTree, FormTrees, TermTree, TermTrees, negation, no_forms, form_then, bound, no_terms, term_then}
+use Rattle.fol_formula.specs.Syntax.{TermTree, TermTrees, bound, no_terms, term_then}
 use Rattle.fol_formula.specs.Fits.{FitsForm, FitsForms, FitsTerm, FitsTerms}
 use Rattle.rml_syntax.specs.declared.tree.Name.{Name}
 use Rattle.rml_syntax.specs.Tree.{ExprTree, ExprTrees}
 use Rattle.rml_command.specs.Models.{ModelTree, IsNamed, FitsPrimitive}
 use Rattle.rml_sorts.specs.declared.meaning.Meaning.{Meaning}
 use Rattle.rml_sorts.specs.declared.meaning.Meaning.TheVariants as meaning
-use Rattle.rml_sorts.specs.declared.meaning.Wanted.TheVariants.{Formula, Term}
+use Rattle.rml_sorts.specs.declared.meaning.Wanted.TheVariants.{Term}
 use Rattle.rml_sorts.specs.Meanings.{bytes_of, is_known, is_relation, is_variable, is_function_with_arguments, argument_sorts, result_sort, BoundName, with_parameters}
-use Rattle.rml_sorts.specs.Demands.{Demand, first_fault, is_expected, expr_count, asks, demands, argument_demands, tuple_demands, put_demands, parameter_demands, side_of, side_demands, assign_demands}
+use Rattle.rml_sorts.specs.Demands.{Demand, first_fault, is_expected, expr_count, asks, demands, argument_demands, tuple_demands, put_demands, parameter_demands, side_demands, assign_demands}
 use Rattle.rml_sorts.specs.Formulas.{formula_of, term_of, terms_of}
 use Rattle.rml_sorts.specs.Commands.{term_count, parameters, equations, at_tuple, insertion, removal, placement, assignment}
 use Rattle.rml_sorts.proofs.Firsts.{met, met_left, met_right}
-use Rattle.rml_sorts.proofs.Growing.{Extends, term_grows}
-use Rattle.rml_sorts.proofs.Fitting.{sorts_of, IsThere, not_none, expected_sort, formula_fits, term_fits, arguments_fit}
+use Rattle.rml_sorts.proofs.Extending.{Extends, term_grows}
+use Rattle.rml_sorts.proofs.Fitting.{sorts_of, IsThere, expected_sort, formula_fits, term_fits, arguments_fit}
 
 same_symbols : (sig : Symbols) → Extends sig sig
 same_symbols sig = record { sorts = omega arith; relations = omega arith; functions = omega arith; sorts_of = λ r h. refl; from_of = λ f h. refl; into_of = λ f h. refl }

@@ -1,5 +1,5 @@
 -- The places of a model stand in its text.
-use Rattle.std.proofs.Common.{◌≡◌, ◌≤◌, ℕ, Bool, true, false, if◌then◌else◌, List, [], ◌∷◌, ◌++◌, Option, Some, None, arith}
+use Rattle.std.proofs.Common.{◌≤◌, ℕ, Bool, true, false, if◌then◌else◌, List, [], ◌∷◌, ◌++◌, Option, Some, None, arith}
 use Rattle.std.specs.List.{AllByRecursion}
 use Rattle.rml_syntax.specs.declared.tree.Name.{Name}
 use Rattle.rml_syntax.specs.Tree as syntax
@@ -10,8 +10,8 @@ use Rattle.rml_command.specs.declared.places.Condition.{Condition}
 use Rattle.rml_sorts.specs.Laws.{PlacesStandInText}
 use Rattle.rml_sorts.specs.Formulas.{quantifiers_in, quantifiers_in_each}
 use Rattle.rml_sorts.specs.Commands.{conditions_of, conditions_of_block, conditions_of_blocks, quantifiers_of_side, quantifiers_of, quantifiers_of_block, quantifiers_of_blocks}
-use Rattle.rml_sorts.specs.Items.{Draft, no_items, model_with, with_item, with_items, model_of}
-use Rattle.rml_sorts.proofs.Growing.{all_append, all_push}
+use Rattle.rml_sorts.specs.Items.{Draft, no_items, model_with, with_item, with_items}
+use Rattle.rml_sorts.proofs.Extending.{all_append, all_push}
 
 module _ (n : ℕ) where
   abbrev In : ℕ → Type 0

@@ -1,51 +1,37 @@
 -- The model of a tree without a fault is whole.
-use Rattle.std.proofs.Common.{◌≡◌, ◌⊎◌, ◌<◌, ◌≤◌, ◌+◌, ℕ, zero, suc, Bool, true, false, not, is_some, nat_lt, inl, inr, List, [], ◌∷◌, ◌++◌, length, map, Option, Some, None, slice_index_or, refl, sym, subst, ap, ◌∙◌, arith, length-append}
-use Rattle.std.specs.List.{AllByRecursion, All}
+use Rattle.std.proofs.Common.{◌≡◌, ◌<◌, ◌≤◌, ◌+◌, ℕ, zero, suc, Bool, true, false, not, nat_lt, List, [], ◌∷◌, ◌++◌, length, map, None, slice_index_or, refl, sym, subst, ap, arith, length-append}
+use Rattle.std.specs.List.{AllByRecursion}
 use Rattle.std.proofs.lemmas.List.{get_or_append_left, length-map}
 use Rattle.std.proofs.Math.Seq.{get_or-append_seam}
 use Rattle.std.proofs.lemmas.Bool.Decides.{nat_tests}
 use Rattle.fol_sig.specs.declared.Sort.{Sort}
 use Rattle.fol_sig.specs.Tables.{Declared, AreSorts}
-use Rattle.fol_sig.specs.Symbols.{Symbols, symbols, AreSorted, no_function}
-use Rattle.fol_formula.specs.Syntax.{FormTree}
+use Rattle.fol_sig.specs.Symbols.{symbols, AreSorted, no_function}
 use Rattle.fol_formula.specs.Fits.{FitsForm}
 use Rattle.fol_formula.specs.Fragments.{HasPlainTerms}
-use Rattle.rml_lex.specs.declared.token.Fault.{Fault}
 use Rattle.rml_syntax.specs.declared.tree.Name.{Name}
 use Rattle.rml_syntax.specs.Tree as syntax
 use Rattle.rml_syntax.specs.Tree.{ExprTree, ItemTree, Relation, Function, Variable, Axiom, Conjecture, Init, Action, Final, Block, no_command, and_command, block_of}
-use Rattle.rml_syntax.specs.Shape.{BlockNests, CommandsNest, ItemNests, IsShaped}
-use Rattle.rml_command.specs.Trees.{CommandTree, EachPrimitive, HasBranches, seq}
-use Rattle.rml_command.specs.Models.{ModelTree, EachBlock, FitsPrimitive, FitsCommand, FitsModel, IsNamed, IsPlaced, IsWritten, HasPlainSides, IsPlainModel, IsModel}
+use Rattle.rml_syntax.specs.Shape.{BlockNests, CommandsNest, ItemNests}
+use Rattle.rml_command.specs.Trees.{CommandTree, EachPrimitive, HasBranches}
+use Rattle.rml_command.specs.Models.{ModelTree, EachBlock, FitsCommand, IsNamed, IsWritten, HasPlainSides, IsPlainModel, IsModel}
 use Rattle.rml_command.specs.declared.names.Names.{Names}
-use Rattle.rml_command.specs.declared.places.Places.{Places}
 use Rattle.rml_command.specs.declared.places.Condition.{Condition}
 use Rattle.rml_sorts.specs.declared.meaning.Wanted.TheVariants.{Formula}
 use Rattle.rml_sorts.specs.Laws.{ModelsAreWhole}
-use Rattle.rml_sorts.specs.Meanings.{bytes_of, name_count, is_symbol, is_among, sort_by_name, sort_number}
+use Rattle.rml_sorts.specs.Sound.{IsSound}
+use Rattle.rml_sorts.specs.Meanings.{bytes_of, name_count, is_symbol, is_among, sort_number}
 use Rattle.rml_sorts.specs.Demands.{Demand, asks, first_fault, demands, block_demands}
 use Rattle.rml_sorts.specs.Formulas.{formula_of, quantifiers_in}
-use Rattle.rml_sorts.specs.Commands.{commands_of, conditions_of_block, quantifiers_of_block}
-use Rattle.rml_sorts.specs.Items.{Draft, no_items, declares, stands_once, sort_known, sort_demands, declares_symbol, is_sentence, item_demands, model_with, with_item, with_items, items_demands, model_of, fault_of, with_function, with_quantifiers, with_block, block_command}
+use Rattle.rml_sorts.specs.Commands.{conditions_of_block, quantifiers_of_block}
+use Rattle.rml_sorts.specs.Items.{Draft, no_items, declares, stands_once, sort_known, sort_demands, declares_symbol, is_sentence, item_demands, model_with, with_item, with_items, items_demands, model_of, with_function, block_command}
 use Rattle.rml_sorts.proofs.Firsts.{met, met_left, met_right}
-use Rattle.rml_sorts.proofs.Growing.{Extends, sentence_grows, command_grows, each_more, all_more, all_append, all_push}
+use Rattle.rml_sorts.proofs.Extending.{Extends, sentence_grows, command_grows, each_more, all_more, all_append, all_push}
 use Rattle.rml_sorts.proofs.Fitting.{formula_fits, sort_known_below}
 use Rattle.rml_sorts.proofs.Plain.{nil_left, nil_right, formula_plain}
-use Rattle.rml_sorts.proofs.Blocks.{block_fits, block_conditions_fit, block_branches, written_left, written_right, block_written, block_plain, block_conditions_plain}
+use Rattle.rml_sorts.proofs.WholeBlocks.{block_fits, block_conditions_fit, block_branches, written_left, written_right, block_written, block_plain, block_conditions_plain}
 
--- what holds of the model of every first part of a text
-record IsSound (m : ModelTree) : Type 0 where
-  sorted : AreSorted (symbols m.signature)
-  fits : FitsModel m
-  conditions_fit : AllByRecursion (λ c. FitsForm (symbols m.signature) [] c.sentence) m.places.conditions
-  branches : EachBlock HasBranches m
-  named : IsNamed m
-  placed : IsPlaced m
-  few : name_count m.names ≤ 1000
-  written : EachBlock (EachPrimitive (IsWritten m.places.conditions)) m
-  plain : m.places.quantifiers ≡ [] → IsPlainModel m
-
-whole : (m : ModelTree) → IsSound m → IsModel m
+pub whole : (m : ModelTree) → IsSound m → IsModel m
 whole m s = record {
   fits = s.fits;
   conditions_fit = s.conditions_fit;
@@ -381,7 +367,7 @@ module _ (text : List ℕ) (m : ModelTree) (s : IsSound m) where
 
 -- ---- items
 
-step : (text : List ℕ) (d : Draft) (item : ItemTree) → IsSound d.model → ItemNests 100 item → first_fault (item_demands text d item) ≡ None → IsSound (model_with text d.model item)
+pub step : (text : List ℕ) (d : Draft) (item : ItemTree) → IsSound d.model → ItemNests 100 item → first_fault (item_demands text d item) ≡ None → IsSound (model_with text d.model item)
 step text d (syntax.Sort name) s nests h = with_sort text d.model s name h
 step text d (Relation name sorts) s nests h = with_relation text d.model s name sorts h
 step text d (Function name sorts sort) s nests h = with_function_item text d.model s name sorts sort h
@@ -401,7 +387,7 @@ steps text (item ∷ items) d s nests h =
     steps text items (with_item text d item) (step text d item s nests.0 (met_left (item_demands text d item) (items_demands text (with_item text d item) items) h)) nests.1
     (met_right (item_demands text d item) (items_demands text (with_item text d item) items) h)
 
-at_start : IsSound no_items.model
+pub at_start : IsSound no_items.model
 at_start = record {
   sorted = record { relations = λ r h. absurd (omega arith); functions = λ f h. absurd (omega arith); into = λ f h. absurd (omega arith); relations_short = λ r h. absurd (omega arith); functions_short = λ f h. absurd (omega arith) };
   fits = record { axioms = tt; conjectures = tt; blocks = record { init = tt; actions = tt; last = tt } };

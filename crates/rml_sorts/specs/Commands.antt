@@ -11,7 +11,7 @@ use Rattle.rml_command.specs.declared.places.Word.TheVariants as word
 use Rattle.rml_command.specs.declared.places.Condition.{Condition}
 use Rattle.rml_sorts.specs.declared.meaning.Meaning.{Meaning}
 use Rattle.rml_sorts.specs.declared.meaning.Meaning.TheVariants.{Relation, Function}
-use Rattle.rml_sorts.specs.Meanings.{bytes_of, argument_sorts, symbol_of, BoundName, with_parameters}
+use Rattle.rml_sorts.specs.Meanings.{bytes_of, argument_sorts, symbol_of, with_parameters}
 use Rattle.rml_sorts.specs.Formulas.{formula_of, term_of, terms_of, quantifiers_in, quantifiers_in_each}
 
 -- ---- updates at one tuple

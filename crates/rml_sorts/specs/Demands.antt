@@ -1,7 +1,7 @@
 -- What the language demands of the names and sorts of a text, in the order of reading. The first demand that is not
 -- met is the fault of this phase. Each demand is one row of the language's rules: a place, the fault's code, and
 -- whether it is met.
-use Rattle.std.specs.Prelude.{ℕ, suc, ◌==◌, ◌&&◌, ◌||◌, nat_lt, Bool, true, false, not, is_some, if◌then◌else◌, List, [], ◌∷◌, ◌++◌, length, Option, Some, None}
+use Rattle.std.specs.Prelude.{ℕ, suc, ◌==◌, ◌&&◌, ◌||◌, Bool, true, false, not, is_some, if◌then◌else◌, List, [], ◌∷◌, ◌++◌, length, Option, Some, None}
 use Rattle.rml_lex.specs.declared.token.Fault.{Fault}
 use Rattle.rml_syntax.specs.declared.tree.Name.{Name}
 use Rattle.rml_syntax.specs.declared.tree.Binder.{Binder}

@@ -1,13 +1,13 @@
 -- The formulas and terms that expressions stand for. An expression that is not what it has to be where it stands is a
 -- fault; what these functions give for it is read by nobody.
-use Rattle.std.specs.Prelude.{ℕ, Bool, true, false, if◌then◌else◌, List, [], ◌∷◌, ◌++◌}
+use Rattle.std.specs.Prelude.{ℕ, Bool, true, if◌then◌else◌, List, [], ◌∷◌, ◌++◌}
 use Rattle.fol_formula.specs.Syntax.{FormTree, FormTrees, TermTree, TermTrees, top, bottom, rel, equal, negation, conjunction, disjunction, implication, equivalence, for_all, for_some, no_forms, form_then, bound, app, ite, no_terms, term_then}
 use Rattle.rml_syntax.specs.declared.tree.Quantifier.{Quantifier}
 use Rattle.rml_syntax.specs.declared.tree.Quantifier.TheVariants.{Forall, Exists}
 use Rattle.rml_syntax.specs.Tree.{ExprTree, ExprTrees, True, False, Apply, Ite, Equal, Not, And, Or, Implies, Iff, Quantified, no_expr, and_expr}
 use Rattle.rml_command.specs.Models.{ModelTree}
 use Rattle.rml_sorts.specs.declared.meaning.Meaning.{Meaning}
-use Rattle.rml_sorts.specs.declared.meaning.Meaning.TheVariants.{Bound, Relation, Function, Unknown}
+use Rattle.rml_sorts.specs.declared.meaning.Meaning.TheVariants.{Bound, Relation, Function}
 use Rattle.rml_sorts.specs.Meanings.{bytes_of, BoundName, meaning_of, sort_number, binding}
 
 abbrev pub atom_of : Meaning → TermTrees → FormTree

@@ -1,18 +1,13 @@
 -- The model of a text's tree, item by item, and the fault of its names and sorts. Names are known from the end of their
 -- item on.
-use Rattle.std.specs.Prelude.{◌≡◌, ℕ, suc, ◌+◌, nat_lt, Bool, true, false, not, is_some, List, [], ◌∷◌, ◌++◌, map, length, Option, Some, None}
-use Rattle.fol_sig.specs.Tables.{Declared}
-use Rattle.fol_sig.specs.declared.Sort.{Sort}
-use Rattle.fol_formula.specs.Syntax.{FormTree}
+use Rattle.std.specs.Prelude.{ℕ, suc, ◌+◌, nat_lt, Bool, true, false, not, is_some, List, [], ◌∷◌, ◌++◌, map, Option}
 use Rattle.rml_lex.specs.declared.token.Fault.{Fault}
 use Rattle.rml_syntax.specs.declared.tree.Name.{Name}
 use Rattle.rml_syntax.specs.Tree as syntax
 use Rattle.rml_syntax.specs.Tree.{ItemTree, Relation, Function, Variable, Axiom, Conjecture, Init, Action, Final, block_of}
 use Rattle.rml_command.specs.Trees.{CommandTree, seq, no_commands}
 use Rattle.rml_command.specs.Models.{ModelTree}
-use Rattle.rml_command.specs.declared.names.Names.{Names}
 use Rattle.rml_command.specs.declared.places.Places.{Places}
-use Rattle.rml_command.specs.declared.places.Condition.{Condition}
 use Rattle.rml_sorts.specs.declared.meaning.Wanted.TheVariants.{Formula}
 use Rattle.rml_sorts.specs.Meanings.{bytes_of, is_among, name_count, is_symbol, sort_by_name, sort_number}
 use Rattle.rml_sorts.specs.Demands.{Demand, asks, first_fault, demands, block_demands}

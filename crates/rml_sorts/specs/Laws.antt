@@ -1,5 +1,7 @@
 -- What holds of the model of every tree whose names and sorts have no fault.
-use Rattle.std.specs.Prelude.{◌≡◌, ℕ, List, length, None}
+use Rattle.std.specs.Prelude.{◌≡◌, ℕ, List, Some, None}
+use Rattle.rml_lex.specs.declared.token.Fault.{Fault}
+use Rattle.rml_lex.specs.Tokens.{StandsBy}
 use Rattle.rml_syntax.specs.Tree.{ItemTree}
 use Rattle.rml_syntax.specs.Shape.{IsShaped}
 use Rattle.rml_syntax.specs.Within.{TreeWithin}
@@ -13,3 +15,7 @@ ModelsAreWhole = (text : List ℕ) (items : List ItemTree) → IsShaped items �
 -- the places of the model stand where the names and words of the tree do
 abbrev pub PlacesStandInText : Type 0
 PlacesStandInText = (text : List ℕ) (n : ℕ) (items : List ItemTree) → TreeWithin n items → ArePlacesWithin n (model_of text items).places
+
+-- the first fault of names and sorts stands where the names and words of the tree do
+abbrev pub FaultStandsInText : Type 0
+FaultStandsInText = (text : List ℕ) (n : ℕ) (items : List ItemTree) (f : Fault) → TreeWithin n items → fault_of text items ≡ Some f → StandsBy n f

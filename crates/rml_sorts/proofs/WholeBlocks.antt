@@ -1,18 +1,18 @@
 -- The commands of blocks whose demands are met: they fit, their assumptions are written in the text, each choice has a
 -- branch, and where no quantifier stands where none may, their sides are plain.
-use Rattle.std.proofs.Common.{◌≡◌, ◌⊎◌, ℕ, zero, suc, true, false, inl, inr, List, [], ◌∷◌, ◌++◌, Option, Some, None, refl}
+use Rattle.std.proofs.Common.{◌≡◌, ℕ, zero, suc, true, false, inl, inr, List, [], ◌∷◌, ◌++◌, Option, Some, None, refl}
 use Rattle.std.specs.List.{AllByRecursion}
-use Rattle.fol_sig.specs.Symbols.{Symbols, symbols, AreSorted}
-use Rattle.fol_formula.specs.Syntax.{FormTree, FormTrees, TermTree, TermTrees, negation, no_terms, term_then}
+use Rattle.fol_sig.specs.Symbols.{symbols, AreSorted}
+use Rattle.fol_formula.specs.Syntax.{TermTree, TermTrees, no_terms, term_then}
 use Rattle.fol_formula.specs.Fits.{FitsForm}
-use Rattle.fol_formula.specs.Fragments.{HasPlainTerms, IsQuantifierFree, AreQuantifierFree, IsQuantifierFreeTerm, AreQuantifierFreeTerms}
+use Rattle.fol_formula.specs.Fragments.{HasPlainTerms, AreQuantifierFree, IsQuantifierFreeTerm, AreQuantifierFreeTerms}
 use Rattle.rml_syntax.specs.declared.tree.Name.{Name}
 use Rattle.rml_syntax.specs.Tree.{ExprTree, ExprTrees, Block, Blocks, Skip, Abort, Assume, Assert, If, Choose, Insert, Remove, Put, Assign, no_command, and_command, no_block, and_block}
 use Rattle.rml_syntax.specs.Tree as syntax
 use Rattle.rml_syntax.specs.Shape.{CommandNests, BlockNests, BlocksNest}
 use Rattle.rml_command.specs.Lists.{SomeOf}
-use Rattle.rml_command.specs.Trees.{PrimitiveTree, assume, set_rel, set_fun, havoc, abort, CommandTree, CommandTrees, prim, seq, choose, EachPrimitive, EachPrimitiveOf, HasBranches, HaveBranches}
-use Rattle.rml_command.specs.Models.{ModelTree, IsNamed, FitsPrimitive, Assumes, IsWritten, HasPlainSides}
+use Rattle.rml_command.specs.Trees.{PrimitiveTree, assume, set_rel, set_fun, havoc, abort, CommandTrees, EachPrimitive, EachPrimitiveOf, HasBranches, HaveBranches}
+use Rattle.rml_command.specs.Models.{ModelTree, IsNamed, FitsPrimitive, IsWritten, HasPlainSides}
 use Rattle.rml_command.specs.declared.places.Condition.{Condition}
 use Rattle.rml_command.specs.declared.places.Word.TheVariants as word
 use Rattle.rml_sorts.specs.declared.meaning.Meaning.{Meaning}
@@ -23,7 +23,7 @@ use Rattle.rml_sorts.specs.Demands.{first_fault, demands, command_demands, block
 use Rattle.rml_sorts.specs.Formulas.{formula_of, term_of, terms_of, quantifiers_in, quantifiers_in_each}
 use Rattle.rml_sorts.specs.Commands.{term_count, parameters, equations, insertion, removal, placement, assignment, command_of, commands_of, branches_of, conditions_of, conditions_of_block, conditions_of_blocks, quantifiers_of_side, quantifiers_of, quantifiers_of_block, quantifiers_of_blocks}
 use Rattle.rml_sorts.proofs.Firsts.{met_left, met_right}
-use Rattle.rml_sorts.proofs.Growing.{each_more, each_of_more, all_append}
+use Rattle.rml_sorts.proofs.Extending.{each_more, each_of_more, all_append}
 use Rattle.rml_sorts.proofs.Fitting.{IsThere, symbol_is_there, formula_fits}
 use Rattle.rml_sorts.proofs.Sides.{insert_fits, remove_fits, put_fits, assign_fits}
 use Rattle.rml_sorts.proofs.Plain.{nil_left, nil_right, formula_free, formula_plain, term_free, terms_free}

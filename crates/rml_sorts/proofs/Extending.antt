@@ -1,12 +1,12 @@
 -- What fits some symbols fits more of them.
-use Rattle.std.proofs.Common.{◌≡◌, ◌<◌, ◌≤◌, ◌+◌, ℕ, List, [], ◌∷◌, ◌++◌, length, slice_index, reverse, length-append, refl, sym, subst, ◌∙◌, arith}
+use Rattle.std.proofs.Common.{◌≡◌, ◌<◌, ◌≤◌, ℕ, List, [], ◌∷◌, ◌++◌, length, reverse, length-append, sym, subst, ◌∙◌, arith}
 use Rattle.std.specs.List.{AllByRecursion}
 use Rattle.std.proofs.lemmas.List.{get_or_append_left, append-nil}
 use Rattle.fol_sig.specs.Symbols.{Symbols}
 use Rattle.fol_formula.specs.Syntax.{FormTree, FormTrees, TermTree, TermTrees, top, bottom, rel, equal, negation, conjunction, disjunction, implication, equivalence, for_all, for_some, no_forms, form_then, bound, app, ite, no_terms, term_then}
 use Rattle.fol_formula.specs.Fits.{FitsForm, FitsForms, FitsTerm, FitsTerms}
 use Rattle.rml_command.specs.Trees.{PrimitiveTree, assume, set_rel, set_fun, havoc, abort, CommandTree, CommandTrees, prim, seq, choose, no_commands, command_then, EachPrimitive, EachPrimitiveOf}
-use Rattle.rml_command.specs.Models.{FitsPrimitive, FitsCommand, EachBlock, ModelTree}
+use Rattle.rml_command.specs.Models.{FitsPrimitive, FitsCommand}
 
 -- the symbols are among the others
 pub record Extends (old new : Symbols) : Type 0 where

@@ -1,0 +1,79 @@
+-- Argument sorts, one after another.
+use Rattle.std.proofs.Common.{◌≡◌, ◌+◌, ◌<◌, ◌++◌, ℕ, zero, suc, Bool, true, false, nat_lt, if◌then◌else◌, List, [], ◌∷◌, length, drop, get_or, Some, None, refl, sym, subst, ap, ◌∙◌, arith}
+use Rattle.rml_row.specs.declared.refused.Refused.{Refused}
+use Rattle.rml_lex.specs.declared.token.Fault.{Fault}
+use Rattle.fol_sig.specs.declared.Sort.{Sort}
+use Rattle.fol_sig.specs.Tables.{AreSorts, numbers}
+use Rattle.std.proofs.lemmas.List.{length-map}
+use Rattle.rml_syntax.specs.declared.tree.Name.{Name}
+use Rattle.rml_syntax.specs.Within.{NamesWithin}
+use Rattle.rml_command.specs.Models.{ModelTree}
+use Rattle.rml_sorts.specs.Demands.{asks, first_fault}
+use Rattle.rml_sorts.specs.Items.{sort_known, sort_demands}
+use Rattle.rml_sorts.proofs.Firsts.{first_right}
+use Rattle.rml_sorts.proofs.Answered.{Refuses, refuses_as, refuses_left}
+use Rattle.rml_sorts.proofs.Turns.{drop-next}
+
+module _ (text : List ℕ) (m : ModelTree) where
+  -- the demands from a place on
+  at_place : (k : ℕ) (xs : List Name) (i : ℕ) (x : Name) → i < length xs → x ≡ get_or xs i x
+      → sort_demands text m k (drop i xs) ≡ (sort_known text m x ∷ []) ++ (asks x.start 8 (nat_lt k 8) ∷ sort_demands text m (suc k) (drop (i + 1) xs))
+  at_place k xs i x lt is = ap (sort_demands text m k) (drop-next xs i x lt is)
+
+  pub sort_refused : (k : ℕ) (xs : List Name) (i : ℕ) (x : Name) (e : Refused Fault) → i < length xs → x ≡ get_or xs i x
+      → first_fault (sort_demands text m k (drop i xs)) ≡ first_fault (sort_demands text m 0 xs) → Refuses (sort_known text m x ∷ []) e → Refuses (sort_demands text m 0 xs) e
+  sort_refused k xs i x e lt is so h =
+      let front = sort_known text m x ∷ [] in
+      let rest = asks x.start 8 (nat_lt k 8) ∷ sort_demands text m (suc k) (drop (i + 1) xs) in
+      refuses_as (front ++ rest) (sort_demands text m 0 xs) e (ap first_fault (sym (at_place k xs i x lt is)) ∙ so) (refuses_left front rest e h)
+
+  -- behind a known sort
+  behind_known : (k : ℕ) (xs : List Name) (i : ℕ) (x : Name) → i < length xs → x ≡ get_or xs i x
+      → first_fault (sort_demands text m k (drop i xs)) ≡ first_fault (sort_demands text m 0 xs) → first_fault (sort_known text m x ∷ []) ≡ None
+      → first_fault (asks x.start 8 (nat_lt k 8) ∷ sort_demands text m (suc k) (drop (i + 1) xs)) ≡ first_fault (sort_demands text m 0 xs)
+  behind_known k xs i x lt is so known =
+      let front = sort_known text m x ∷ [] in
+      let rest = asks x.start 8 (nat_lt k 8) ∷ sort_demands text m (suc k) (drop (i + 1) xs) in
+      sym (first_right front rest known) ∙ ap first_fault (sym (at_place k xs i x lt is)) ∙ so
+
+  pub ninth_refused : (k : ℕ) (xs : List Name) (i : ℕ) (x : Name) → i < length xs → x ≡ get_or xs i x
+      → first_fault (sort_demands text m k (drop i xs)) ≡ first_fault (sort_demands text m 0 xs) → first_fault (sort_known text m x ∷ []) ≡ None → nat_lt k 8 ≡ false
+      → first_fault (sort_demands text m 0 xs) ≡ Some (record { code = 8; at = x.start })
+  ninth_refused k xs i x lt is so known many =
+      sym (behind_known k xs i x lt is so known)
+      ∙ ap (λ (b : Bool). if b then first_fault (sort_demands text m (suc k) (drop (i + 1) xs)) else Some (record { code = 8; at = x.start })) many
+
+  pub sort_turn : (k l : ℕ) (xs : List Name) (i : ℕ) (x : Name) → i < length xs → x ≡ get_or xs i x
+      → first_fault (sort_demands text m k (drop i xs)) ≡ first_fault (sort_demands text m 0 xs) → first_fault (sort_known text m x ∷ []) ≡ None → nat_lt k 8 ≡ true → l ≡ suc k
+      → first_fault (sort_demands text m l (drop (i + 1) xs)) ≡ first_fault (sort_demands text m 0 xs)
+  sort_turn k l xs i x lt is so known few next =
+      ap (λ (j : ℕ). first_fault (sort_demands text m j (drop (i + 1) xs))) next
+      ∙ sym (ap (λ (b : Bool). if b then first_fault (sort_demands text m (suc k) (drop (i + 1) xs)) else Some (record { code = 8; at = x.start })) few)
+      ∙ behind_known k xs i x lt is so known
+
+pub names_left : (n : ℕ) (xs : List Name) (i : ℕ) (x : Name) → i < length xs → x ≡ get_or xs i x → NamesWithin n (drop i xs) → NamesWithin n (drop (i + 1) xs)
+names_left n xs i x lt is h = let both : NamesWithin n (x ∷ drop (i + 1) xs) = subst (λ l. NamesWithin n l) (drop-next xs i x lt is) h in both.1
+
+-- sorts and their numbers are as many
+pub as_many : (ks : List Sort) (ns : List ℕ) → numbers ks ≡ ns → length ks ≡ length ns
+as_many ks ns is = sym (length-map ks (λ k. k.0)) ∙ ap length is
+
+pub sort_more : (n : ℕ) (old new : List ℕ) (k : ℕ) → new ≡ old ++ k ∷ [] → AreSorts n old → k < n → AreSorts n new
+sort_more n old new k is all below = subst (AreSorts n) (sym is) (each old all)
+  where
+    each : (ks : List ℕ) → AreSorts n ks → AreSorts n (ks ++ k ∷ [])
+    each [] h zero d lt = below
+    each [] h (suc j) d lt = absurd (omega arith)
+    each (l ∷ ks) h zero d lt = h 0 d (omega arith)
+    each (l ∷ ks) h (suc j) d lt = each ks (λ i e less. h (suc i) e (omega arith)) j d (omega arith)
+
+-- what stands at a place of the list does not hang on what is given for a place beyond it
+pub read_again : {A : Type 0} (xs : List A) (i : ℕ) (d : A) → i < length xs → get_or xs i d ≡ get_or xs i (get_or xs i d)
+read_again [] i d lt = absurd (omega arith)
+read_again (x ∷ xs) zero d lt = refl
+read_again (x ∷ xs) (suc i) d lt = read_beyond xs i d (get_or xs i d) (omega arith)
+  where
+    read_beyond : {A : Type 0} (xs : List A) (i : ℕ) (d e : A) → i < length xs → get_or xs i d ≡ get_or xs i e
+    read_beyond [] i d e lt = absurd (omega arith)
+    read_beyond (x ∷ xs) zero d e lt = refl
+    read_beyond (x ∷ xs) (suc i) d e lt = read_beyond xs i d e (omega arith)

@@ -1,0 +1,141 @@
+// Sentences, and the commands that are made of one.
+ghost use Rattle.std.specs.Prelude.{◌≡◌, ◌++◌, ◌∷◌, [], length, OnOk, IfOk};
+ghost use Rattle.fol_formula.specs.Syntax.{negation};
+ghost use Rattle.rml_syntax.specs.Tree.{expr_tree};
+ghost use Rattle.rml_syntax.specs.Within.{ExprWithin};
+ghost use Rattle.rml_syntax.specs.Shape.{ExprNests};
+ghost use Rattle.rml_command.specs.View.{command as command_view, commands as commands_view};
+ghost use Rattle.rml_command.specs.Trees.{assume, prim, seq, choose, command_then, no_commands};
+ghost use Rattle.rml_sorts.specs.declared.meaning.Wanted.TheVariants as wanted;
+ghost use Rattle.rml_sorts.specs.Demands.{demands};
+ghost use Rattle.rml_sorts.specs.Formulas.{formula_of};
+ghost use Rattle.rml_sorts.specs.Commands.{assertion as assertion_of, branching as branching_of};
+ghost use Rattle.rml_sorts.specs.Drafts.{model_in};
+ghost use Rattle.rml_sorts.specs.Sound.{IsSound};
+ghost use Rattle.rml_sorts.specs.Answering.{Answers};
+
+use crate::draft::ModelDraft;
+use crate::targets::sentence_fault;
+use crate::updates::sentence;
+use fol_formula::{Formula, Sentence};
+use rml_command::{Command, Condition, Primitive, Word};
+use rml_lex::Fault;
+use rml_row::{Mem, Refused};
+use rml_syntax::Expr;
+use std::alloc::Global;
+
+// The sentence that an expression stands for, or its fault.
+pub fn judged_sentence(
+    alloc: Global,
+    text: &[u8],
+    draft: &ModelDraft,
+    e: &Expr,
+) -> Result<Sentence, Refused<Fault>>
+    requires nests { ExprNests 100 (expr_tree e.now) }
+    requires within { ExprWithin (length text.now) (expr_tree e.now) }
+    requires sound { IsSound (model_in draft.now) }
+    ensures { Answers (λ p. p) result (demands text.now (model_in draft.now) [] wanted.Formula (expr_tree e.now)) (formula_of text.now (model_in draft.now) [] (expr_tree e.now)) }
+{
+    match sentence_fault(text, draft, e) {
+        Some(fault) => Err(Refused::For(fault)),
+        None => {
+            let sentence = sentence(alloc, text, draft, e)?;
+            Ok(sentence)
+        }
+    }
+}
+
+// The sentence behind a word, which is noted as a condition.
+pub fn noted_sentence(
+    alloc: Global,
+    text: &[u8],
+    draft: &ModelDraft,
+    word: Word,
+    at: u64,
+    e: &Expr,
+    conditions: &mut Vec<Condition>,
+) -> Result<Sentence, Refused<Fault>>
+    requires nests { ExprNests 100 (expr_tree e.now) }
+    requires within { ExprWithin (length text.now) (expr_tree e.now) }
+    requires sound { IsSound (model_in draft.now) }
+    ensures sentence { Answers (λ p. p) result (demands text.now (model_in draft.now) [] wanted.Formula (expr_tree e.now)) (formula_of text.now (model_in draft.now) [] (expr_tree e.now)) }
+    ensures noted { OnOk result (conditions.new.items ≡ conditions.old.items
+        ++ record { word = word; at = at; sentence = formula_of text.now (model_in draft.now) [] (expr_tree e.now) } ∷ []) }
+{
+    let sentence = judged_sentence(alloc, text, draft, e)?;
+    add_condition(alloc, word, at, &sentence, conditions)?;
+    Ok(sentence)
+}
+
+fn add_condition(
+    alloc: Global,
+    word: Word,
+    at: u64,
+    sentence: &Sentence,
+    conditions: &mut Vec<Condition>,
+) -> Mem<()>
+    ensures { OnOk result (conditions.new.items ≡ conditions.old.items ++ record { word = word; at = at; sentence = sentence.now } ∷ []) }
+{
+    let sentence = sentence.copy(alloc)?;
+    conditions.push(Condition { word, at, sentence })?;
+    Ok(())
+}
+
+fn negated(alloc: Global, sentence: Sentence) -> Mem<Sentence>
+    ensures { IfOk result (λ p. p ≡ negation sentence) }
+{
+    let formula = Box::new(alloc, sentence.into_formula())?;
+    Ok(Sentence::of(Formula::Not(formula)))
+}
+
+fn assumption(sentence: Sentence) -> Command
+    ensures { command_view result ≡ prim (assume sentence) }
+{
+    Command::Prim(Primitive::Assume(sentence))
+}
+
+// A sequence that begins with an assumption.
+fn guarded(sentence: Sentence, mut block: Vec<Command>) -> Mem<Command>
+    ensures { IfOk result (λ c. command_view c ≡ seq (command_then (prim (assume sentence)) (commands_view block.items))) }
+{
+    block.insert(0, assumption(sentence))?;
+    Ok(Command::Seq(block))
+}
+
+fn choice(alloc: Global, first: Command, second: Command) -> Mem<Command>
+    ensures { IfOk result (λ c. command_view c ≡ choose (command_then (command_view first) (command_then (command_view second) no_commands))) }
+{
+    let mut branches = Vec::with_capacity(alloc, 2)?;
+    branches.push(first)?;
+    branches.push(second)?;
+    Ok(Command::Choose(branches))
+}
+
+// `assert p` chooses between `assume ~p; abort` and `skip`.
+pub fn assertion(alloc: Global, sentence: Sentence) -> Mem<Command>
+    ensures { IfOk result (λ c. command_view c ≡ assertion_of sentence) }
+{
+    let mut aborting = Vec::new(alloc);
+    aborting.push(Command::Prim(Primitive::Abort))?;
+    let sentence = negated(alloc, sentence)?;
+    let fails = guarded(sentence, aborting)?;
+    let command = choice(alloc, fails, Command::Seq(Vec::new(alloc)))?;
+    Ok(command)
+}
+
+// `if p` chooses between its two blocks, behind `assume p` and `assume ~p`.
+pub fn branching(
+    alloc: Global,
+    sentence: Sentence,
+    first: Vec<Command>,
+    second: Vec<Command>,
+) -> Mem<Command>
+    ensures { IfOk result (λ c. command_view c ≡ branching_of sentence (commands_view first.items) (commands_view second.items)) }
+{
+    let copy = sentence.copy(alloc)?;
+    let first = guarded(copy, first)?;
+    let sentence = negated(alloc, sentence)?;
+    let second = guarded(sentence, second)?;
+    let command = choice(alloc, first, second)?;
+    Ok(command)
+}
