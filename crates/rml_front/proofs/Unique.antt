@@ -1,5 +1,5 @@
 -- A text has one answer.
-use Rattle.std.proofs.Common.{◌≡◌, ◌⊎◌, ℕ, inl, inr, List, Option, Some, None, refl, sym, subst, ap, ◌∙◌}
+use Rattle.std.proofs.Common.{◌≡◌, ℕ, inl, inr, List, Some, sym, subst, ap, ◌∙◌}
 use Rattle.rml_lex.specs.declared.token.Token.{Token}
 use Rattle.rml_lex.specs.declared.token.Fault.{Fault}
 use Rattle.rml_lex.specs.Tokens.{AreTokens}
@@ -10,7 +10,7 @@ use Rattle.rml_syntax.specs.Faults as grammar
 use Rattle.rml_sorts.specs.Items.{model_of, fault_of}
 use Rattle.rml_command.specs.Models.{ModelTree}
 use Rattle.rml_fragment.specs.Faults as fragment
-use Rattle.rml_front.specs.Texts.{IsTreeOf, IsResolved, IsModelOf, IsGrammarFault, IsNameFault, IsFragmentFault, IsFaultOf}
+use Rattle.rml_front.specs.Texts.{IsTreeOf, IsResolved, IsModelOf, IsGrammarFault, IsNameFault, IsFaultOf}
 use Rattle.rml_front.specs.Laws.{AnswersAreUnique}
 
 -- what the phases promise, each of its own

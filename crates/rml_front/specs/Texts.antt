@@ -1,6 +1,6 @@
 -- The model of a text, and the fault of a text. Four phases judge it, one behind the other: its bytes, its grammar, its
 -- names and sorts, and the fragment with the number of paths. The fault is that of the earliest phase that has one.
-use Rattle.std.specs.Prelude.{◌≡◌, ◌⊎◌, ℕ, List, Option, Some, None}
+use Rattle.std.specs.Prelude.{◌≡◌, ◌⊎◌, ℕ, List, Some, None}
 use Rattle.rml_lex.specs.declared.token.Token.{Token}
 use Rattle.rml_lex.specs.declared.token.Fault.{Fault}
 use Rattle.rml_lex.specs.Tokens.{AreTokens}

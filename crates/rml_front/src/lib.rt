@@ -2,5 +2,7 @@
 #![tactic(auto)]
 
 mod laws;
+mod reading;
 
 pub use laws::text_law;
+pub use reading::read_model;
