@@ -2,4 +2,16 @@
 #![tactic(auto)]
 
 #[cfg(test)]
-mod one_relation;
+mod names;
+#[cfg(test)]
+mod outside;
+#[cfg(test)]
+mod phases;
+#[cfg(test)]
+mod prefixes;
+#[cfg(test)]
+mod reports;
+#[cfg(test)]
+mod running;
+#[cfg(test)]
+mod sizes;
