@@ -7,6 +7,7 @@ use Rattle.rml_bytes.specs.declared.outside.LoadError.{LoadError}
 use Rattle.rml_bytes.specs.declared.outside.LoadError.TheVariants as errors
 use Rattle.rml_front.specs.Texts.{IsModelOf, IsFaultOf}
 use Rattle.rml_report.specs.Reports.{Reports, CanRender}
+use Rattle.truth_tables.specs.Answers.{IsReport}
 use Rattle.ivy_run.specs.Due.{Due, TakesFront}
 use Rattle.ivy_run.specs.declared.ended.Outcome.{Outcome}
 use Rattle.ivy_run.specs.declared.ended.Outcome.TheVariants as outcome
@@ -15,7 +16,7 @@ use Rattle.ivy_run.specs.declared.ended.Written.TheVariants as wrote
 
 -- the answer to a text
 abbrev pub Judges : List ℕ → Outcome → Type 0
-Judges text (outcome.Checked model report) = IsModelOf text model × Reports model report
+Judges text (outcome.Checked model report) = IsModelOf text model × Reports model report × IsReport model report
 Judges text (outcome.Fault fault) = IsFaultOf text fault
 Judges text outcome.Usage = ⊥
 Judges text outcome.TooLong = ⊥

@@ -1,7 +1,7 @@
 // The top call: from the words and the files to the sinks and the status.
 ghost use Rattle.std.specs.Prelude.{map, string_bytes};
 ghost use Rattle.command_line.specs.Lines.{line_of};
-ghost use Rattle.ivy_run.specs.Ends.{IsSafeWhereInductive, IsReportOn, IsFaultIn, IsOnlyAnswer, IsComplete, IsLoaded};
+ghost use Rattle.ivy_run.specs.Ends.{IsSafeWhereInductive, IsReportOn, IsReportNow, IsFaultIn, IsOnlyAnswer, IsComplete, IsLoaded};
 ghost use Rattle.ivy_run.specs.Due.{due_of, IsWritten};
 
 use crate::due::{finish, fixed_text, say};
@@ -26,6 +26,9 @@ pub fn run<F: Files, O: Sink, E: Sink>(
 
     // The report is on the one model of the text, has all its groups, and each of its lines is right.
     ensures report { IsReportOn result.loaded.first result.outcome }
+
+    // Which models are decided, and that the first failing path and a least counterexample are shown.
+    ensures now { IsReportNow result.outcome }
     ensures fault { IsFaultIn result.loaded.first result.outcome }
     ensures only { IsOnlyAnswer result.loaded.first result.outcome }
     ensures complete { IsComplete (F.told files.old) (F.faults files.old) (F.faults files.new)

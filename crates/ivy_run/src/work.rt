@@ -1,7 +1,7 @@
 // From the words to the answer.
 ghost use Rattle.std.specs.Prelude.{◌≡◌, ◌≤◌, [], map, string_bytes};
 ghost use Rattle.command_line.specs.Lines.{line_of};
-ghost use Rattle.ivy_run.specs.Ends.{IsReportOn, IsFaultIn, EndsCheck, IsLoaded};
+ghost use Rattle.ivy_run.specs.Ends.{IsReportOn, IsReportNow, IsFaultIn, EndsCheck, IsLoaded};
 ghost use Rattle.ivy_run.specs.Steps.{Judges, AnswersLoad, CanSay};
 
 use crate::ended::Outcome;
@@ -50,6 +50,7 @@ fn check_file<F: Files>(alloc: Global, name: &str, files: &mut F, first: &mut Ve
     ensures later { F.faults files.old ≤ F.faults files.new }
     ensures ends { EndsCheck (F.told files.old name.now) (F.faults files.old) (F.faults files.new) result first.new.items }
     ensures report { IsReportOn first.new.items result }
+    ensures now { IsReportNow result }
     ensures fault { IsFaultIn first.new.items result }
     ensures can { CanSay first.new.items result }
 {
@@ -68,6 +69,7 @@ pub fn work<F: Files>(
     ensures loaded { IsLoaded (F.told files.old) (F.faults files.old) (F.faults files.new)
         (line_of (map (λ w. string_bytes w) words.now)) result first.new.items [] }
     ensures report { IsReportOn first.new.items result }
+    ensures now { IsReportNow result }
     ensures fault { IsFaultIn first.new.items result }
     ensures can { CanSay first.new.items result }
 {
