@@ -12,6 +12,7 @@ pub mod Walking
 pub mod Marking
 pub mod Opening
 pub mod Second
+pub mod Levels
 pub mod Searching
 pub mod Backing
 pub mod Adding
@@ -20,3 +21,6 @@ pub mod Loads
 pub mod Logging
 pub mod Values
 pub mod Begins
+pub mod Scanning
+pub mod Stepping
+pub mod PlainBegins

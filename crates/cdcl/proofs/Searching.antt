@@ -15,12 +15,18 @@ use Rattle.cdcl.specs.Trail.{reason_at, was_set, is_set, free}
 use Rattle.cdcl.specs.Growth.{Extends}
 use Rattle.cdcl.specs.Watch.{Pairs, WereSafe, IsWatching}
 use Rattle.cdcl.specs.State.{held_in, pairs_of, lists_of, IsState, IsSafeAt, Grows, IsWatchingAt}
+use Rattle.cdcl.specs.Holding.{IsHolding}
 use Rattle.cdcl.specs.Search.{AreStarts, IsSearch}
 use Rattle.cdcl.proofs.Trails.{was_set-push, all_set_push, trail_push, trail_cut, was_set-take, is_set-take, get-push_old, get-take}
 use Rattle.cdcl.specs.Assigned.{IsUnset}
 use Rattle.cdcl.proofs.Literals.{opposite-even, opposite-odd}
 use Rattle.cdcl.proofs.Growth.{free_less}
+use Rattle.cdcl.proofs.Levels.{get_or-take, starts_decided, starts_cut}
 use Rattle.cdcl.proofs.Watching.{safe_more, all_quiet}
+
+-- the clauses and the trail of a state
+pub state_holds : (s : State) → IsState s → IsHolding s.clauses s.trail
+state_holds s h = record { trail = h.trail; small = h.small; few = h.few }
 
 -- propagation
 pub starts_grow : (a b : TrailValue) (starts : List ℕ) → Extends a b → AreStarts a.steps starts → AreStarts b.steps starts
@@ -78,7 +84,7 @@ module _ (a b : State) (starts : List ℕ) (l : ℕ) (k : IsSearch a starts (len
       listed = rw (sw, sz) k.state.listed;
       few = rw sc k.state.few;
     };
-    decisions = rw st (record { rising = rise; inside = inner; decided = why });
+    decisions = rw st (starts_decided a.trail.steps l starts k.decisions);
     levels = record { safe = safety; drawn = (let e = len in omega arith); watching = rw (st, sc, sw) (watching_pushed (held_in a) a.trail.steps (record { literal = l; reason = 0 }) (length a.trail.steps) a (omega arith) k.levels.watching) };
   }
     where
@@ -94,45 +100,6 @@ module _ (a b : State) (starts : List ℕ) (l : ℕ) (k : IsSearch a starts (len
       start_new : get_or (starts ++ length a.trail.steps ∷ []) (length starts) 0 ≡ length a.trail.steps
       start_new = get_or-append_seam starts (length a.trail.steps) [] 0
 
-      rise : (i j : ℕ) → i < j → j < length (starts ++ length a.trail.steps ∷ []) → get_or (starts ++ length a.trail.steps ∷ []) i 0 < get_or (starts ++ length a.trail.steps ∷ []) j 0
-      rise i j h g = at (cases_lt j (length starts))
-        where
-          at : (j < length starts) ⊎ (length starts ≤ j) → get_or (starts ++ length a.trail.steps ∷ []) i 0 < get_or (starts ++ length a.trail.steps ∷ []) j 0
-          at (inl q) = rw (start_old i (omega arith), start_old j q) (k.decisions.rising i j h q)
-          at (inr q) =
-              let c = count in
-              let e : j ≡ length starts = omega arith in
-              rw (start_old i (omega arith), e, start_new) (k.decisions.inside i (omega arith))
-
-      inner : (i : ℕ) → i < length (starts ++ length a.trail.steps ∷ []) → get_or (starts ++ length a.trail.steps ∷ []) i 0 < length (a.trail.steps ++ record { literal = l; reason = 0 } ∷ [])
-      inner i h = at (cases_lt i (length starts))
-        where
-          more : length (a.trail.steps ++ record { literal = l; reason = 0 } ∷ []) ≡ length a.trail.steps + 1
-          more = length-append a.trail.steps (record { literal = l; reason = 0 } ∷ [])
-
-          at : (i < length starts) ⊎ (length starts ≤ i) → get_or (starts ++ length a.trail.steps ∷ []) i 0 < length (a.trail.steps ++ record { literal = l; reason = 0 } ∷ [])
-          at (inl q) = let m = more in let x = k.decisions.inside i q in rw (start_old i q) (omega arith)
-          at (inr q) =
-              let c = count in
-              let m = more in
-              let e : i ≡ length starts = omega arith in
-              rw (e, start_new) (omega arith)
-
-      why : (i : ℕ) → i < length (a.trail.steps ++ record { literal = l; reason = 0 } ∷ []) → reason_at (a.trail.steps ++ record { literal = l; reason = 0 } ∷ []) i ≡ 0
-          → (j : ℕ) × (j < length (starts ++ length a.trail.steps ∷ [])) × (get_or (starts ++ length a.trail.steps ∷ []) j 0 ≡ i)
-      why i h z = at (cases_lt i (length a.trail.steps))
-        where
-          at : (i < length a.trail.steps) ⊎ (length a.trail.steps ≤ i) → (j : ℕ) × (j < length (starts ++ length a.trail.steps ∷ [])) × (get_or (starts ++ length a.trail.steps ∷ []) j 0 ≡ i)
-          at (inl q) =
-              let d = k.decisions.decided i q (ap (λ (x : Step). x.reason) (sym (get-push_old a.trail.steps (record { literal = l; reason = 0 }) i q)) ∙ z) in
-              let c = count in
-              let d1 = d.1 in
-              (d.0, omega arith, start_old d.0 d.1 ∙ d.2)
-          at (inr q) =
-              let c = count in
-              let m = length-append a.trail.steps (record { literal = l; reason = 0 } ∷ []) in
-              (length starts, omega arith, start_new ∙ (let e : length a.trail.steps ≡ i = omega arith in e))
-
       safety : (i : ℕ) → i < length (starts ++ length a.trail.steps ∷ []) → IsSafeAt b (get_or (starts ++ length a.trail.steps ∷ []) i 0)
       safety i h = at (cases_lt i (length starts))
         where
@@ -142,12 +109,6 @@ module _ (a b : State) (starts : List ℕ) (l : ℕ) (k : IsSearch a starts (len
               let c = count in
               let e : i ≡ length starts = omega arith in
               rw (e, start_new, st, sc, sw) (safe_pushed (held_in a) a.trail.steps (record { literal = l; reason = 0 }) (pairs_of a) (length a.trail.steps) (omega arith) k.levels.watching.at_head)
-
-get_or-take : (xs : List ℕ) (n i : ℕ) → i < n → get_or (take n xs) i 0 ≡ get_or xs i 0
-get_or-take xs zero i h = absurd (omega arith)
-get_or-take [] (suc n) i h = refl
-get_or-take (x ∷ xs) (suc n) zero h = refl
-get_or-take (x ∷ xs) (suc n) (suc i) h = get_or-take xs n i (omega arith)
 
 -- the trail is cut at the start of level k + 1, and so are the starts
 module _ (a b : State) (starts : List ℕ) (head k : ℕ) (s : IsSearch a starts head) (lt : k < length starts) (sc : b.clauses ≡ a.clauses) (sw : b.watches ≡ a.watches)
@@ -161,7 +122,7 @@ module _ (a b : State) (starts : List ℕ) (head k : ℕ) (s : IsSearch a starts
       listed = rw (sw, sz) s.state.listed;
       few = rw sc s.state.few;
     };
-    decisions = rw st (record { rising = rise; inside = inner; decided = why });
+    decisions = rw st (starts_cut a.trail.steps starts k s.decisions lt);
     levels = record { safe = safety; drawn = (let e = len in let f = ap length st in omega arith); watching = rw (st, sc, sw) (record { at_head = front; listed = s.levels.watching.listed; watches = s.levels.watching.watches }) };
   }
     where
@@ -176,33 +137,6 @@ module _ (a b : State) (starts : List ℕ) (head k : ℕ) (s : IsSearch a starts
 
       start_old : (i : ℕ) → i < k → get_or (take k starts) i 0 ≡ get_or starts i 0
       start_old i h = get_or-take starts k i h
-
-      rise : (i j : ℕ) → i < j → j < length (take k starts) → get_or (take k starts) i 0 < get_or (take k starts) j 0
-      rise i j h g =
-          let c = count in
-          rw (start_old i (omega arith), start_old j (omega arith)) (s.decisions.rising i j h (omega arith))
-
-      inner : (i : ℕ) → i < length (take k starts) → get_or (take k starts) i 0 < length (take (get_or starts k 0) a.trail.steps)
-      inner i h = let c = count in rw (len, start_old i (omega arith)) (s.decisions.rising i k (omega arith) lt)
-
-      why : (i : ℕ) → i < length (take (get_or starts k 0) a.trail.steps) → reason_at (take (get_or starts k 0) a.trail.steps) i ≡ 0 → (j : ℕ) × (j < length (take k starts)) × (get_or (take k starts) j 0 ≡ i)
-      why i h z =
-          let e = len in
-          let n = inside in
-          let lti : i < get_or starts k 0 = omega arith in
-          let d = s.decisions.decided i (omega arith) (ap (λ (x : Step). x.reason) (sym (get-take a.trail.steps (get_or starts k 0) i lti)) ∙ z) in
-          at d.0 d.1 d.2 lti (cases_lt d.0 k)
-        where
-          at : (j : ℕ) → j < length starts → get_or starts j 0 ≡ i → i < get_or starts k 0 → (j < k) ⊎ (k ≤ j) → (j : ℕ) × (j < length (take k starts)) × (get_or (take k starts) j 0 ≡ i)
-          at j g q l (inl r) = let c = count in (j, omega arith, start_old j r ∙ q)
-          at j g q l (inr r) = absurd (two (cases_lt k j))
-            where
-              two : (k < j) ⊎ (j ≤ k) → ⊥
-              two (inl m) = let x = s.decisions.rising k j m g in omega arith
-              two (inr m) =
-                  let e : j ≡ k = omega arith in
-                  let x : get_or starts k 0 ≡ i = ap (λ (n : ℕ). get_or starts n 0) (sym e) ∙ q in
-                  omega arith
 
       cut_safe : (n : ℕ) → n ≤ get_or starts k 0 → IsSafeAt a n → WereSafe (held_in a) (take (get_or starts k 0) a.trail.steps) (pairs_of a) n
       cut_safe n h v m c e = safe_more (was_set a.trail.steps n) (was_set (take (get_or starts k 0) a.trail.steps) n) (was_set a.trail.steps n) (was_set (take (get_or starts k 0) a.trail.steps) n) c (pairs_of a m)

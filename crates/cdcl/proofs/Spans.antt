@@ -1,9 +1,13 @@
 -- Clauses in one list of literals, one more of them, and one more entry.
-use Rattle.std.proofs.Common.{◌≡◌, ℕ, suc, ◌+◌, ◌<◌, ◌≤◌, false, List, [], ◌∷◌, ◌++◌, length, get_or, map, slice_range, arith, ap, if◌then◌else◌}
+use Rattle.std.proofs.Common.{◌≡◌, ℕ, zero, suc, ◌+◌, ◌-◌, ◌<◌, ◌≤◌, not, Bool, true, false, List, [], ◌∷◌, ◌++◌, length, get_or, slice_get, map, slice_range, refl, arith, ap, sym, ◌∙◌, Some, if◌then◌else◌}
 use Rattle.std.proofs.lemmas.Grind.{common_steps}
 use Rattle.cnf_base.specs.declared.cnf.Entry.{Entry}
 use Rattle.cnf_base.specs.declared.cnf.Entry.TheVariants.{Clause, True}
 use Rattle.cdcl.specs.declared.clauses.Span.{Span}
+use Rattle.std.proofs.lemmas.List.{length-map}
+use Rattle.std.specs.Bool.{OnTrue, OnFalse}
+use Rattle.cdcl.specs.Trail.{held_by}
+use Rattle.cdcl.proofs.Entries.{held_at}
 use Rattle.cdcl.specs.ClausesView.{entry_of_span, IsWithin}
 
 range_append : (xs ys : List ℕ) (i j : ℕ) → j ≤ length xs → i ≤ j → slice_range (xs ++ ys) i j ≡ slice_range xs i j
@@ -26,3 +30,29 @@ spans_pushed xs c (z ∷ spans) s a e f t =
     let r = spans_pushed xs c spans s (λ i d h. a (suc i) d (omega arith)) e f t in
     let o = old_span xs c z (a 0 z (omega arith)) in
     cc
+
+-- the entry with an id
+get_span : (xs : List ℕ) (spans : List Span) (k : ℕ) (s : Span) → k < length spans → s ≡ get_or spans k s → slice_get (map (entry_of_span xs) spans) k ≡ Some (entry_of_span xs s)
+get_span xs [] k s h e = absurd (omega arith)
+get_span xs (z ∷ spans) zero s h e = ap (λ (y : Span). Some (entry_of_span xs y)) (sym e)
+get_span xs (z ∷ spans) (suc k) s h e = get_span xs spans k s (omega arith) e
+
+pub span_held : (xs : List ℕ) (spans : List Span) (id : ℕ) (s : Span) → 0 < id → id ≤ length (map (entry_of_span xs) spans) → s ≡ get_or spans (id - 1) s → held_by (map (entry_of_span xs) spans) id ≡ Some (entry_of_span xs s)
+span_held xs spans id s p h e =
+    let n : length (map (entry_of_span xs) spans) ≡ length spans = grind (arith, common_steps) in
+    let q : id ≡ id - 1 + 1 = omega arith in
+    ap (held_by (map (entry_of_span xs) spans)) q ∙ held_at (map (entry_of_span xs) spans) (id - 1) ∙ get_span xs spans (id - 1) s (omega arith) e
+
+pub clause_held : (es : List Entry) (xs : List ℕ) (id : ℕ) (s : Span) → held_by es id ≡ Some (entry_of_span xs s) → OnTrue (not s.is_true) ((x : List ℕ) × held_by es id ≡ Some (Clause x))
+clause_held es xs id s h = at s.is_true refl
+  where
+    at : (b : Bool) → s.is_true ≡ b → OnTrue (not b) ((x : List ℕ) × held_by es id ≡ Some (Clause x))
+    at true e = tt
+    at false e = (slice_range xs s.start s.end, h ∙ ap (λ (b : Bool). Some (if b then True else Clause (slice_range xs s.start s.end))) e)
+
+pub true_held : (es : List Entry) (xs : List ℕ) (id : ℕ) (s : Span) → held_by es id ≡ Some (entry_of_span xs s) → OnFalse (not s.is_true) (held_by es id ≡ Some True)
+true_held es xs id s h = at s.is_true refl
+  where
+    at : (b : Bool) → s.is_true ≡ b → OnFalse (not b) (held_by es id ≡ Some True)
+    at false e = tt
+    at true e = h ∙ ap (λ (b : Bool). Some (if b then True else Clause (slice_range xs s.start s.end))) e

@@ -1,21 +1,24 @@
 -- Truth values that satisfy a formula.
-use Rattle.std.proofs.Common.{◌≡◌, ℕ, ◌+◌, ◌-◌, ◌*◌, ◌/◌, ◌%◌, ◌<◌, ◌≤◌, ◌⊎◌, not, Bool, true, false, List, [], ◌∷◌, ◌++◌, length, get_or, arith, ap, sym, ◌∙◌, inl, inr, Some}
+use Rattle.std.proofs.Common.{◌≡◌, ℕ, ◌+◌, ◌-◌, ◌*◌, ◌/◌, ◌%◌, ◌<◌, ◌≤◌, ◌⊎◌, not, Bool, true, false, List, [], ◌∷◌, ◌++◌, length, get_or, eqb, refl, arith, ap, sym, ◌∙◌, inl, inr, Some}
 use Rattle.std.proofs.lemmas.Grind.{common_steps}
 use Rattle.std.proofs.lemmas.Bool.{cases_lt}
 use Rattle.std.proofs.Math.ListN.{get_or-append}
 use Rattle.std.proofs.Math.Seq.{get_or-append_seam}
 use Rattle.cnf_base.specs.declared.cnf.Entry.{Entry}
 use Rattle.cnf_base.specs.declared.cnf.Entry.TheVariants.{Clause, True}
-use Rattle.cnf_base.specs.Literals.{variable_of, opposite, is_true, IsLiteral}
+use Rattle.cnf_base.specs.Literals.{variable_of, opposite, member, is_true, IsLiteral}
 use Rattle.cnf_base.specs.Clauses.{SatisfiesEntry}
 use Rattle.cnf_base.specs.Formulas.{Formula, IsModel, value_of}
 use Rattle.lrat_log.specs.declared.line.Line.{Line}
-use Rattle.lrat_log.specs.Learnt.{IsConsistent}
+use Rattle.lrat_log.specs.Learnt.{IsConsistent, IsFalse}
 use Rattle.cdcl.specs.declared.search.Search.{Search}
 use Rattle.cdcl.specs.TrailValue.{TrailValue}
-use Rattle.cdcl.specs.Trail.{is_set}
+use Rattle.cdcl.specs.Trail.{held_by, is_set, HasTrue}
 use Rattle.cdcl.specs.Assigned.{AreAllSet, HasValue}
-use Rattle.cdcl.specs.State.{held_in, pairs_of}
+use Rattle.cdcl.specs.State.{pairs_of}
+use Rattle.cdcl.specs.Holding.{IsHolding}
+use Rattle.cdcl.specs.declared.plain.Plain.{Plain}
+use Rattle.cdcl.specs.Plain.{IsPlain, IsPlainQuiet}
 use Rattle.cdcl.specs.Solver.{IsSolver}
 use Rattle.cdcl.specs.Logged.{IsLogged}
 use Rattle.cdcl.proofs.Entries.{held_at}
@@ -24,6 +27,7 @@ use Rattle.cdcl.proofs.Members.{member_all}
 use Rattle.cdcl.proofs.Trails.{trail_consistent}
 use Rattle.cdcl.proofs.Watching.{safe_satisfied}
 use Rattle.cdcl.proofs.Logging.{literal_in}
+use Rattle.cdcl.proofs.Searching.{state_holds}
 
 pub value_more : (vs : List Bool) (index : ℕ) (b : Bool) (set : ℕ → Bool) (size : ℕ) → length vs ≡ index → (2 * (index + 1) < size → b ≡ set (2 * (index + 1)))
     → ((i : ℕ) → 0 < i → i ≤ index → 2 * i < size → value_of vs i ≡ set (2 * i)) → (i : ℕ) → 0 < i → i ≤ index + 1 → 2 * i < size → value_of (vs ++ b ∷ []) i ≡ set (2 * i)
@@ -81,32 +85,58 @@ set_or_opposite t l a p h g = at (even_or_odd l)
         two (inl s) = inr (ap (is_set t.steps) (ap opposite e ∙ opposite-odd (variable_of l)) ∙ s)
         two (inr s) = inl (ap (is_set t.steps) e ∙ s)
 
+-- truth values where all variables are set and each held clause has a true literal
+pub held_model : (f : Formula) (es : List Entry) (t : TrailValue) (lines : List Line) (values : List Bool) → IsHolding es t
+    → ((k : ℕ) (c : List ℕ) → held_by es (k + 1) ≡ Some (Clause c) → ((l : ℕ) → member l c ≡ true → (is_set t.steps l ≡ true) ⊎ (is_set t.steps (opposite l) ≡ true)) → HasTrue (is_set t.steps) c)
+    → AreAllSet t → IsLogged f es lines → length values ≡ f.variables → ((i : ℕ) → 0 < i → i ≤ f.variables → 2 * i < t.size → value_of values i ≡ is_set t.steps (2 * i)) → IsModel f values
+held_model f es t lines values v tr all g n a = (n, λ k e q. at k e (g.formula (k + 1) e (held_at f.clauses k ∙ q)))
+  where
+    at : (k : ℕ) (e : Entry) → held_by es (k + 1) ≡ Some e → SatisfiesEntry (value_of values) e
+    at k True q = tt
+    at k (Clause c) q =
+        let small = v.small (k + 1) c q in
+        let over = g.over (k + 1) c q in
+        let w = tr k c q (λ l m. (let b = member_all t.size c l small m in set_or_opposite t l all (literal_in f.variables c l over m).0 b.0 b.1)) in
+        let il = literal_in f.variables c w.0 over w.1 in
+        let b = member_all t.size c w.0 small w.1 in
+        (w.0, w.1, one w.0 il b.0 w.2)
+      where
+        one : (l : ℕ) → IsLiteral f.variables l → l < t.size → is_set t.steps l ≡ true → is_true (value_of values) l ≡ true
+        one l il lt on = literal_true l il (even_or_odd l) lt on
+          where
+            literal_true : (l : ℕ) → IsLiteral f.variables l → (l ≡ 2 * variable_of l) ⊎ (l ≡ 2 * variable_of l + 1) → l < t.size → is_set t.steps l ≡ true → is_true (value_of values) l ≡ true
+            literal_true l il q lt on =
+                set_is_true (is_set t.steps) (λ i. value_of values i) l (2 * variable_of l + 1) (trail_consistent (held_by es) t.steps (length t.steps) v.trail (omega arith))
+                (λ i p b. a i p (let x = il.1 in omega arith) (below q i b)) il.0 (omega arith) on
+              where
+                below : (l ≡ 2 * variable_of l) ⊎ (l ≡ 2 * variable_of l + 1) → (i : ℕ) → 2 * i < 2 * variable_of l + 1 → 2 * i < t.size
+                below (inl e) i b = omega arith
+                below (inr e) i b = omega arith
+
 -- the truth values of a search of which nothing is left to draw
 pub model : (f : Formula) (s : Search) (lines : List Line) (values : List Bool) → IsSolver s → s.head ≡ length s.state.trail.steps → AreAllSet s.state.trail → IsLogged f s.state.clauses lines
     → length values ≡ f.variables → ((i : ℕ) → 0 < i → i ≤ f.variables → 2 * i < s.state.trail.size → value_of values i ≡ is_set s.state.trail.steps (2 * i)) → IsModel f values
-model f s lines values v h all g n a = (n, λ k e q. at k e (g.formula (k + 1) e (held_at f.clauses k ∙ q)))
+model f s lines values v h all g n a = held_model f s.state.clauses s.state.trail lines values (state_holds s.state v.search.state)
+    (λ k c q o. safe_satisfied (is_set s.state.trail.steps) c (pairs_of s.state k) o (let safe = v.search.levels.watching.at_head k c q in rw h at safe)) all g n a
+
+true_or_false : (set : ℕ → Bool) (c : List ℕ) → ((l : ℕ) → member l c ≡ true → (set l ≡ true) ⊎ (set (opposite l) ≡ true)) → HasTrue set c ⊎ IsFalse set c
+true_or_false set [] o = inr (λ x m. absurd (cc))
+true_or_false set (y ∷ c) o = at (o y (grind (arith, common_steps))) (true_or_false set c (λ l m. o l (grind (arith, common_steps, m))))
   where
-    at : (k : ℕ) (e : Entry) → held_in s.state (k + 1) ≡ Some e → SatisfiesEntry (value_of values) e
-    at k True q = tt
-    at k (Clause c) q =
-        let small = v.search.state.small (k + 1) c q in
-        let over = g.over (k + 1) c q in
-        let safe = v.search.levels.watching.at_head k c q in
-        let t = safe_satisfied (is_set s.state.trail.steps) c (pairs_of s.state k)
-        (λ l m. (let b = member_all s.state.trail.size c l small m in set_or_opposite s.state.trail l all (literal_in f.variables c l over m).0 b.0 b.1))
-        (rw h at safe) in
-        let il = literal_in f.variables c t.0 over t.1 in
-        let b = member_all s.state.trail.size c t.0 small t.1 in
-        (t.0, t.1, one t.0 il b.0 t.2)
+    at : (set y ≡ true) ⊎ (set (opposite y) ≡ true) → HasTrue set c ⊎ IsFalse set c → HasTrue set (y ∷ c) ⊎ IsFalse set (y ∷ c)
+    at (inl t) r = inl (y, grind (arith, common_steps), t)
+    at (inr f) (inl w) = inl (w.0, (let s = w.1 in grind (arith, common_steps, s)), w.2)
+    at (inr f) (inr g) = inr (λ x m. one x (eqb x y) refl m)
       where
-        one : (l : ℕ) → IsLiteral f.variables l → l < s.state.trail.size → is_set s.state.trail.steps l ≡ true → is_true (value_of values) l ≡ true
-        one l il lt on = literal_true l il (even_or_odd l) lt on
-          where
-            literal_true : (l : ℕ) → IsLiteral f.variables l → (l ≡ 2 * variable_of l) ⊎ (l ≡ 2 * variable_of l + 1) → l < s.state.trail.size → is_set s.state.trail.steps l ≡ true → is_true (value_of values) l ≡ true
-            literal_true l il q lt on =
-                set_is_true (is_set s.state.trail.steps) (λ i. value_of values i) l (2 * variable_of l + 1) (trail_consistent (held_in s.state) s.state.trail.steps (length s.state.trail.steps) v.search.state.trail (omega arith))
-                (λ i p b. a i p (let x = il.1 in omega arith) (below q i b)) il.0 (omega arith) on
-              where
-                below : (l ≡ 2 * variable_of l) ⊎ (l ≡ 2 * variable_of l + 1) → (i : ℕ) → 2 * i < 2 * variable_of l + 1 → 2 * i < s.state.trail.size
-                below (inl e) i b = omega arith
-                below (inr e) i b = omega arith
+        one : (x : ℕ) (b : Bool) → eqb x y ≡ b → member x (y ∷ c) ≡ true → set (opposite x) ≡ true
+        one x true k s = let xy : x ≡ y = grind (arith, common_steps, k) in ap (λ (n : ℕ). set (opposite n)) xy ∙ f
+        one x false k s = g x (grind (arith, common_steps, k, s))
+
+-- the truth values of a plain search where nothing is false or unit
+pub plain_model : (f : Formula) (p : Plain) (lines : List Line) (values : List Bool) → IsPlain p → IsPlainQuiet p → AreAllSet p.trail → IsLogged f p.clauses lines
+    → length values ≡ f.variables → ((i : ℕ) → 0 < i → i ≤ f.variables → 2 * i < p.trail.size → value_of values i ≡ is_set p.trail.steps (2 * i)) → IsModel f values
+plain_model f p lines values v w all g n a = held_model f p.clauses p.trail lines values v.tables (λ k c q o. at k c q (true_or_false (is_set p.trail.steps) c o)) all g n a
+  where
+    at : (k : ℕ) (c : List ℕ) → held_by p.clauses (k + 1) ≡ Some (Clause c) → HasTrue (is_set p.trail.steps) c ⊎ IsFalse (is_set p.trail.steps) c → HasTrue (is_set p.trail.steps) c
+    at k c q (inl t) = t
+    at k c q (inr t) = absurd ((w (k + 1) c q).0 t)

@@ -7,6 +7,9 @@ pub mod Watch
 pub mod Growth
 pub mod Visit
 pub mod State
+pub mod Holding
+pub mod Effect
+pub mod Plain
 pub mod Search
 pub mod Assigned
 pub mod Added

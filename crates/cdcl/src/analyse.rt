@@ -3,11 +3,11 @@ ghost use Rattle.std.specs.Prelude.{List, ◌≡◌, ◌≢◌, ◌⊎◌, ℕ, 
 ghost use Rattle.cnf_base.specs.declared.cnf.Entry.TheVariants.{Clause};
 ghost use Rattle.cnf_base.specs.Literals.{opposite, member};
 ghost use Rattle.lrat_log.specs.Learnt.{IsResolvent, IsQuiet, IsLearnt};
-ghost use Rattle.cdcl.specs.Trail.{reason_at, was_set, IsBelow, IsConflict};
+ghost use Rattle.cdcl.specs.Trail.{held_by, reason_at, was_set, IsBelow, IsConflict};
 ghost use Rattle.cdcl.specs.Learning.{is_marked, is_except, HasTops, AreBeforeSecond, IsSecond};
-ghost use Rattle.cdcl.specs.State.{held_in, IsState};
+ghost use Rattle.cdcl.specs.Holding.{IsHolding};
 
-use crate::state::State;
+use crate::clauses::Clauses;
 use crate::trail::{Step, Trail};
 use cnf_base::Lit;
 use rml_row::Mem;
@@ -96,19 +96,26 @@ fn is_implied(marks: &[bool], clause: &[Lit], except: Lit, trail: &Trail, root: 
 }
 
 /// Whether the reason's other literals are marked already, or set at level 0, for a literal below the top level.
-fn is_reason_implied(state: &State, marks: &[bool], levels: Levels, t: usize, step: &Step) -> bool
-    requires state { IsState state.now }
-    requires held { (step.now.reason ≡ 0) ⊎ ((c : List ℕ) × (held_in state.now step.now.reason ≡ Some (Clause c))) }
-    requires size { length marks.now ≡ state.now.trail.size }
+fn is_reason_implied(
+    clauses: &Clauses,
+    trail: &Trail,
+    marks: &[bool],
+    levels: Levels,
+    t: usize,
+    step: &Step,
+) -> bool
+    requires tables { IsHolding clauses.now trail.now }
+    requires held { (step.now.reason ≡ 0) ⊎ ((c : List ℕ) × (held_by clauses.now step.now.reason ≡ Some (Clause c))) }
+    requires size { length marks.now ≡ trail.now.size }
 {
     if step.reason == 0 || t >= levels.top {
         return false;
     }
     is_implied(
         marks,
-        state.clauses.clause(step.reason),
+        clauses.clause(step.reason),
         step.literal,
-        &state.trail,
+        trail,
         levels.root,
     )
 }
@@ -171,25 +178,26 @@ fn second_place(second: usize, t: usize, top: usize) -> usize
 /// Walks down the trail. A marked literal is resolved with its reason, or its opposite is learnt.
 fn analyse(
     alloc: Global,
-    state: &State,
+    clauses: &Clauses,
+    trail: &Trail,
     marks: &mut [bool],
     levels: Levels,
     conflict: u32,
     decisions_only: bool,
 ) -> Mem<Learnt>
-    requires state { IsState state.now }
-    requires size { length marks.old ≡ state.now.trail.size }
+    requires tables { IsHolding clauses.now trail.now }
+    requires size { length marks.old ≡ trail.now.size }
     requires clear { (l : ℕ) → is_marked marks.old l ≡ false }
-    requires conflict { IsConflict (held_in state.now) state.now.trail.steps conflict }
-    requires decisions { (i : ℕ) → levels.top < i → i < length state.now.trail.steps → reason_at state.now.trail.steps i ≢ 0 }
-    ensures resolvent { IfOk result (λ w. IsResolvent (held_in state.now) w.literals.items (reverse w.hints.items)) }
-    ensures tops { IfOk result (λ w. HasTops state.now.trail.steps levels.top w.literals.items w.tops) }
-    ensures some { IsQuiet (held_in state.now) (was_set state.now.trail.steps levels.top) → IfOk result (λ w. 0 < w.tops) }
-    ensures root { length state.now.trail.steps ≤ levels.root → length state.now.trail.steps ≤ levels.top → ((i : ℕ) → i < length state.now.trail.steps → reason_at state.now.trail.steps i ≢ 0) → IfOk result (λ w. w.literals.items ≡ []) }
-    ensures second { IfOk result (λ w. AreBeforeSecond state.now.trail.steps levels.top w.literals.items w.second) }
+    requires conflict { IsConflict (held_by clauses.now) trail.now.steps conflict }
+    requires decisions { (i : ℕ) → levels.top < i → i < length trail.now.steps → reason_at trail.now.steps i ≢ 0 }
+    ensures resolvent { IfOk result (λ w. IsResolvent (held_by clauses.now) w.literals.items (reverse w.hints.items)) }
+    ensures tops { IfOk result (λ w. HasTops trail.now.steps levels.top w.literals.items w.tops) }
+    ensures some { IsQuiet (held_by clauses.now) (was_set trail.now.steps levels.top) → IfOk result (λ w. 0 < w.tops) }
+    ensures root { length trail.now.steps ≤ levels.root → length trail.now.steps ≤ levels.top → ((i : ℕ) → i < length trail.now.steps → reason_at trail.now.steps i ≢ 0) → IfOk result (λ w. w.literals.items ≡ []) }
+    ensures second { IfOk result (λ w. AreBeforeSecond trail.now.steps levels.top w.literals.items w.second) }
     ensures second_at_most { IfOk result (λ w. w.second ≤ levels.top) }
-    ensures second_stands { IfOk result (λ w. IsSecond state.now.trail.steps w.literals.items w.second) }
-    ensures below { IfOk result (λ w. (x : ℕ) → member x w.literals.items ≡ true → IsBelow state.now.trail.steps (length state.now.trail.steps) (opposite x)) }
+    ensures second_stands { IfOk result (λ w. IsSecond trail.now.steps w.literals.items w.second) }
+    ensures below { IfOk result (λ w. (x : ℕ) → member x w.literals.items ≡ true → IsBelow trail.now.steps (length trail.now.steps) (opposite x)) }
     ensures one { decisions_only ≡ true → IfOk result (λ w. w.tops ≤ 1) }
     ensures clear { OnOk result ((l : ℕ) → is_marked marks.new l ≡ false) }
 {
@@ -198,15 +206,15 @@ fn analyse(
     let mut tops = 0;
     let mut second = 0;
     hints.push(conflict as u64)?;
-    let clause = state.clauses.clause(conflict);
-    let mut open = mark_clause(marks, clause, None, &state.trail, levels.top);
-    let mut t = state.trail.len();
+    let clause = clauses.clause(conflict);
+    let mut open = mark_clause(marks, clause, None, trail, levels.top);
+    let mut t = trail.len();
     while t > 0 {
         t -= 1;
-        let step = state.trail.step(t);
+        let step = trail.step(t);
         if marks[step.literal.code() as usize] {
             unmark(marks, step.literal);
-            let implied = is_reason_implied(state, marks, levels, t, &step);
+            let implied = is_reason_implied(clauses, trail, marks, levels, t, &step);
             let kept = is_kept(&step, t, levels, open, tops, decisions_only, implied);
             open = less_open(open, t, levels.top);
             if kept {
@@ -215,8 +223,8 @@ fn analyse(
                 found.push(step.literal.opposite())?;
             } else {
                 hints.push(step.reason as u64)?;
-                let reason = state.clauses.clause(step.reason);
-                let more = mark_clause(marks, reason, Some(step.literal), &state.trail, levels.top);
+                let reason = clauses.clause(step.reason);
+                let more = mark_clause(marks, reason, Some(step.literal), trail, levels.top);
                 open = open.wrapping_add(more);
             }
         }
@@ -233,47 +241,83 @@ fn analyse(
 /// implication point, or else the decision.
 pub fn learn(
     alloc: Global,
-    state: &State,
+    clauses: &Clauses,
+    trail: &Trail,
     marks: &mut [bool],
     levels: Levels,
     conflict: u32,
 ) -> Mem<Learnt>
-    requires state { IsState state.now }
-    requires size { length marks.old ≡ state.now.trail.size }
+    requires tables { IsHolding clauses.now trail.now }
+    requires size { length marks.old ≡ trail.now.size }
     requires clear { (l : ℕ) → is_marked marks.old l ≡ false }
-    requires conflict { IsConflict (held_in state.now) state.now.trail.steps conflict }
-    requires decisions { (i : ℕ) → levels.top < i → i < length state.now.trail.steps → reason_at state.now.trail.steps i ≢ 0 }
-    requires quiet { IsQuiet (held_in state.now) (was_set state.now.trail.steps levels.top) }
-    requires level { levels.top ≤ length state.now.trail.steps }
-    ensures learnt { IfOk result (λ w. IsLearnt (held_in state.now) w.literals.items (reverse w.hints.items)) }
-    ensures one { IfOk result (λ w. HasTops state.now.trail.steps levels.top w.literals.items 1) }
-    ensures second { IfOk result (λ w. AreBeforeSecond state.now.trail.steps levels.top w.literals.items w.second) }
+    requires conflict { IsConflict (held_by clauses.now) trail.now.steps conflict }
+    requires decisions { (i : ℕ) → levels.top < i → i < length trail.now.steps → reason_at trail.now.steps i ≢ 0 }
+    requires quiet { IsQuiet (held_by clauses.now) (was_set trail.now.steps levels.top) }
+    requires level { levels.top ≤ length trail.now.steps }
+    ensures learnt { IfOk result (λ w. IsLearnt (held_by clauses.now) w.literals.items (reverse w.hints.items)) }
+    ensures one { IfOk result (λ w. HasTops trail.now.steps levels.top w.literals.items 1) }
+    ensures second { IfOk result (λ w. AreBeforeSecond trail.now.steps levels.top w.literals.items w.second) }
     ensures second_at_most { IfOk result (λ w. w.second ≤ levels.top) }
-    ensures second_stands { IfOk result (λ w. IsSecond state.now.trail.steps w.literals.items w.second) }
+    ensures second_stands { IfOk result (λ w. IsSecond trail.now.steps w.literals.items w.second) }
     ensures clear { OnOk result ((l : ℕ) → is_marked marks.new l ≡ false) }
 {
-    let first = analyse(alloc, state, marks, levels, conflict, false)?;
+    let first = analyse(alloc, clauses, trail, marks, levels, conflict, false)?;
     if first.tops == 1 {
         return Ok(first);
     }
-    let second = analyse(alloc, state, marks, levels, conflict, true)?;
+    let second = analyse(alloc, clauses, trail, marks, levels, conflict, true)?;
     Ok(second)
 }
 
-/// The hints of the empty clause, from the last on, from a conflict at level 0.
-pub fn refute(alloc: Global, state: &State, marks: &mut [bool], conflict: u32) -> Mem<Vec<u64>>
-    requires state { IsState state.now }
-    requires size { length marks.old ≡ state.now.trail.size }
+/// Learns the clause of the opposites of the decisions that a conflict above level 0 came from.
+pub fn learn_decisions(
+    alloc: Global,
+    clauses: &Clauses,
+    trail: &Trail,
+    marks: &mut [bool],
+    top: usize,
+    conflict: u32,
+) -> Mem<Learnt>
+    requires tables { IsHolding clauses.now trail.now }
+    requires size { length marks.old ≡ trail.now.size }
     requires clear { (l : ℕ) → is_marked marks.old l ≡ false }
-    requires conflict { IsConflict (held_in state.now) state.now.trail.steps conflict }
-    requires decisions { (i : ℕ) → i < length state.now.trail.steps → reason_at state.now.trail.steps i ≢ 0 }
-    ensures { IfOk result (λ hints. IsResolvent (held_in state.now) [] (reverse hints.items)) }
+    requires conflict { IsConflict (held_by clauses.now) trail.now.steps conflict }
+    requires decisions { (i : ℕ) → top < i → i < length trail.now.steps → reason_at trail.now.steps i ≢ 0 }
+    requires quiet { IsQuiet (held_by clauses.now) (was_set trail.now.steps top) }
+    requires level { top ≤ length trail.now.steps }
+    ensures learnt { IfOk result (λ w. IsLearnt (held_by clauses.now) w.literals.items (reverse w.hints.items)) }
+    ensures one { IfOk result (λ w. HasTops trail.now.steps top w.literals.items 1) }
+    ensures second { IfOk result (λ w. AreBeforeSecond trail.now.steps top w.literals.items w.second) }
+    ensures second_at_most { IfOk result (λ w. w.second ≤ top) }
+    ensures second_stands { IfOk result (λ w. IsSecond trail.now.steps w.literals.items w.second) }
+    ensures clear { OnOk result ((l : ℕ) → is_marked marks.new l ≡ false) }
 {
-    let end = state.trail.len();
+    let root = trail.len();
+    let levels = Levels { root, top };
+    let found = analyse(alloc, clauses, trail, marks, levels, conflict, true)?;
+    Ok(found)
+}
+
+/// The hints of the empty clause, from the last on, from a conflict at level 0.
+pub fn refute(
+    alloc: Global,
+    clauses: &Clauses,
+    trail: &Trail,
+    marks: &mut [bool],
+    conflict: u32,
+) -> Mem<Vec<u64>>
+    requires tables { IsHolding clauses.now trail.now }
+    requires size { length marks.old ≡ trail.now.size }
+    requires clear { (l : ℕ) → is_marked marks.old l ≡ false }
+    requires conflict { IsConflict (held_by clauses.now) trail.now.steps conflict }
+    requires decisions { (i : ℕ) → i < length trail.now.steps → reason_at trail.now.steps i ≢ 0 }
+    ensures { IfOk result (λ hints. IsResolvent (held_by clauses.now) [] (reverse hints.items)) }
+{
+    let end = trail.len();
     let levels = Levels {
         root: end,
         top: end,
     };
-    let found = analyse(alloc, state, marks, levels, conflict, true)?;
+    let found = analyse(alloc, clauses, trail, marks, levels, conflict, true)?;
     Ok(found.hints)
 }

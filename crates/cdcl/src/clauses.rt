@@ -1,9 +1,10 @@
 // The clauses that are held, one after another in one list of literals.
-ghost use Rattle.std.specs.Prelude.{List, ◌≡◌, ℕ, ◌+◌, [], ◌∷◌, ◌++◌, length, OnOk, Some};
+ghost use Rattle.std.specs.Prelude.{List, ◌≡◌, ℕ, ◌+◌, ◌<◌, ◌≤◌, [], ◌∷◌, ◌++◌, length, OnOk, Some};
 ghost use Rattle.cnf_base.specs.declared.cnf.Entry.TheVariants.{Clause, True};
+ghost use Rattle.std.specs.Bool.{OnTrue, OnFalse};
 ghost use Rattle.cdcl.specs.Trail.{held_by};
 
-use cnf_base::Lit;
+use cnf_base::{Entry, Lit};
 use rml_row::Mem;
 use std::alloc::Global;
 use std::marker::Model;
@@ -52,6 +53,15 @@ impl Clauses {
         self.spans.len()
     }
 
+    /// Whether the entry with an id is a clause, and not always true.
+    pub fn is_clause(&self, id: u32) -> bool
+        requires { (0 < id) × (id ≤ length self.now) }
+        ensures clause { OnTrue result ((c : List ℕ) × (held_by self.now id ≡ Some (Clause c))) }
+        ensures always { OnFalse result (held_by self.now id ≡ Some True) }
+    {
+        !self.spans[id as usize - 1].is_true
+    }
+
     /// The literals of the clause with an id.
     pub fn clause(&self, id: u32) -> &[Lit]
         requires { (c : List ℕ) × (held_by self.now id ≡ Some (Clause c)) }
@@ -72,6 +82,16 @@ impl Clauses {
             end,
             is_true: false,
         })?;
+        Ok(())
+    }
+
+    pub fn push_entry(&mut self, entry: &Entry) -> Mem<()>
+        ensures { OnOk result (self.new ≡ self.old ++ entry.now ∷ []) }
+    {
+        match entry {
+            Entry::Clause(clause) => self.push(clause.as_slice())?,
+            Entry::True => self.push_true()?,
+        }
         Ok(())
     }
 

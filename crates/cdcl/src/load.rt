@@ -58,7 +58,7 @@ fn greatest_in(entry: &Entry, least: u32) -> u32
 }
 
 /// The greatest variable that stands in a clause, or 1.
-fn greatest_variable(entries: &[Entry]) -> u32
+pub fn greatest_variable(entries: &[Entry]) -> u32
     ensures some { 0 < result }
     ensures range { result < 2 ^ 31 }
     ensures up_to { AreUpTo result entries.now (length entries.now) }

@@ -14,7 +14,7 @@ use rml_row::Mem;
 use std::alloc::Global;
 
 /// A literal of a clause that is not false and neither of two.
-fn open_literal(trail: &Trail, clause: &[Lit], one: Lit, other: Lit) -> Option<Lit>
+pub fn open_literal(trail: &Trail, clause: &[Lit], one: Lit, other: Lit) -> Option<Lit>
     requires { All (λ l. (l < trail.now.size) × (opposite l < trail.now.size)) clause.now }
     ensures { MatchOption result (AreFalseBut (is_set trail.now.steps) clause.now one other) (IsOpen (is_set trail.now.steps) clause.now one other) }
 {

@@ -33,7 +33,7 @@ pub struct Search {
 }
 
 /// Takes off the starts that are not before a place, at least one; the answer is the lowest of them.
-fn pop_starts(starts: &mut Vec<usize>, second: usize) -> usize
+pub fn pop_starts(starts: &mut Vec<usize>, second: usize) -> usize
     requires some { 0 < length starts.old.items }
     requires last { second ≤ get_or starts.old.items (length starts.old.items - 1) 0 }
     requires rising { AreRising starts.old.items }
@@ -169,7 +169,8 @@ impl Search {
         };
         let learnt = learn(
             alloc,
-            &self.state,
+            &self.state.clauses,
+            &self.state.trail,
             self.marks.as_mut_slice(),
             levels,
             conflict,
@@ -216,7 +217,13 @@ impl Search {
         ensures same { OnOk result (self.new.state ≡ self.old.state) }
         ensures resolvent { IfOk result (λ hints. IsResolvent (held_in self.new.state) [] hints.items) }
     {
-        let mut hints = refute(alloc, &self.state, self.marks.as_mut_slice(), conflict)?;
+        let mut hints = refute(
+            alloc,
+            &self.state.clauses,
+            &self.state.trail,
+            self.marks.as_mut_slice(),
+            conflict,
+        )?;
         hints.as_mut_slice().reverse();
         Ok(hints)
     }

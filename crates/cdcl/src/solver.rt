@@ -16,6 +16,7 @@ ghost use Rattle.cdcl.specs.Answered.{IsAnswer, IsTurn};
 use crate::analyse::Learnt;
 use crate::load::{Loaded, load};
 use crate::search::Search;
+use crate::truth::truth_values;
 use cnf_base::{Cnf, Values};
 use lrat_log::{Line, Log, growth_laws, learnt_laws};
 use rml_row::{Mem, Row};
@@ -32,26 +33,13 @@ pub enum Solved {
 
 /// How a search stands where it cannot go down further.
 #[derive(Drop)]
-enum Turn {
+pub enum Turn {
     Satisfied,
     Refuted(Vec<u64>),
     Conflict(u32),
 }
 
 impl Search {
-    /// The truth value of each variable from 1 on; one that stands in no clause is false.
-    fn values(&self, alloc: Global, variables: u32) -> Mem<Values>
-        requires { variables < 2 ^ 31 }
-        ensures len { IfOk result (λ v. length v ≡ variables) }
-        ensures values { IfOk result (λ v. (i : ℕ) → 0 < i → i ≤ variables → 2 * i < self.now.state.trail.size → value_of v i ≡ is_set self.now.state.trail.steps (2 * i)) }
-    {
-        let mut values = Vec::with_capacity(alloc, variables as usize)?;
-        for index in 0..variables {
-            values.push(self.state.trail.value(index + 1))?;
-        }
-        Ok(Values::from_vec(values))
-    }
-
     /// Goes down to a conflict, and refutes where that is at level 0.
     fn turn(&mut self, alloc: Global) -> Mem<Turn>
         requires { IsSolver self.old }
@@ -72,7 +60,7 @@ impl Search {
 }
 
 /// The line of a learnt clause.
-fn line_of(id: u64, learnt: Learnt) -> Line
+pub fn line_of(id: u64, learnt: Learnt) -> Line
     ensures { result ≡ Add id learnt.literals.items (reverse learnt.hints.items) }
 {
     let Learnt {
@@ -90,7 +78,7 @@ fn line_of(id: u64, learnt: Learnt) -> Line
 }
 
 /// A log that spends the budget.
-fn spent_log(cnf: &Cnf, lines: Vec<Line>) -> Log
+pub fn spent_log(cnf: &Cnf, lines: Vec<Line>) -> Log
     requires logged { (held : List Entry) × IsLogged cnf.now held lines.items }
     ensures { IsSpent cnf.now (length lines.items) result }
 {
@@ -124,7 +112,7 @@ fn learn_line(
 }
 
 /// A log that ends with the empty clause.
-fn refutation(alloc: Global, cnf: &Cnf, lines: Vec<Line>, hints: Vec<u64>) -> Mem<Log>
+pub fn refutation(alloc: Global, cnf: &Cnf, lines: Vec<Line>, hints: Vec<u64>) -> Mem<Log>
     requires logged { (held : List Entry) × IsLogged cnf.now held lines.items × IsResolvent (held_by held) [] hints.items }
     requires room { length cnf.now.clauses + length lines.items ≤ 2147483646 }
     ensures { IfOk result (λ log. IsRefutation cnf.now (length lines.items) log) }
@@ -160,7 +148,7 @@ pub fn solve(alloc: Global, cnf: &Cnf, budget: u64) -> Mem<Solved>
     for spent in 0..budget + 1 {
         match search.turn(alloc)? {
             Turn::Satisfied => {
-                let values = search.values(alloc, cnf.variables())?;
+                let values = truth_values(alloc, &search.state.trail, cnf.variables())?;
                 return Ok(Solved::Sat(values));
             }
             Turn::Refuted(hints) => {

@@ -1,5 +1,5 @@
-// Formulas that are satisfied, refuted or spend a budget, from their texts.
-use super::{Solved, solve};
+// Formulas that are satisfied, refuted or spend a budget, from their texts, by both solvers.
+use super::{Solved, solve, solve_plain};
 use cnf_base::read_cnf;
 use rml_row::Refused;
 use std::alloc::Global;
@@ -20,9 +20,16 @@ enum Answer {
     Spent(usize),
     Fault(u8),
     NoMemory,
+    Differ,
 }
 
-fn answer_of(alloc: Global, text: &[u8], budget: u64) -> Answer {
+#[derive(Clone, Copy)]
+enum Solver {
+    Watched,
+    Plain,
+}
+
+fn answer_of(alloc: Global, solver: Solver, text: &[u8], budget: u64) -> Answer {
     let cnf = match read_cnf(alloc, text) {
         Ok(cnf) => cnf,
         Err(Refused::For(fault)) => return Answer::Fault(fault.code),
@@ -31,7 +38,11 @@ fn answer_of(alloc: Global, text: &[u8], budget: u64) -> Answer {
     if cnf.clauses().len() > 100 || budget > 1000 || cnf.variables() > 1000 {
         return Answer::Fault(0);
     }
-    match solve(alloc, &cnf, budget) {
+    let solved = match solver {
+        Solver::Watched => solve(alloc, &cnf, budget),
+        Solver::Plain => solve_plain(alloc, &cnf, budget),
+    };
+    match solved {
         Ok(Solved::Sat(values)) => Answer::Sat(values.as_slice().len()),
         Ok(Solved::Unsat(log)) => Answer::Unsat(log.lines().len()),
         Ok(Solved::Spent(log)) => Answer::Spent(log.lines().len()),
@@ -39,40 +50,62 @@ fn answer_of(alloc: Global, text: &[u8], budget: u64) -> Answer {
     }
 }
 
+/// The answer of both solvers.
+fn both(alloc: Global, text: &[u8], budget: u64) -> Answer {
+    let watched = answer_of(alloc, Solver::Watched, text, budget);
+    if watched == answer_of(alloc, Solver::Plain, text, budget) {
+        watched
+    } else {
+        Answer::Differ
+    }
+}
+
 #[test]
 fn no_clauses_and_empty_ones(rt: HostRuntime) {
     let alloc = rt.alloc();
-    assert_eq!(rt; answer_of(alloc, b"p cnf 0 0\n", 0), Answer::Sat(0));
-    assert_eq!(rt; answer_of(alloc, b"p cnf 5 0\n", 0), Answer::Sat(5));
-    assert_eq!(rt; answer_of(alloc, b"p cnf 0 1\n0\n", 0), Answer::Unsat(1));
-    assert_eq!(rt;
-        answer_of(alloc, b"p cnf 2 2\n1 2 0\n0\n", 9),
-        Answer::Unsat(1)
-    );
+    assert_eq!(rt; both(alloc, b"p cnf 0 0\n", 0), Answer::Sat(0));
+    assert_eq!(rt; both(alloc, b"p cnf 5 0\n", 0), Answer::Sat(5));
+    assert_eq!(rt; both(alloc, b"p cnf 0 1\n0\n", 0), Answer::Unsat(1));
+    assert_eq!(rt; both(alloc, b"p cnf 2 2\n1 2 0\n0\n", 9), Answer::Unsat(1));
 }
 
 #[test]
 fn clauses_of_one_literal_and_true_ones(rt: HostRuntime) {
     let alloc = rt.alloc();
+    assert_eq!(rt; both(alloc, b"p cnf 2 2\n1 0\n-2 0\n", 0), Answer::Sat(2));
     assert_eq!(rt;
-        answer_of(alloc, b"p cnf 2 2\n1 0\n-2 0\n", 0),
-        Answer::Sat(2)
-    );
-    assert_eq!(rt;
-        answer_of(alloc, b"p cnf 2 3\n1 0\n-1 2 0\n-2 0\n", 0),
+        both(alloc, b"p cnf 2 3\n1 0\n-1 2 0\n-2 0\n", 0),
         Answer::Unsat(1)
     );
-    assert_eq!(rt;
-        answer_of(alloc, b"p cnf 2 2\n1 0\n-1 0\n", 0),
-        Answer::Unsat(1)
-    );
-    assert_eq!(rt; answer_of(alloc, b"p cnf 1 1\n1 -1 0\n", 0), Answer::Sat(1));
+    assert_eq!(rt; both(alloc, b"p cnf 2 2\n1 0\n-1 0\n", 0), Answer::Unsat(1));
+    assert_eq!(rt; both(alloc, b"p cnf 1 1\n1 -1 0\n", 0), Answer::Sat(1));
+}
+
+#[test]
+fn one_clause_is_learnt(rt: HostRuntime) {
+    let alloc = rt.alloc();
+    let text = b"p cnf 2 4\n1 2 0\n1 -2 0\n-1 2 0\n-1 -2 0\n";
+    assert_eq!(rt; both(alloc, text, 0), Answer::Spent(0));
+    assert_eq!(rt; both(alloc, text, 1), Answer::Unsat(2));
+    let open = b"p cnf 3 4\n1 2 0\n1 -2 0\n-1 3 0\n-3 2 0\n";
+    assert_eq!(rt; both(alloc, open, 9), Answer::Sat(3));
 }
 
 #[test]
 fn pigeons_under_two_budgets(rt: HostRuntime) {
     let alloc = rt.alloc();
-    assert_eq!(rt; answer_of(alloc, PIGEONS, 1), Answer::Spent(1));
-    assert_eq!(rt; answer_of(alloc, PIGEONS, 0), Answer::Spent(0));
-    assert!(rt; matches!(answer_of(alloc, PIGEONS, 1000), Answer::Unsat(_)));
+    assert_eq!(rt; both(alloc, PIGEONS, 0), Answer::Spent(0));
+    assert_eq!(rt; both(alloc, PIGEONS, 1), Answer::Spent(1));
+    assert!(rt;
+        matches!(
+            answer_of(alloc, Solver::Watched, PIGEONS, 1000),
+            Answer::Unsat(_)
+        )
+    );
+    assert!(rt;
+        matches!(
+            answer_of(alloc, Solver::Plain, PIGEONS, 1000),
+            Answer::Unsat(_)
+        )
+    );
 }

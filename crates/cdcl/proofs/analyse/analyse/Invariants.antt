@@ -1,21 +1,20 @@
 use Rattle.std.proofs.Common.{◌≡◌, ◌≤◌, ◌⊎◌, ℕ, reverse, length, true, ◌<◌, []}
-use Rattle.cdcl.specs.Trail.{reason_at, was_set}
+use Rattle.cdcl.specs.Trail.{held_by, reason_at, was_set}
 use Rattle.lrat_log.specs.Learnt.{IsQuiet}
 use Rattle.cdcl.specs.Walk.{IsWalk}
 use Rattle.cdcl.specs.Learning.{is_marked, HasTops, HasOpen, HasOneTop, AreBeforeSecond, IsSecond}
-use Rattle.cdcl.specs.State.{held_in}
 use Rattle.cdcl.proofs.analyse.analyse.Given as goal
 
 abbrev pub invariant-loop-t : goal.invariant-loop-t
 invariant-loop-t l = record {
-  within : l.t ≤ length l.state.trail.steps;
-  walk : IsWalk (held_in l.state) l.state.trail.steps l.t (is_marked l.marks) l.found.items (reverse l.hints.items);
-  tops : HasTops l.state.trail.steps l.levels.top l.found.items l.tops;
-  left : IsQuiet (held_in l.state) (was_set l.state.trail.steps l.levels.top) → HasOpen l.state.trail.steps l.levels.top (is_marked l.marks) l.tops;
-  none : length l.state.trail.steps ≤ l.levels.root → length l.state.trail.steps ≤ l.levels.top → ((i : ℕ) → i < length l.state.trail.steps → reason_at l.state.trail.steps i ≡ 0 → ⊥) → l.found.items ≡ [];
+  within : l.t ≤ length l.trail.steps;
+  walk : IsWalk (held_by l.clauses) l.trail.steps l.t (is_marked l.marks) l.found.items (reverse l.hints.items);
+  tops : HasTops l.trail.steps l.levels.top l.found.items l.tops;
+  left : IsQuiet (held_by l.clauses) (was_set l.trail.steps l.levels.top) → HasOpen l.trail.steps l.levels.top (is_marked l.marks) l.tops;
+  none : length l.trail.steps ≤ l.levels.root → length l.trail.steps ≤ l.levels.top → ((i : ℕ) → i < length l.trail.steps → reason_at l.trail.steps i ≡ 0 → ⊥) → l.found.items ≡ [];
   one : l.decisions_only ≡ true → HasOneTop l.levels.top l.t l.tops;
-  before : AreBeforeSecond l.state.trail.steps l.levels.top l.found.items l.second;
-  stands : IsSecond l.state.trail.steps l.found.items l.second;
+  before : AreBeforeSecond l.trail.steps l.levels.top l.found.items l.second;
+  stands : IsSecond l.trail.steps l.found.items l.second;
   from : (l.second ≡ 0) ⊎ (l.t ≤ l.second);
   most : l.second ≤ l.levels.top;
 }

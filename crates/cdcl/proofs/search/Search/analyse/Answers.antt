@@ -4,7 +4,7 @@ use Rattle.cdcl.specs.Trail.{was_set}
 use Rattle.cdcl.specs.Learning.{HasTops, AreBeforeSecond}
 use Rattle.cdcl.specs.State.{held_in}
 use Rattle.cdcl.specs.Found.{top_of}
-use Rattle.cdcl.proofs.Searching.{level_quiet}
+use Rattle.cdcl.proofs.Searching.{level_quiet, state_holds}
 use Rattle.cdcl.proofs.Backing.{last_start}
 use Rattle.cdcl.proofs.search.Search.analyse.Goals as goal
 
@@ -27,3 +27,6 @@ returns-clause-found c =
       at_most = rw (← e) c.in_ok-learnt.ensures.second_at_most;
       stands = c.in_ok-learnt.ensures.second_stands;
     }
+
+pub learn-requires-clause-tables : goal.learn-requires-clause-tables
+learn-requires-clause-tables c = state_holds c.args.self.now.state c.requires.solver.search.state
