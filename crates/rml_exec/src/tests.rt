@@ -11,6 +11,8 @@ ghost use Rattle.rml_command.specs.Models.{FitsPrimitive, FitsPath};
 ghost use Rattle.rml_exec.specs.Followed.{EndFits};
 ghost use Rattle.rml_exec.specs.Sample.{sample, known, IsSample};
 
+mod rows;
+
 use super::*;
 use fol_eval::{Env, holds};
 use fol_formula::{Formula, Sentence, Term};
