@@ -4,5 +4,7 @@ pub mod Sets
 pub mod Scanning
 pub mod Entries
 pub mod Readings
+pub mod Standing
 pub mod Numbers
+pub mod Prefixes
 pub mod Again

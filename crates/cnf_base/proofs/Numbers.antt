@@ -67,7 +67,7 @@ digits_value_is n le =
     (le-leb (length (decimal n)) 10 (length-decimal-le 10 n (omega arith) (omega arith) lt)) in
     ap (λ b. cond b (with_digits 0 (decimal n)) None) t ∙ d.value
 
-digit_bounds : (d : ℕ) → is_digit d ≡ true → (48 ≤ d) × (d ≤ 57)
+pub digit_bounds : (d : ℕ) → is_digit d ≡ true → (48 ≤ d) × (d ≤ 57)
 digit_bounds d h = let p = and_parts (nat_le 48 d) (nat_le d 57) h in (leb-true 48 d p.0, leb-true d 57 p.1)
 
 other : (d k : ℕ) → is_digit d ≡ true → (k < 48) → (d == k) ≡ false
@@ -76,7 +76,7 @@ other d k h lt = let b = digit_bounds d h in ne_eqb d k (λ e. absurd (omega (ar
 or4 : (a b c d : Bool) → a ≡ false → b ≡ false → c ≡ false → d ≡ false → a || b || c || d ≡ false
 or4 a b c d p q r s = cc
 
-no_blank : (d : ℕ) → is_digit d ≡ true → is_blank d ≡ false
+pub no_blank : (d : ℕ) → is_digit d ≡ true → is_blank d ≡ false
 no_blank d h = or4 (d == 32) (d == 9) (d == 13) (d == 10) (other d 32 h (omega arith)) (other d 9 h (omega arith)) (other d 13 h (omega arith)) (other d 10 h (omega arith))
 
 by_sign : (ds : List ℕ) → Digits ds → 0 < length ds → number_of ds ≡ signed false (digits_value ds)
@@ -127,7 +127,7 @@ one_word mode d ds rest b at starts goes p q =
     λ i. record { at = at; text = t i } ∷ w i)
 
 -- a word of digits, with or without a sign, behind a blank or at the start of a line
-begins : (mode : Mode) (d : ℕ) → IsBetween mode → is_blank d ≡ false → (d == 99) ≡ false → begins_word mode d ≡ true
+pub begins : (mode : Mode) (d : ℕ) → IsBetween mode → is_blank d ≡ false → (d == 99) ≡ false → begins_word mode d ≡ true
 begins LineStart d o p q = ap (λ x. cond x false (not (is_blank d))) q ∙ ap not p
 begins InLine d o p q = ap not p
 begins InWord d o p q = absurd o

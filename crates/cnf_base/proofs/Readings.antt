@@ -3,6 +3,9 @@ use Rattle.std.proofs.Common.{◌≡◌, ℕ, ◌<◌, ◌≤◌, Bool, true, fa
 use Rattle.std.specs.Prelude.{◌==◌, not, nat_lt, codes}
 use Rattle.std.specs.Str.{bytes_eq}
 use Rattle.std.proofs.lemmas.Bool.{ltb-false, eqb-false}
+use Rattle.rml_row.specs.declared.refused.Refused.{Refused}
+use Rattle.rml_row.specs.declared.refused.Refused.TheVariants.{For, NoMemory}
+use Rattle.cnf_base.specs.Answers.{Fails}
 use Rattle.cnf_base.specs.declared.cnf.Entry.{Entry}
 use Rattle.cnf_base.specs.declared.text.Stage.{Stage}
 use Rattle.cnf_base.specs.declared.text.Stage.TheVariants.{Problem, Format, Variables, Clauses, Body}
@@ -106,3 +109,7 @@ pub end_is_formula : (text : List ℕ) (ws : List Word) (s : State) (f : Formula
     → read_words s ws (length text) ≡ read_of text → ended s (length text) ≡ Ok f → IsFormula f
 end_is_formula text ws s f e same h =
     read_is_formula text f (sym same ∙ ap (λ (xs : List Word). read_words s xs (length text)) e ∙ h)
+
+pub fails_as : {A F : Type 0} (said other : Result A F) (e : Refused F) → said ≡ other → Fails said e → Fails other e
+fails_as said other (For f) is h = sym is ∙ h
+fails_as said other NoMemory is h = tt

@@ -3,8 +3,10 @@ pub mod Clauses
 pub mod Formulas
 pub mod Words
 pub mod Starts
+pub mod Fronts
 pub mod Numerals
 pub mod Answers
+pub mod Places
 pub mod Reading
 pub mod Writing
 pub mod ReaderState

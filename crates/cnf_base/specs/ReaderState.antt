@@ -1,9 +1,11 @@
 -- How far a reader is.
-use Rattle.std.specs.Prelude.{◌≡◌, Result, Ok, Err}
+use Rattle.std.specs.Prelude.{ℕ, ◌≡◌, ◌==◌, ◌&&◌, not, nat_lt, nat_le, Bool, List, length, Result, Ok, Err}
 use Rattle.rml_row.specs.declared.refused.Refused.{Refused}
 use Rattle.cnf_base.specs.declared.text.CnfFault.{CnfFault}
 use Rattle.cnf_base.specs.declared.reader.Reading.{Reading}
-use Rattle.cnf_base.specs.Reading.{State}
+use Rattle.cnf_base.specs.declared.text.Numeral.{Numeral}
+use Rattle.cnf_base.specs.Words.{Word}
+use Rattle.cnf_base.specs.Reading.{State, read_words}
 use Rattle.cnf_base.specs.Answers.{Fails}
 
 abbrev pub state_of : Reading → State
@@ -12,3 +14,12 @@ state_of r = record { stage = r.stage; variables = r.variables; count = r.count;
 abbrev pub Takes : Result State CnfFault → Reading → Result (Unit {0}) (Refused CnfFault) → Type 0
 Takes said new (Ok u) = said ≡ Ok (state_of new)
 Takes said new (Err e) = Fails said e
+
+-- Some words are taken: what is left says what the whole says, or the whole has the fault.
+abbrev pub Goes : State → List Word → Reading → List Word → Result (Unit {0}) (Refused CnfFault) → Type 0
+Goes s words new left (Ok u) = (end : ℕ) → read_words (state_of new) left end ≡ read_words s words end
+Goes s words new left (Err e) = (end : ℕ) → Fails (read_words s words end) e
+
+-- whether a number of the body is a literal, of a clause that may come
+abbrev pub is_literal : State → Numeral → Bool
+is_literal s n = nat_lt 0 n.value && (nat_le n.value s.variables && not (length s.entries == s.count))

@@ -7,7 +7,8 @@ ghost use Rattle.cnf_base.specs.Formulas.{Formula};
 ghost use Rattle.cnf_base.specs.declared.text.Mode.{Mode};
 ghost use Rattle.cnf_base.specs.declared.text.Numeral.{Numeral};
 ghost use Rattle.cnf_base.specs.declared.text.Mode.TheVariants.{InLine};
-ghost use Rattle.cnf_base.specs.Words.{is_blank, behind, words_from};
+ghost use Rattle.cnf_base.specs.Words.{is_blank, behind, words_from, words_of};
+ghost use Rattle.cnf_base.specs.Places.{BeginBy};
 ghost use Rattle.cnf_base.specs.Starts.{IsBetween};
 ghost use Rattle.cnf_base.specs.Numerals.{number_of};
 ghost use Rattle.cnf_base.specs.Reading.{read_of};
@@ -35,7 +36,8 @@ pub fn round_trip()
     ensures { (f : Formula) → CanWrite f → read_of (text_of f) ≡ Ok f }
 {}
 
-/// A number, or a literal, in front of a blank is one word, which says it.
+/// A number, or a literal, in front of a blank is one word, which says it. Each word begins in the
+/// text.
 pub fn word_laws()
     ensures number { (mode : Mode) (n : ℕ) (rest : List ℕ) (b at : ℕ) → IsBetween mode → n ≤ 2147483647 → is_blank b ≡ true
         → words_from mode at (decimal n ++ b ∷ rest) ≡ record { at = at; text = decimal n } ∷ words_from (behind b) (at + length (decimal n) + 1) rest }
@@ -45,4 +47,5 @@ pub fn word_laws()
     ensures literal_value { (n l : ℕ) → n ≤ 2147483647 → IsLiteral n l → number_of (literal_text l) ≡ Some (record { negative = not (is_positive l); value = variable_of l }) }
     ensures small { (text : List ℕ) (n : Numeral) → number_of text ≡ Some n → n.value ≤ 2147483647 }
     ensures same { (l : ℕ) → literal_of (not (not (is_positive l))) (variable_of l) ≡ l }
+    ensures places { (text : List ℕ) → BeginBy (length text) (words_of text) }
 {}

@@ -3,6 +3,7 @@
 
 mod clause;
 mod cnf;
+mod fronts;
 mod laws;
 mod lit;
 mod number;

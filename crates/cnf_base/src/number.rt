@@ -8,7 +8,7 @@ use crate::text::Numeral;
 
 const LARGEST: u64 = 2147483647;
 
-fn is_digit(b: u8) -> bool
+pub fn is_digit(b: u8) -> bool
     ensures { result ≡ is_digit b }
 {
     matches!(b, b'0'..=b'9')

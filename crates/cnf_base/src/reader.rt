@@ -1,10 +1,12 @@
 // Reads the text of a formula.
-ghost use Rattle.std.specs.Prelude.{◌≡◌, ◌<◌, ◌^◌, ℕ, List, [], ◌∷◌, ◌++◌, Ok, length, OnOk, IfSome};
+ghost use Rattle.std.specs.Prelude.{◌≡◌, ◌<◌, ◌≤◌, ◌^◌, ℕ, List, [], ◌∷◌, ◌++◌, Ok, length, OnOk, IfErr, IfSome};
 ghost use Rattle.cnf_base.specs.Clauses.{entry_of};
 ghost use Rattle.cnf_base.specs.Formulas.{Formula, IsFormula};
 ghost use Rattle.cnf_base.specs.Reading.{at_start, body_number, take_word, ended, read_of};
 ghost use Rattle.cnf_base.specs.Answers.{Answers};
-ghost use Rattle.cnf_base.specs.ReaderState.{state_of, Takes};
+ghost use Rattle.cnf_base.specs.Places.{StandsBy};
+ghost use Rattle.cnf_base.specs.ReaderState.{state_of, is_literal, Takes, Goes};
+ghost use Rattle.rml_row.specs.Because.{Because};
 ghost use Rattle.rml_row.specs.declared.refused.Refused.{Refused};
 ghost use Rattle.rml_row.specs.declared.refused.Refused.TheVariants.{For};
 
@@ -85,6 +87,42 @@ impl Reading {
         Ok(())
     }
 
+    // Whether a number of the body is a literal of a clause that may come.
+    fn is_literal(&self, number: &Numeral) -> bool
+        ensures { result ≡ is_literal (state_of self.now) number.now }
+    {
+        0 < number.value
+            && number.value <= self.variables
+            && self.entries.len() as u64 != self.count as u64
+    }
+
+    // Takes the numbers of the body that stand next, as long as they are found at once.
+    fn take_numbers(
+        &mut self,
+        alloc: Global,
+        words: &mut Words<'_>,
+    ) -> Result<(), Refused<CnfFault>>
+        ensures taken { Goes (state_of self.old) words.old self.new words.new result }
+        ensures shorter { length words.new ≤ length words.old }
+    {
+        while let Stage::Body = self.stage {
+            let Some((at, number)) = words.next_number() else {
+                return Ok(());
+            };
+            if self.is_literal(&number) {
+                if self.lits.push(literal_of(number)).is_err() {
+                    return Err(Refused::NoMemory);
+                }
+                continue;
+            }
+            match self.take_number(alloc, Some(number), at) {
+                Ok(()) => {}
+                Err(e) => return Err(e),
+            }
+        }
+        Ok(())
+    }
+
     // Takes a word.
     fn take_word(&mut self, alloc: Global, word: &[u8], at: u64) -> Result<(), Refused<CnfFault>>
         ensures { Takes (take_word (state_of self.old) (record { at = at; text = word.now })) self.new result }
@@ -139,12 +177,25 @@ impl Reading {
 /// that begin with `c` are comments, wherever they stand. A literal that is repeated counts once; a
 /// clause with opposite literals keeps its id and is always true.
 pub fn read_cnf(alloc: Global, text: &[u8]) -> Result<Cnf, Refused<CnfFault>>
+    ensures answer { Answers (read_of text.now) result }
+    ensures place { IfErr result (Because (StandsBy (length text.now))) }
+{
+    let read = read_text(alloc, text);
+    read
+}
+
+// Reads the words one after another.
+fn read_text(alloc: Global, text: &[u8]) -> Result<Cnf, Refused<CnfFault>>
     ensures { Answers (read_of text.now) result }
 {
     let mut reading = Reading::new(alloc);
     let mut words = Words::of(text);
     while let Some(word) = words.next_word() {
         match reading.take_word(alloc, word.text, word.at) {
+            Ok(()) => {}
+            Err(e) => return Err(e),
+        }
+        match reading.take_numbers(alloc, &mut words) {
             Ok(()) => {}
             Err(e) => return Err(e),
         }

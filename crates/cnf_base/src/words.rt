@@ -1,10 +1,12 @@
 // The words of a text.
-ghost use Rattle.std.specs.Prelude.{◌≡◌, ◌≤◌, ◌<◌, ◌+◌, ◌^◌, ℕ, List, [], ◌∷◌, length, not, MatchOption};
+ghost use Rattle.std.specs.Prelude.{◌≡◌, ◌≤◌, ◌<◌, ◌+◌, ◌^◌, ℕ, List, [], ◌∷◌, length, false, not, Some, MatchOption, IfSome};
 ghost use Rattle.std.specs.List.{prefix_len};
 ghost use Rattle.cnf_base.specs.Words.{is_blank, behind, next_mode, begins_word, words_from, words_of};
 ghost use Rattle.cnf_base.specs.Starts.{IsAtStart};
+ghost use Rattle.cnf_base.specs.Numerals.{number_of};
 
-use crate::text::Mode;
+use crate::fronts::{ends_word, front_digits, front_number};
+use crate::text::{Mode, Numeral};
 use std::marker::Model;
 
 /// A word of a text, and the place of its first byte.
@@ -34,7 +36,7 @@ impl<'a> Model for Words<'a> {
     ghost invariant = { λ w. w.at + length w.rest.now < 2 ^ 63 };
 }
 
-fn is_blank(b: u8) -> bool
+pub fn is_blank(b: u8) -> bool
     ensures { result ≡ is_blank b }
 {
     matches!(b, b' ' | b'\t' | b'\r' | b'\n')
@@ -140,5 +142,55 @@ impl<'a> Words<'a> {
         self.at = at + len as u64;
         self.mode = Mode::InWord;
         Some(Word { at, text })
+    }
+
+    /// Takes the next word if it is a number behind the blank that ends the last word. Where it takes
+    /// nothing the next word may still be a number.
+    pub fn next_number(&mut self) -> Option<(u64, Numeral)>
+        ensures word { MatchOption result (self.new ≡ self.old) (λ r. (text : List ℕ) × (self.old ≡ record { at = r.0; text = text } ∷ self.new) × (number_of text ≡ Some r.1)) }
+        ensures small { IfSome result (λ r. r.1.value < 2 ^ 31) }
+    {
+        let [blank, bytes @ ..] = self.rest else {
+            return None;
+        };
+        let Mode::InWord = self.mode else {
+            return None;
+        };
+        if !is_blank(*blank) {
+            return None;
+        }
+        let Some((after, len, number)) = front_number(bytes) else {
+            return None;
+        };
+        let start = self.at + 1;
+        self.rest = after;
+        self.at = start + len as u64;
+        Some((start, number))
+    }
+
+    /// Takes the next word if it is a number from 1 on, without a sign, behind the blank that ends
+    /// the last word; 0 where it takes nothing.
+    pub fn next_id(&mut self) -> u32
+        ensures none { result ≡ 0 → self.new ≡ self.old }
+        ensures word { 0 < result → (at : ℕ) × (text : List ℕ) × (self.old ≡ record { at = at; text = text } ∷ self.new) × (number_of text ≡ Some (record { negative = false; value = result })) }
+        ensures small { result < 2 ^ 31 }
+    {
+        let [blank, bytes @ ..] = self.rest else {
+            return 0;
+        };
+        let Mode::InWord = self.mode else {
+            return 0;
+        };
+        if !is_blank(*blank) {
+            return 0;
+        }
+        let (after, len, value) = front_digits(bytes);
+        if len > 10 || value == 0 || !ends_word(after) {
+            return 0;
+        }
+        let next = self.at + 1 + len as u64;
+        self.rest = after;
+        self.at = next;
+        value
     }
 }

@@ -1,7 +1,7 @@
 use Rattle.std.proofs.Common.{◌≡◌, length}
 use Rattle.cnf_base.specs.Reading.{read_words, read_of}
 use Rattle.cnf_base.specs.ReaderState.{state_of}
-use Rattle.cnf_base.proofs.reader.read_cnf.Given as goal
+use Rattle.cnf_base.proofs.reader.read_text.Given as goal
 
 abbrev pub invariant-loop-word : goal.invariant-loop-word
 invariant-loop-word l = read_words (state_of l.reading) l.words (length l.text) ≡ read_of l.text
