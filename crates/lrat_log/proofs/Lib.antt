@@ -3,4 +3,5 @@ pub mod Sound
 pub mod Growth
 pub mod Resolvent
 pub mod Readings
+pub mod Standing
 pub mod Again

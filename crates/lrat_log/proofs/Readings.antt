@@ -4,7 +4,8 @@ use Rattle.std.specs.Prelude.{◌==◌, not, nat_lt, nat_le, codes}
 use Rattle.std.specs.Str.{bytes_eq}
 use Rattle.std.specs.Result.{IfOk}
 use Rattle.rml_row.specs.declared.refused.Refused.{Refused}
-use Rattle.cnf_base.specs.Answers.{Answers}
+use Rattle.rml_row.specs.declared.refused.Refused.TheVariants.{For, NoMemory}
+use Rattle.cnf_base.specs.Answers.{Fails, Answers}
 use Rattle.std.proofs.lemmas.Bool.{ltb-false, leb-false, eqb-false}
 use Rattle.cnf_base.specs.declared.text.Numeral.{Numeral}
 use Rattle.cnf_base.specs.Literals.{literal_of, variable_of, IsLiteral, AreLiterals}
@@ -198,3 +199,7 @@ end_is_read variables clauses text ws s lines e same h =
 pub answered : {A F : Type 0} (said : Result A F) (r : Result A (Refused F)) (P : A → Type 0) → Answers said r → ((x : A) → said ≡ Ok x → P x) → IfOk r P
 answered said (Ok x) P a h = h x a
 answered said (Err e) P a h = tt
+
+pub fails_as : {A F : Type 0} (said other : Result A F) (e : Refused F) → said ≡ other → Fails said e → Fails other e
+fails_as said other (For f) is h = sym is ∙ h
+fails_as said other NoMemory is h = tt

@@ -1,6 +1,7 @@
 pub mod Held
 pub mod Accepted
 pub mod Logs
+pub mod Places
 pub mod Learnt
 pub mod Refutations
 pub mod Reading

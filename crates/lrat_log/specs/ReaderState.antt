@@ -1,10 +1,13 @@
 -- How far a reader is.
-use Rattle.std.specs.Prelude.{◌≡◌, Result, Ok, Err}
+use Rattle.std.specs.Prelude.{ℕ, ◌≡◌, Bool, true, false, List, Result, Ok, Err}
 use Rattle.rml_row.specs.declared.refused.Refused.{Refused}
 use Rattle.cnf_base.specs.Answers.{Fails}
+use Rattle.cnf_base.specs.Words.{Word}
 use Rattle.lrat_log.specs.declared.text.LogFault.{LogFault}
+use Rattle.lrat_log.specs.declared.text.Stage.{Stage}
+use Rattle.lrat_log.specs.declared.text.Stage.TheVariants.{Id, Second, Literals, Hints, Deleted}
 use Rattle.lrat_log.specs.declared.reader.Reading.{Reading}
-use Rattle.lrat_log.specs.Reading.{State}
+use Rattle.lrat_log.specs.Reading.{State, read_words}
 
 abbrev pub state_of : Reading → State
 state_of r = record {
@@ -21,3 +24,16 @@ state_of r = record {
 abbrev pub Takes : Result State LogFault → Reading → Result (Unit {0}) (Refused LogFault) → Type 0
 Takes said new (Ok u) = said ≡ Ok (state_of new)
 Takes said new (Err e) = Fails said e
+
+-- Some words are taken: what is left says what the whole says, or the whole has the fault.
+abbrev pub Goes : State → List Word → Reading → List Word → Result (Unit {0}) (Refused LogFault) → Type 0
+Goes s words new left (Ok u) = (end : ℕ) → read_words (state_of new) left end ≡ read_words s words end
+Goes s words new left (Err e) = (end : ℕ) → Fails (read_words s words end) e
+
+-- whether the next word is a hint, or an id to delete
+abbrev pub is_for_ids : Stage → Bool
+is_for_ids Hints = true
+is_for_ids Deleted = true
+is_for_ids Id = false
+is_for_ids Second = false
+is_for_ids Literals = false

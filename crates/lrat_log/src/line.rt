@@ -81,4 +81,13 @@ impl Log {
     {
         self.lines.as_slice()
     }
+
+    /// The lines are moved, and nothing is copied.
+    pub fn into_lines(self) -> Row<Line>
+        ensures value { result ≡ self }
+        ensures log { IsLog self }
+    {
+        let Log { lines } = self;
+        lines
+    }
 }

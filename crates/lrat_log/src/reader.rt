@@ -1,10 +1,13 @@
 // Reads the text of a log.
-ghost use Rattle.std.specs.Prelude.{◌≡◌, ◌<◌, ◌≤◌, ◌^◌, ℕ, List, [], ◌∷◌, ◌++◌, Ok, length, OnOk, IfOk, IfSome};
+ghost use Rattle.std.specs.Prelude.{◌≡◌, ◌<◌, ◌≤◌, ◌^◌, ℕ, List, [], ◌∷◌, ◌++◌, Ok, Some, length, OnOk, IfOk, IfErr, IfSome};
 ghost use Rattle.cnf_base.specs.Answers.{Answers};
+ghost use Rattle.cnf_base.specs.Numerals.{number_of};
 ghost use Rattle.lrat_log.specs.declared.line.Line.{Line};
 ghost use Rattle.lrat_log.specs.Logs.{IsLog, IsLogOver};
-ghost use Rattle.lrat_log.specs.Reading.{at_start, take_id, take_literal, take_second, take_hint, take_deleted, take_word, with_addition, with_deletion, ended, read_of};
-ghost use Rattle.lrat_log.specs.ReaderState.{state_of, Takes};
+ghost use Rattle.lrat_log.specs.Places.{StandsBy};
+ghost use Rattle.lrat_log.specs.Reading.{at_start, take_id, take_literal, take_second, take_hint, take_deleted, take_word, with_addition, with_deletion, ended, read_words, read_of};
+ghost use Rattle.lrat_log.specs.ReaderState.{state_of, is_for_ids, Takes, Goes};
+ghost use Rattle.rml_row.specs.Because.{Because};
 ghost use Rattle.rml_row.specs.declared.refused.Refused.{Refused};
 ghost use Rattle.rml_row.specs.declared.refused.Refused.TheVariants.{For};
 
@@ -12,7 +15,7 @@ use crate::line::{Line, Log};
 use crate::text::{LogFault, Stage};
 use cnf_base::{Lit, Numeral, Words, literal_of, number_of, word_laws};
 use rml_row::{Mem, Refused, Row};
-use std::alloc::Global;
+use std::alloc::{AllocError, Global};
 
 // What was read so far.
 #[derive(Drop)]
@@ -188,6 +191,73 @@ impl Reading {
         Ok(())
     }
 
+    // Takes a word that is a number.
+    fn take_number(
+        &mut self,
+        alloc: Global,
+        number: Numeral,
+        at: u64,
+    ) -> Result<(), Refused<LogFault>>
+        requires { number.value < 2 ^ 31 }
+        ensures { (text : List ℕ) → number_of text ≡ Some number → Takes (take_word (state_of self.old) (record { at = at; text = text })) self.new result }
+    {
+        match self.stage {
+            Stage::Id => self.take_id(Some(number), at),
+            Stage::Second => if self.id <= self.last {
+                Err(fault(4, self.place))
+            } else {
+                self.take_literal(Some(number), at)
+            },
+            Stage::Literals => self.take_literal(Some(number), at),
+            Stage::Hints => self.take_hint(alloc, Some(number), at),
+            Stage::Deleted => self.take_deleted(alloc, Some(number), at),
+        }
+    }
+
+    fn takes_ids(&self) -> bool
+        ensures { result ≡ is_for_ids self.now.stage }
+    {
+        matches!(self.stage, Stage::Hints | Stage::Deleted)
+    }
+
+    // Takes the ids that stand next, as long as they are found at once.
+    fn take_ids(&mut self, words: &mut Words<'_>) -> Mem<()>
+        ensures taken { OnOk result ((end : ℕ) → read_words (state_of self.new) words.new end ≡ read_words (state_of self.old) words.old end) }
+        ensures shorter { length words.new ≤ length words.old }
+    {
+        while self.takes_ids() {
+            let id = words.next_id();
+            if id == 0 {
+                return Ok(());
+            }
+            if self.ids.push(id as u64).is_err() {
+                return Err(AllocError);
+            }
+        }
+        Ok(())
+    }
+
+    // Takes the numbers that stand next, as long as they are found at once.
+    fn take_numbers(
+        &mut self,
+        alloc: Global,
+        words: &mut Words<'_>,
+    ) -> Result<(), Refused<LogFault>>
+        ensures taken { Goes (state_of self.old) words.old self.new words.new result }
+        ensures shorter { length words.new ≤ length words.old }
+    {
+        while let Some((at, number)) = words.next_number() {
+            match self.take_number(alloc, number, at) {
+                Ok(()) => {}
+                Err(e) => return Err(e),
+            }
+            if self.take_ids(words).is_err() {
+                return Err(Refused::NoMemory);
+            }
+        }
+        Ok(())
+    }
+
     fn take_word(&mut self, alloc: Global, word: &[u8], at: u64) -> Result<(), Refused<LogFault>>
         ensures { Takes (take_word (state_of self.old) (record { at = at; text = word.now })) self.new result }
     {
@@ -212,12 +282,32 @@ pub fn read_log(
 ) -> Result<Log, Refused<LogFault>>
     ensures log { Answers (read_of variables clauses text.now) result }
     ensures over { IfOk result (λ lines. IsLogOver variables clauses lines) }
+    ensures place { IfErr result (Because (StandsBy (length text.now))) }
+{
+    word_laws();
+    let read = read_text(alloc, text, variables, clauses);
+    read
+}
+
+// Reads the words one after another.
+fn read_text(
+    alloc: Global,
+    text: &[u8],
+    variables: u64,
+    clauses: u64,
+) -> Result<Log, Refused<LogFault>>
+    ensures log { Answers (read_of variables clauses text.now) result }
+    ensures over { IfOk result (λ lines. IsLogOver variables clauses lines) }
 {
     word_laws();
     let mut reading = Reading::new(alloc, variables, clauses);
     let mut words = Words::of(text);
     while let Some(word) = words.next_word() {
         match reading.take_word(alloc, word.text, word.at) {
+            Ok(()) => {}
+            Err(e) => return Err(e),
+        }
+        match reading.take_numbers(alloc, &mut words) {
             Ok(()) => {}
             Err(e) => return Err(e),
         }

@@ -1,17 +1,6 @@
-use Rattle.std.proofs.Common.{arith, length}
-use Rattle.lrat_log.specs.Logs.{IsLogOver}
-use Rattle.lrat_log.specs.Reading.{ended}
-use Rattle.lrat_log.specs.ReaderState.{state_of}
-use Rattle.lrat_log.proofs.Readings.{read_is_over, end_is_read, answered}
+use Rattle.lrat_log.proofs.Standing.{answer_stands}
 use Rattle.lrat_log.proofs.reader.read_log.Goals as goal
 
-pub finish-requires : goal.finish-requires
-finish-requires c =
-    λ lines h. read_is_over c.args.variables 2147483647 0 (λ n _ small. small) c.args.clauses c.args.text.now lines c.word_laws.ensures.small (omega arith)
-    (end_is_read c.args.variables c.args.clauses c.args.text.now c.loop-word.words (state_of c.loop-word.reading) lines c.in_default.ensures c.loop-word.invariant h)
-
-pub returns-clause-over : goal.returns-clause-over
-returns-clause-over c =
-    answered (ended (state_of c.loop-word.reading) (length c.args.text.now)) c.finish.result (λ lines. IsLogOver c.args.variables c.args.clauses lines) c.finish.ensures
-    (λ lines h. read_is_over c.args.variables c.args.variables c.args.clauses (λ n le _. le) c.args.clauses c.args.text.now lines c.word_laws.ensures.small (omega arith)
-    (end_is_read c.args.variables c.args.clauses c.args.text.now c.loop-word.words (state_of c.loop-word.reading) lines c.in_default.ensures c.loop-word.invariant h))
+pub returns-clause-place : goal.returns-clause-place
+returns-clause-place c =
+    answer_stands c.word_laws.ensures.places c.args.variables c.args.clauses c.args.text.now c.read_text-read.result c.read_text-read.ensures.log
