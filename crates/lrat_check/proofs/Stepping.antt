@@ -1,5 +1,5 @@
 -- One more line of a whole log.
-use Rattle.std.proofs.Common.{◌≡◌, ℕ, suc, ◌-◌, ◌<◌, List, [], ◌∷◌, ◌++◌, length, get_or, take, drop, sym, ◌∙◌, ap, subst, arith, append_assoc}
+use Rattle.std.proofs.Common.{◌≡◌, ℕ, suc, ◌-◌, ◌<◌, List, [], ◌∷◌, ◌++◌, length, get_or, take, drop, refl, sym, ◌∙◌, ap, subst, arith, append_assoc}
 use Rattle.std.proofs.lemmas.Grind.{common_steps}
 use Rattle.cnf_base.specs.Formulas.{Formula}
 use Rattle.lrat_log.specs.declared.line.Line.{Line}
@@ -52,3 +52,11 @@ steps_on f log (x ∷ xs) c new line s h l o e =
       refusal = s.refusal ∙ goes_on (held_by c) x xs (subst (λ (k : Line). outcome_of (held_by c) k ≡ Accepted) l o) ∙ (λ i. first_refusal (held i) (sym tail i));
       accepted = subst (IsAccepted f) (sym (ap (λ (c : Checked). c.lines) e)) (accepted-push f.variables (held_of f) (length f.clauses) c.lines line s.accepted fit_here outcome);
     }
+
+-- the same where the line is taken off the rest
+pub steps_off : (f : Formula) (log rest left : List Line) (c new : Checked) (line : Line) → Stands f log c rest → rest ≡ line ∷ left
+    → outcome_of (held_by c) line ≡ Accepted → new ≡ record { formula = c.formula; lines = c.lines ++ line ∷ [] } → Stands f log new left
+steps_off f log rest left c new line s is o e =
+    let here : Stands f log c (line ∷ left) = subst (Stands f log c) is s in
+    let tail : take (suc (length left) - 1) left ≡ left = take_all left (suc (length left) - 1) (omega arith) in
+    subst (Stands f log new) tail (steps_on f log (line ∷ left) c new line here (omega arith) refl o e)

@@ -51,9 +51,17 @@ impl Checker {
         ensures { IfOk result (λ c. c ≡ record { formula = cnf.now; lines = [] }) }
     {
         let copy = cnf.copy(alloc)?;
-        let table = table_of(alloc, &copy)?;
+        let checker = Checker::of(alloc, copy)?;
+        Ok(checker)
+    }
+
+    /// As `new`, of a formula that is moved and not copied.
+    pub fn of(alloc: Global, cnf: Cnf) -> Mem<Checker>
+        ensures { IfOk result (λ c. c ≡ record { formula = cnf; lines = [] }) }
+    {
+        let table = table_of(alloc, &cnf)?;
         Ok(Checker {
-            cnf: copy,
+            cnf,
             lines: Vec::new(alloc),
             table,
             is_refuted: false,
@@ -69,8 +77,8 @@ impl Checker {
         self.is_refuted
     }
 
-    /// Takes one line, if it is accepted. A step costs the literals of the line's hints, whatever else
-    /// is held.
+    /// Takes a copy of one line, if it is accepted. A step costs the line's copy and the literals of
+    /// its hints, whatever else is held.
     pub fn step(&mut self, line: &Line) -> Result<(), Refused<Refusal>>
         requires { MayStep self.old line.now }
         ensures accepted { OnOk result (outcome_of (held_by self.old) line.now ≡ Accepted) }
@@ -79,10 +87,25 @@ impl Checker {
         ensures refused { IfErr result (Because (IsRefusal (outcome_of (held_by self.old) line.now) line.now)) }
         ensures unchanged { OnErr result (self.new ≡ self.old) }
     {
+        match line.copy(*self.lines.allocator()) {
+            Ok(copy) => self.take(copy),
+            Err(_) => Err(Refused::NoMemory),
+        }
+    }
+
+    /// As `step`, of a line that is moved and not copied.
+    pub fn take(&mut self, line: Line) -> Result<(), Refused<Refusal>>
+        requires { MayStep self.old line }
+        ensures accepted { OnOk result (outcome_of (held_by self.old) line ≡ Accepted) }
+        ensures kept { OnOk result (self.new ≡ record { formula = self.old.formula; lines = self.old.lines ++ line ∷ [] }) }
+        ensures follows { OnOk result (Follows self.old line) }
+        ensures refused { IfErr result (Because (IsRefusal (outcome_of (held_by self.old) line) line)) }
+        ensures unchanged { OnErr result (self.new ≡ self.old) }
+    {
         soundness();
         match line {
-            Line::Add { id, lits, hints } => self.take_addition(*id, lits, hints),
-            Line::Delete { id, ids } => self.take_deletion(*id, ids),
+            Line::Add { id, lits, hints } => self.take_addition(id, lits, hints),
+            Line::Delete { id, ids } => self.take_deletion(id, ids),
         }
     }
 
@@ -97,13 +120,13 @@ impl Checker {
     fn take_addition(
         &mut self,
         id: u64,
-        lits: &Row<Lit>,
-        hints: &Row<u64>,
+        lits: Row<Lit>,
+        hints: Row<u64>,
     ) -> Result<(), Refused<Refusal>>
-        requires { MayStep self.old (Add id lits.now hints.now) }
-        ensures accepted { OnOk result (outcome_of_addition (held_by self.old) lits.now hints.now ≡ Accepted) }
-        ensures kept { OnOk result (self.new ≡ record { formula = self.old.formula; lines = self.old.lines ++ Add id lits.now hints.now ∷ [] }) }
-        ensures refused { IfErr result (Because (IsRefusal (outcome_of_addition (held_by self.old) lits.now hints.now) (Add id lits.now hints.now))) }
+        requires { MayStep self.old (Add id lits hints) }
+        ensures accepted { OnOk result (outcome_of_addition (held_by self.old) lits hints ≡ Accepted) }
+        ensures kept { OnOk result (self.new ≡ record { formula = self.old.formula; lines = self.old.lines ++ Add id lits hints ∷ [] }) }
+        ensures refused { IfErr result (Because (IsRefusal (outcome_of_addition (held_by self.old) lits hints) (Add id lits hints))) }
         ensures unchanged { OnErr result (self.new ≡ self.old) }
     {
         let clause = lits.as_slice();
@@ -112,54 +135,34 @@ impl Checker {
             Outcome::Refused(code) => return Err(Refused::For(Refusal { code, id })),
             Outcome::Accepted => {}
         }
-        let line = copy_addition(*self.lines.allocator(), id, lits, hints)?;
         self.lines.reserve(1)?;
         self.table.add(id, clause, checked.1)?;
         self.is_refuted = self.is_refuted | clause.is_empty();
-        match self.lines.push(line) {
+        match self.lines.push(Line::Add { id, lits, hints }) {
             Ok(()) => {}
             Err(_) => unreachable!(),
         }
         Ok(())
     }
 
-    fn take_deletion(&mut self, id: u64, ids: &Row<u64>) -> Result<(), Refused<Refusal>>
-        ensures accepted { OnOk result (outcome_of_deletion (held_by self.old) ids.now ≡ Accepted) }
-        ensures kept { OnOk result (self.new ≡ record { formula = self.old.formula; lines = self.old.lines ++ Delete id ids.now ∷ [] }) }
-        ensures refused { IfErr result (Because (IsRefusal (outcome_of_deletion (held_by self.old) ids.now) (Delete id ids.now))) }
+    fn take_deletion(&mut self, id: u64, ids: Row<u64>) -> Result<(), Refused<Refusal>>
+        ensures accepted { OnOk result (outcome_of_deletion (held_by self.old) ids ≡ Accepted) }
+        ensures kept { OnOk result (self.new ≡ record { formula = self.old.formula; lines = self.old.lines ++ Delete id ids ∷ [] }) }
+        ensures refused { IfErr result (Because (IsRefusal (outcome_of_deletion (held_by self.old) ids) (Delete id ids))) }
         ensures unchanged { OnErr result (self.new ≡ self.old) }
     {
         match self.table.check_deletion(ids.as_slice()) {
             Outcome::Refused(code) => return Err(Refused::For(Refusal { code, id })),
             Outcome::Accepted => {}
         }
-        let line = copy_deletion(*self.lines.allocator(), id, ids)?;
-        match self.lines.push(line) {
-            Ok(()) => {}
-            Err(_) => return Err(Refused::NoMemory),
-        }
+        self.lines.reserve(1)?;
         self.table.delete(ids.as_slice());
+        match self.lines.push(Line::Delete { id, ids }) {
+            Ok(()) => {}
+            Err(_) => unreachable!(),
+        }
         Ok(())
     }
-}
-
-fn copy_addition(alloc: Global, id: u64, lits: &Row<Lit>, hints: &Row<u64>) -> Mem<Line>
-    ensures { IfOk result (λ line. line ≡ Add id lits.now hints.now) }
-{
-    Ok(Line::Add {
-        id,
-        lits: Row::from_vec(Vec::from_slice(alloc, lits.as_slice())?),
-        hints: Row::from_vec(Vec::from_slice(alloc, hints.as_slice())?),
-    })
-}
-
-fn copy_deletion(alloc: Global, id: u64, ids: &Row<u64>) -> Mem<Line>
-    ensures { IfOk result (λ line. line ≡ Delete id ids.now) }
-{
-    Ok(Line::Delete {
-        id,
-        ids: Row::from_vec(Vec::from_slice(alloc, ids.as_slice())?),
-    })
 }
 
 // A table that holds the clauses of a formula, under the ids 1, 2, ..

@@ -9,7 +9,7 @@ mod table;
 mod whole;
 
 pub use checker::{Checker, Refusal};
-pub use whole::check_log;
+pub use whole::{check_log, check_owned};
 
 #[cfg(test)]
 mod tests;

@@ -145,3 +145,20 @@ fn a_step_grows_the_stamps(rt: HostRuntime) -> Result<(), Fail> {
     assert!(rt; !checker.is_refuted());
     Ok(())
 }
+
+// A formula and a log that are moved, with a deletion.
+#[test]
+fn an_owned_log(rt: HostRuntime) -> Result<(), Fail> {
+    let cnf = read_cnf(rt.alloc(), ALL_FOUR)?;
+    let text = b"5 1 0 1 2 0\n5 d 1 0\n6 0 5 3 4 0\n";
+    let log = read_log(
+        rt.alloc(),
+        text,
+        cnf.variables() as u64,
+        cnf.clauses().len() as u64,
+    )?;
+    let checker = check_owned(rt.alloc(), cnf, log)?;
+    assert_eq!(rt; checker.lines().len(), 3);
+    assert!(rt; checker.is_refuted());
+    Ok(())
+}

@@ -1,5 +1,5 @@
 // A whole log.
-ghost use Rattle.std.specs.Prelude.{◌≡◌, length, Some, IfOk, IfErr, OnOk};
+ghost use Rattle.std.specs.Prelude.{◌≡◌, length, Some, None, IfOk, IfErr, OnOk};
 ghost use Rattle.rml_row.specs.Because.{Because};
 ghost use Rattle.lrat_log.specs.Held.{held_of};
 ghost use Rattle.lrat_log.specs.Accepted.{IsAccepted};
@@ -18,6 +18,7 @@ pub fn check_log(alloc: Global, cnf: &Cnf, log: &Log) -> Result<Checker, Refused
     requires { IsLogOver cnf.now.variables (length cnf.now.clauses) log.now }
     ensures checked { IfOk result (λ c. c ≡ record { formula = cnf.now; lines = log.now }) }
     ensures accepted { OnOk result (IsAccepted cnf.now log.now) }
+    ensures taken { OnOk result (first_refusal (held_of cnf.now) log.now ≡ None) }
     ensures refused { IfErr result (Because (λ r. first_refusal (held_of cnf.now) log.now ≡ Some r)) }
 {
     let mut checker = Checker::new(alloc, cnf)?;
@@ -28,6 +29,25 @@ pub fn check_log(alloc: Global, cnf: &Cnf, log: &Log) -> Result<Checker, Refused
             Err(e) => return Err(e),
         }
         rest = after;
+    }
+    Ok(checker)
+}
+
+/// As `check_log`, of a formula and a log that are moved into the checker and not copied.
+pub fn check_owned(alloc: Global, cnf: Cnf, log: Log) -> Result<Checker, Refused<Refusal>>
+    requires { IsLogOver cnf.variables (length cnf.clauses) log }
+    ensures checked { IfOk result (λ c. c ≡ record { formula = cnf; lines = log }) }
+    ensures accepted { OnOk result (IsAccepted cnf log) }
+    ensures taken { OnOk result (first_refusal (held_of cnf) log ≡ None) }
+    ensures refused { IfErr result (Because (λ r. first_refusal (held_of cnf) log ≡ Some r)) }
+{
+    let mut checker = Checker::of(alloc, cnf)?;
+    let mut lines = log.into_lines().into_vec().into_iter();
+    while let Some(line) = lines.next() {
+        match checker.take(line) {
+            Ok(()) => {}
+            Err(e) => return Err(e),
+        }
     }
     Ok(checker)
 }

@@ -1,6 +1,6 @@
 use Rattle.std.proofs.lemmas.Result.{on_ok_weaker}
 use Rattle.lrat_check.specs.Checked.{held_by}
-use Rattle.lrat_check.proofs.checker.Checker.step.Goals as goal
+use Rattle.lrat_check.proofs.checker.Checker.take.Goals as goal
 
 pub returns-in-Add-clause-follows : goal.returns-in-Add-clause-follows
 returns-in-Add-clause-follows c =
