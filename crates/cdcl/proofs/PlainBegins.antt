@@ -1,5 +1,5 @@
 -- How a plain search begins.
-use Rattle.std.proofs.Common.{◌≡◌, ℕ, zero, suc, ◌+◌, ◌*◌, ◌^◌, ◌<◌, ◌≤◌, false, Bool, List, [], ◌∷◌, length, get_or, slice_get, refl, arith, ap, sym, ◌∙◌, Some}
+use Rattle.std.proofs.Common.{◌≡◌, ℕ, zero, suc, ◌+◌, ◌*◌, ◌<◌, false, List, [], ◌∷◌, length, get_or, slice_get, refl, arith, ap, sym, ◌∙◌, Some}
 use Rattle.std.specs.List.{All}
 use Rattle.cnf_base.specs.declared.cnf.Entry.{Entry}
 use Rattle.cnf_base.specs.declared.cnf.Entry.TheVariants.{Clause}
@@ -7,8 +7,7 @@ use Rattle.cnf_base.specs.Literals.{opposite}
 use Rattle.cnf_base.specs.Formulas.{Formula, IsFormula}
 use Rattle.cdcl.specs.declared.plain.Plain.{Plain}
 use Rattle.cdcl.specs.declared.trail.Step.{Step}
-use Rattle.cdcl.specs.Trail.{held_by, IsTrail}
-use Rattle.lrat_log.specs.Held.{Held}
+use Rattle.cdcl.specs.Trail.{held_by}
 use Rattle.cdcl.specs.Learning.{is_marked}
 use Rattle.cdcl.specs.Loading.{AreUpTo}
 use Rattle.cdcl.specs.Plain.{IsPlain}

@@ -1,7 +1,6 @@
 -- What a clause says under the literals that are set.
-use Rattle.std.proofs.Common.{◌≡◌, ℕ, zero, suc, ◌+◌, ◌<◌, ◌≤◌, ◌⊎◌, eqb, Bool, true, false, List, length, refl, arith, ap, sym, subst, ◌∙◌, inl, inr, Some}
+use Rattle.std.proofs.Common.{◌≡◌, ℕ, ◌+◌, ◌<◌, ◌≤◌, ◌⊎◌, Bool, true, false, List, length, arith, ap, sym, subst, ◌∙◌, inl, inr, Some}
 use Rattle.std.proofs.lemmas.Bool.{cases_lt}
-use Rattle.std.specs.List.{All}
 use Rattle.cnf_base.specs.declared.cnf.Entry.{Entry}
 use Rattle.cnf_base.specs.declared.cnf.Entry.TheVariants.{Clause, True}
 use Rattle.cnf_base.specs.Literals.{opposite, member}
@@ -13,7 +12,7 @@ use Rattle.cdcl.specs.declared.trail.Step.{Step}
 use Rattle.cdcl.specs.TrailValue.{TrailValue}
 use Rattle.cdcl.specs.Trail.{held_by, is_set, IsConflict}
 use Rattle.cdcl.specs.Holding.{IsHolding}
-use Rattle.cdcl.specs.Visit.{AreFalseBut, IsOpen}
+use Rattle.cdcl.specs.Visit.{AreFalseBut}
 use Rattle.cdcl.specs.Effect.{IsPassed, IsEffect, IsEffectAt, IsForced}
 use Rattle.cdcl.proofs.Entries.{held_id}
 use Rattle.cdcl.proofs.Marking.{some_clause}

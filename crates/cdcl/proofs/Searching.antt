@@ -1,5 +1,5 @@
 -- The invariant of a search, kept by propagation, by a decision and by going back.
-use Rattle.std.proofs.Common.{◌≡◌, ℕ, zero, suc, ◌+◌, ◌*◌, ◌<◌, ◌≤◌, ◌⊎◌, false, List, [], ◌∷◌, ◌++◌, length, length-append, get_or, take, refl, arith, ap, sym, subst, ◌∙◌, inl, inr, Some}
+use Rattle.std.proofs.Common.{◌≡◌, ℕ, ◌+◌, ◌*◌, ◌<◌, ◌≤◌, ◌⊎◌, false, List, [], ◌∷◌, ◌++◌, length, length-append, get_or, take, refl, arith, ap, sym, subst, ◌∙◌, inl, inr, Some}
 use Rattle.std.proofs.lemmas.Grind.{common_steps}
 use Rattle.std.proofs.lemmas.Bool.{cases_lt}
 use Rattle.std.proofs.Math.ListN.{get_or-append}
@@ -17,7 +17,7 @@ use Rattle.cdcl.specs.Watch.{Pairs, WereSafe, IsWatching}
 use Rattle.cdcl.specs.State.{held_in, pairs_of, lists_of, IsState, IsSafeAt, Grows, IsWatchingAt}
 use Rattle.cdcl.specs.Holding.{IsHolding}
 use Rattle.cdcl.specs.Search.{AreStarts, IsSearch}
-use Rattle.cdcl.proofs.Trails.{was_set-push, all_set_push, trail_push, trail_cut, was_set-take, is_set-take, get-push_old, get-take}
+use Rattle.cdcl.proofs.Trails.{was_set-push, all_set_push, trail_push, trail_cut, was_set-take, is_set-take}
 use Rattle.cdcl.specs.Assigned.{IsUnset}
 use Rattle.cdcl.proofs.Literals.{opposite-even, opposite-odd}
 use Rattle.cdcl.proofs.Growth.{free_less}

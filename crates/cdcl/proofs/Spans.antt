@@ -4,7 +4,6 @@ use Rattle.std.proofs.lemmas.Grind.{common_steps}
 use Rattle.cnf_base.specs.declared.cnf.Entry.{Entry}
 use Rattle.cnf_base.specs.declared.cnf.Entry.TheVariants.{Clause, True}
 use Rattle.cdcl.specs.declared.clauses.Span.{Span}
-use Rattle.std.proofs.lemmas.List.{length-map}
 use Rattle.std.specs.Bool.{OnTrue, OnFalse}
 use Rattle.cdcl.specs.Trail.{held_by}
 use Rattle.cdcl.proofs.Entries.{held_at}

@@ -1,22 +1,21 @@
 -- The invariant of a plain search, kept by its steps.
-use Rattle.std.proofs.Common.{◌≡◌, ℕ, zero, suc, ◌+◌, ◌-◌, ◌*◌, ◌^◌, ◌<◌, ◌≤◌, ◌⊎◌, Bool, true, false, List, [], ◌∷◌, ◌++◌, length, length-append, get_or, take, refl, arith, ap, sym, subst, ◌∙◌, inl, inr, Some}
+use Rattle.std.proofs.Common.{◌≡◌, ℕ, ◌+◌, ◌-◌, ◌^◌, ◌<◌, ◌⊎◌, Bool, true, false, List, [], ◌∷◌, ◌++◌, length, length-append, get_or, take, refl, arith, ap, sym, subst, ◌∙◌, inl, inr, Some}
 use Rattle.std.specs.List.{All}
 use Rattle.cnf_base.specs.declared.cnf.Entry.{Entry}
 use Rattle.cnf_base.specs.declared.cnf.Entry.TheVariants.{Clause}
-use Rattle.cnf_base.specs.Literals.{opposite, member}
-use Rattle.lrat_log.specs.Learnt.{IsQuiet, IsResolvent}
+use Rattle.cnf_base.specs.Literals.{opposite}
+use Rattle.lrat_log.specs.Learnt.{IsResolvent}
 use Rattle.cdcl.specs.declared.analyse.Learnt.{Learnt}
 use Rattle.cdcl.specs.declared.plain.Plain.{Plain}
 use Rattle.cdcl.specs.declared.trail.Step.{Step}
 use Rattle.cdcl.specs.TrailValue.{TrailValue}
-use Rattle.cdcl.specs.Trail.{held_by, literal_at, was_set, is_set, free, IsTrail, IsBelow, MayPush}
+use Rattle.cdcl.specs.Trail.{held_by, literal_at, was_set, is_set, IsBelow, MayPush}
 use Rattle.cdcl.specs.Holding.{IsHolding}
 use Rattle.cdcl.specs.Effect.{IsPassed, IsForced}
-use Rattle.cdcl.specs.Learning.{is_marked, HasTops, IsSecond}
-use Rattle.cdcl.specs.Plain.{IsPlain, SetOne, SetMore, IsPlainQuiet, IsDrawn, IsPlainBack, top_start}
+use Rattle.cdcl.specs.Learning.{is_marked}
+use Rattle.cdcl.specs.Plain.{IsPlain, SetOne, SetMore, IsPlainQuiet, IsDrawn, IsPlainBack}
 use Rattle.cdcl.proofs.Adding.{trail_held}
 use Rattle.cdcl.proofs.Asserting.{all_members, clause_is}
-use Rattle.cdcl.proofs.Backing.{start_at_most}
 use Rattle.cdcl.proofs.Entries.{held_old, held_either}
 use Rattle.cdcl.proofs.Growth.{extends_push}
 use Rattle.cdcl.proofs.Levels.{starts_decided, starts_cut, quiet_pushed, quiet_decided, quiet_cut}

@@ -9,7 +9,6 @@ use Rattle.cdcl.specs.declared.solver.Turn.TheVariants.{Satisfied, Refuted, Conf
 use Rattle.cdcl.specs.Trail.{IsConflict}
 use Rattle.cdcl.specs.Assigned.{AreAllSet}
 use Rattle.cdcl.specs.State.{held_in}
-use Rattle.cdcl.specs.Solver.{IsSolver}
 use Rattle.cdcl.specs.declared.solver.Solved.{Solved}
 use Rattle.cdcl.specs.declared.solver.Solved.TheVariants.{Sat, Unsat, Spent}
 
@@ -19,8 +18,8 @@ IsAnswer f budget (Sat values) = IsModel f values
 IsAnswer f budget (Unsat log) = IsRefutation f budget log
 IsAnswer f budget (Spent log) = IsSpent f budget log
 
--- All variables are set and nothing is left to draw; the hints refute; or a clause is false above level 0.
+-- From a search: all variables are set and nothing is left to draw; the hints refute; or a clause is false above level 0.
 abbrev pub IsTurn : Search → Turn → Type 0
-IsTurn s Satisfied = IsSolver s × (s.head ≡ length s.state.trail.steps) × AreAllSet s.state.trail
-IsTurn s (Refuted hints) = IsResolvent (held_in s.state) [] hints.items
-IsTurn s (Conflict id) = IsSolver s × (0 < length s.starts.items) × IsConflict (held_in s.state) s.state.trail.steps id
+IsTurn old (Satisfied s) = (s.state.clauses ≡ old.state.clauses) × (s.head ≡ length s.state.trail.steps) × AreAllSet s.state.trail
+IsTurn old (Refuted hints) = IsResolvent (held_in old.state) [] hints.items
+IsTurn old (Conflict s id) = (s.state.clauses ≡ old.state.clauses) × (0 < length s.starts.items) × IsConflict (held_in s.state) s.state.trail.steps id

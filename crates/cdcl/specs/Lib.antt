@@ -10,6 +10,7 @@ pub mod State
 pub mod Holding
 pub mod Effect
 pub mod Plain
+pub mod PlainTurns
 pub mod Search
 pub mod Assigned
 pub mod Added

@@ -24,5 +24,5 @@ pub record IsAtRoot (s : Search) : Type 0 where
 
 -- the clauses of the formula are held; or the empty clause is a resolvent of them
 abbrev pub IsLoaded : Formula → Loaded → Type 0
-IsLoaded f (Ready s) = IsSolver s × (s.state.clauses ≡ f.clauses)
+IsLoaded f (Ready s) = s.state.clauses ≡ f.clauses
 IsLoaded f (Refuted hints) = IsResolvent (held_of f) [] hints.items

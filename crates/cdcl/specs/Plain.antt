@@ -1,15 +1,12 @@
 -- The invariant of a plain search, and what its steps do.
-use Rattle.std.specs.Prelude.{ℕ, ◌+◌, ◌-◌, ◌<◌, ◌≤◌, ◌≡◌, false, List, [], length, get_or, take, reverse}
-use Rattle.lrat_log.specs.Learnt.{IsQuiet, IsLearnt, IsResolvent}
+use Rattle.std.specs.Prelude.{ℕ, ◌+◌, ◌-◌, ◌<◌, ◌≤◌, ◌≡◌, false, length, get_or, take, reverse}
+use Rattle.lrat_log.specs.Learnt.{IsQuiet, IsLearnt}
 use Rattle.cdcl.specs.declared.analyse.Learnt.{Learnt}
 use Rattle.cdcl.specs.declared.plain.Plain.{Plain}
-use Rattle.cdcl.specs.declared.solver.Turn.{Turn}
-use Rattle.cdcl.specs.declared.solver.Turn.TheVariants.{Satisfied, Refuted, Conflict}
-use Rattle.cdcl.specs.Trail.{held_by, was_set, is_set, free, IsConflict}
+use Rattle.cdcl.specs.Trail.{held_by, was_set, is_set, free}
 use Rattle.cdcl.specs.Holding.{IsHolding}
 use Rattle.cdcl.specs.Search.{AreStarts}
-use Rattle.cdcl.specs.Assigned.{AreAllSet}
-use Rattle.cdcl.specs.Learning.{is_marked, HasTops, AreBeforeSecond, IsSecond}
+use Rattle.cdcl.specs.Learning.{is_marked, HasTops, IsSecond}
 
 -- Where a level begins, no held clause is false or unit.
 pub record IsPlain (p : Plain) : Type 0 where
@@ -53,9 +50,3 @@ pub record IsPlainBack (old new : Plain) (second : ℕ) : Type 0 where
   pub starts : new.starts.items ≡ take (length new.starts.items) old.starts.items
   pub steps : new.trail.steps ≡ take (get_or old.starts.items (length new.starts.items) 0) old.trail.steps
   pub before : (i : ℕ) → i < length new.starts.items → get_or new.starts.items i 0 < second
-
--- All variables are set and nothing is false or unit; the hints refute; or a clause is false above level 0.
-abbrev pub IsPlainTurn : Plain → Turn → Type 0
-IsPlainTurn p Satisfied = IsPlain p × IsPlainQuiet p × AreAllSet p.trail
-IsPlainTurn p (Refuted hints) = IsResolvent (held_by p.clauses) [] hints.items
-IsPlainTurn p (Conflict id) = IsPlain p × (0 < length p.starts.items) × IsConflict (held_by p.clauses) p.trail.steps id

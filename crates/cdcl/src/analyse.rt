@@ -8,6 +8,7 @@ ghost use Rattle.cdcl.specs.Learning.{is_marked, is_except, HasTops, AreBeforeSe
 ghost use Rattle.cdcl.specs.Holding.{IsHolding};
 
 use crate::clauses::Clauses;
+use crate::order::Order;
 use crate::trail::{Step, Trail};
 use cnf_base::Lit;
 use rml_row::Mem;
@@ -143,6 +144,13 @@ fn is_kept(
     }
 }
 
+/// A variable that was set above level 0 is met.
+fn meet(order: &mut Order, literal: Lit, t: usize, root: usize) {
+    if t >= root {
+        order.bump(literal.variable());
+    }
+}
+
 fn less_open(open: usize, t: usize, top: usize) -> usize {
     if t >= top { open.wrapping_sub(1) } else { open }
 }
@@ -181,6 +189,7 @@ fn analyse(
     clauses: &Clauses,
     trail: &Trail,
     marks: &mut [bool],
+    order: &mut Order,
     levels: Levels,
     conflict: u32,
     decisions_only: bool,
@@ -214,6 +223,7 @@ fn analyse(
         let step = trail.step(t);
         if marks[step.literal.code() as usize] {
             unmark(marks, step.literal);
+            meet(order, step.literal, t, levels.root);
             let implied = is_reason_implied(clauses, trail, marks, levels, t, &step);
             let kept = is_kept(&step, t, levels, open, tops, decisions_only, implied);
             open = less_open(open, t, levels.top);
@@ -244,6 +254,7 @@ pub fn learn(
     clauses: &Clauses,
     trail: &Trail,
     marks: &mut [bool],
+    order: &mut Order,
     levels: Levels,
     conflict: u32,
 ) -> Mem<Learnt>
@@ -261,11 +272,11 @@ pub fn learn(
     ensures second_stands { IfOk result (λ w. IsSecond trail.now.steps w.literals.items w.second) }
     ensures clear { OnOk result ((l : ℕ) → is_marked marks.new l ≡ false) }
 {
-    let first = analyse(alloc, clauses, trail, marks, levels, conflict, false)?;
+    let first = analyse(alloc, clauses, trail, marks, order, levels, conflict, false)?;
     if first.tops == 1 {
         return Ok(first);
     }
-    let second = analyse(alloc, clauses, trail, marks, levels, conflict, true)?;
+    let second = analyse(alloc, clauses, trail, marks, order, levels, conflict, true)?;
     Ok(second)
 }
 
@@ -294,7 +305,10 @@ pub fn learn_decisions(
 {
     let root = trail.len();
     let levels = Levels { root, top };
-    let found = analyse(alloc, clauses, trail, marks, levels, conflict, true)?;
+    let mut order = Order::none(alloc);
+    let found = analyse(
+        alloc, clauses, trail, marks, &mut order, levels, conflict, true,
+    )?;
     Ok(found)
 }
 
@@ -318,6 +332,9 @@ pub fn refute(
         root: end,
         top: end,
     };
-    let found = analyse(alloc, clauses, trail, marks, levels, conflict, true)?;
+    let mut order = Order::none(alloc);
+    let found = analyse(
+        alloc, clauses, trail, marks, &mut order, levels, conflict, true,
+    )?;
     Ok(found.hints)
 }

@@ -8,6 +8,7 @@ mod load;
 mod order;
 mod phases;
 mod plain;
+mod plain_solver;
 mod propagate;
 mod restarts;
 mod scan;
@@ -18,7 +19,7 @@ mod trail;
 mod truth;
 mod watches;
 
-pub use plain::solve_plain;
+pub use plain_solver::solve_plain;
 pub use solver::{Solved, solve};
 
 #[cfg(test)]

@@ -14,7 +14,7 @@ use crate::clauses::Clauses;
 use crate::order::Order;
 use crate::phases::Phases;
 use crate::restarts::Restarts;
-use crate::search::Search;
+use crate::search::{Search, Solver};
 use crate::state::State;
 use crate::trail::Trail;
 use crate::watches::{Pair, WatchList, Watches};
@@ -25,7 +25,7 @@ use std::alloc::Global;
 /// A search that may begin, or the hints of the empty clause.
 #[derive(Drop)]
 pub enum Loaded {
-    Ready(Search),
+    Ready(Solver),
     Refuted(Vec<u64>),
 }
 
@@ -251,5 +251,5 @@ pub fn load(alloc: Global, cnf: &Cnf) -> Mem<Loaded>
             None => {}
         }
     }
-    Ok(Loaded::Ready(search))
+    Ok(Loaded::Ready(Solver { search }))
 }

@@ -13,8 +13,9 @@ const FIRST_STEP: u64 = 1 << 10;
 
 const LIMIT: u64 = 1 << 60;
 
-/// The variables in a binary heap by their activity, a whole number that grows with each conflict that a variable takes
-/// part in. An order carries no facts: a variable that it offers is looked up on the trail.
+/// The variables in a binary heap by their activity, a whole number that grows with each conflict whose analysis meets
+/// the variable, and once more where the learnt clause has it. An order carries no facts: a variable that it offers is
+/// looked up on the trail.
 #[derive(Drop)]
 pub struct Order {
     heap: Vec<u32>,
@@ -24,6 +25,16 @@ pub struct Order {
 }
 
 impl Order {
+    /// An order of no variables.
+    pub fn none(alloc: Global) -> Order {
+        Order {
+            heap: Vec::new(alloc),
+            places: Vec::new(alloc),
+            activities: Vec::new(alloc),
+            step: FIRST_STEP,
+        }
+    }
+
     /// Variables are numbered from 1 to below `slots`.
     pub fn new(alloc: Global, slots: u32) -> Mem<Order> {
         let mut order = Order {
@@ -38,11 +49,8 @@ impl Order {
         Ok(order)
     }
 
-    fn activity_at(&self, place: usize) -> u64 {
-        let Some(variable) = self.heap.get(place) else {
-            return 0;
-        };
-        let Some(activity) = self.activities.get(*variable as usize) else {
+    fn activity_of(&self, variable: u32) -> u64 {
+        let Some(activity) = self.activities.get(variable as usize) else {
             return 0;
         };
         *activity
@@ -61,62 +69,74 @@ impl Order {
         }
     }
 
-    fn exchange(&mut self, one: usize, other: usize) {
-        if one >= self.heap.len() || other >= self.heap.len() {
-            return;
+    fn seat(&mut self, variable: u32, place: usize) {
+        if place < self.heap.len() {
+            self.heap[place] = variable;
+            self.set_place(variable, place);
         }
-        let first = self.heap[one];
-        let second = self.heap[other];
-        self.heap[one] = second;
-        self.heap[other] = first;
-        self.set_place(second, one);
-        self.set_place(first, other);
     }
 
-    fn rise(&mut self, from: usize) {
+    /// Moves a variable up from its place: those above it that are less active come down.
+    fn rise(&mut self, variable: u32, from: usize) {
+        let activity = self.activity_of(variable);
         let mut place = from;
         for _ in 0..u64::BITS {
-            if place == 0 {
-                return;
+            if place == 0 || place >= self.heap.len() {
+                break;
             }
             let parent = (place - 1) / 2;
-            if self.activity_at(place) <= self.activity_at(parent) {
-                return;
+            let above = self.heap[parent];
+            if activity <= self.activity_of(above) {
+                break;
             }
-            self.exchange(place, parent);
+            self.seat(above, place);
             place = parent;
         }
+        self.seat(variable, place);
     }
 
-    fn greater_child(&self, place: usize) -> usize {
+    /// The more active of the two variables below a place, with its place.
+    fn greater_child(&self, place: usize) -> Option<(u32, usize)> {
         let left = place.saturating_mul(2).saturating_add(1);
         let right = left.saturating_add(1);
-        if self.activity_at(right) > self.activity_at(left) {
-            right
+        let first = *self.heap.get(left)?;
+        let Some(second) = self.heap.get(right) else {
+            return Some((first, left));
+        };
+        if self.activity_of(*second) > self.activity_of(first) {
+            Some((*second, right))
         } else {
-            left
+            Some((first, left))
         }
     }
 
-    fn sink(&mut self) {
+    /// Moves a variable down from the top: those below it that are more active come up.
+    fn sink(&mut self, variable: u32) {
+        let activity = self.activity_of(variable);
         let mut place = 0usize;
         for _ in 0..u64::BITS {
-            let child = self.greater_child(place);
-            if self.activity_at(child) <= self.activity_at(place) {
-                return;
+            let Some((below, child)) = self.greater_child(place) else {
+                break;
+            };
+            if self.activity_of(below) <= activity {
+                break;
             }
-            self.exchange(place, child);
+            self.seat(below, place);
             place = child;
         }
+        self.seat(variable, place);
     }
 
     fn pop(&mut self) -> Option<u32> {
-        let last = self.heap.len().saturating_sub(1);
-        self.exchange(0, last);
-        let variable = self.heap.pop()?;
-        self.set_place(variable, ABSENT);
-        self.sink();
-        Some(variable)
+        let last = self.heap.pop()?;
+        let Some(top) = self.heap.first() else {
+            self.set_place(last, ABSENT);
+            return Some(last);
+        };
+        let top = *top;
+        self.set_place(top, ABSENT);
+        self.sink(last);
+        Some(top)
     }
 
     /// A variable is unset again.
@@ -126,12 +146,12 @@ impl Order {
         }
         let place = self.heap.len();
         self.heap.push(variable)?;
-        self.set_place(variable, place);
-        self.rise(place);
+        self.rise(variable, place);
         Ok(())
     }
 
-    fn bump(&mut self, variable: u32) {
+    /// A variable took part in a conflict.
+    pub fn bump(&mut self, variable: u32) {
         let slot = variable as usize;
         if slot >= self.activities.len() {
             return;
@@ -143,7 +163,7 @@ impl Order {
         }
         let place = self.place_of(variable);
         if place != ABSENT {
-            self.rise(place);
+            self.rise(variable, place);
         }
     }
 
@@ -154,7 +174,7 @@ impl Order {
         self.step = (self.step >> 40).max(1);
     }
 
-    /// The variables of a learnt clause took part in a conflict.
+    /// The variables of a learnt clause count once more, and from now on later conflicts count more.
     pub fn bump_all(&mut self, literals: &[Lit]) {
         for literal in literals {
             self.bump(literal.variable());
@@ -162,9 +182,9 @@ impl Order {
         self.decay();
     }
 
-    /// Behind each conflict later ones count more.
+    /// Behind each conflict the earlier ones count 0.95 of what they did.
     fn decay(&mut self) {
-        self.step = self.step.saturating_add(self.step / 16).saturating_add(1);
+        self.step = self.step.saturating_add(self.step / 19).saturating_add(1);
         if self.step > LIMIT {
             self.rescale();
         }

@@ -8,22 +8,18 @@ ghost use Rattle.cdcl.specs.Trail.{held_by, is_set, free, reason_at, IsConflict}
 ghost use Rattle.cdcl.specs.Holding.{IsHolding};
 ghost use Rattle.cdcl.specs.Effect.{IsForced};
 ghost use Rattle.cdcl.specs.Assigned.{IsUnset, AreAllSet};
-ghost use Rattle.cdcl.specs.Logged.{IsLogged};
-ghost use Rattle.cdcl.specs.Answered.{IsAnswer};
-ghost use Rattle.cdcl.specs.Plain.{IsPlain, SetOne, SetMore, IsPlainQuiet, IsDrawn, IsPlainBack, IsPlainTurn};
+ghost use Rattle.cdcl.specs.Plain.{IsPlain, SetOne, SetMore, IsPlainQuiet, IsDrawn, IsPlainBack};
 
 use crate::analyse::{Learnt, learn_decisions, refute};
 use crate::clauses::Clauses;
 use crate::load::greatest_variable;
 use crate::scan::{Next, scan};
 use crate::search::pop_starts;
-use crate::solver::{Solved, Turn, line_of, refutation, spent_log};
 use crate::trail::{Step, Trail};
-use crate::truth::truth_values;
 use cnf_base::{Cnf, Entry, Lit};
-use lrat_log::Line;
 use rml_row::Mem;
 use std::alloc::Global;
+use std::marker::Model;
 
 /// What is held and set, and the places of the trail where the levels begin.
 #[derive(Drop)]
@@ -32,6 +28,23 @@ pub struct Plain {
     pub trail: Trail,
     pub starts: Vec<usize>,
     pub marks: Vec<bool>,
+}
+
+/// A plain search of which the invariant holds.
+#[derive(Drop)]
+pub struct PlainSolver {
+    pub search: Plain,
+}
+
+impl Model for PlainSolver {
+    ghost use Rattle.cdcl.specs.declared.plain.Plain.{Plain};
+    ghost use Rattle.cdcl.specs.Plain.{IsPlain};
+
+    ghost Value = { Plain };
+
+    ghost view = { λ a. a.search };
+
+    ghost invariant = { λ a. IsPlain a.search };
 }
 
 /// Holds entries one after another.
@@ -58,7 +71,7 @@ fn cut(trail: &mut Trail, to: usize)
 
 impl Plain {
     /// The clauses of a formula, with nothing set.
-    fn new(alloc: Global, cnf: &Cnf) -> Mem<Plain>
+    pub fn new(alloc: Global, cnf: &Cnf) -> Mem<Plain>
         requires { length cnf.now.clauses < 2147483647 }
         ensures plain { IfOk result (λ p. IsPlain p) }
         ensures clauses { IfOk result (λ p. p.clauses ≡ cnf.now.clauses) }
@@ -117,7 +130,7 @@ impl Plain {
     }
 
     /// Decides, and draws the consequences, until a clause is false, whose id is the answer, or all variables are set.
-    fn descend(&mut self) -> Mem<Option<u32>>
+    pub fn descend(&mut self) -> Mem<Option<u32>>
         requires { IsPlain self.old }
         ensures plain { OnOk result (IsPlain self.new) }
         ensures clauses { OnOk result (self.new.clauses ≡ self.old.clauses) }
@@ -172,7 +185,7 @@ impl Plain {
     }
 
     /// Learns from a conflict above level 0, and goes back to the second highest level of what is learnt.
-    fn learn(&mut self, alloc: Global, conflict: u32) -> Mem<Learnt>
+    pub fn learn(&mut self, alloc: Global, conflict: u32) -> Mem<Learnt>
         requires plain { IsPlain self.old }
         requires conflict { IsConflict (held_by self.old.clauses) self.old.trail.steps conflict }
         requires some { 0 < length self.old.starts.items }
@@ -188,7 +201,7 @@ impl Plain {
     }
 
     /// The hints of the empty clause, from a conflict at level 0.
-    fn refute(&mut self, alloc: Global, conflict: u32) -> Mem<Vec<u64>>
+    pub fn refute(&mut self, alloc: Global, conflict: u32) -> Mem<Vec<u64>>
         requires plain { IsPlain self.old }
         requires root { self.old.starts.items ≡ [] }
         requires conflict { IsConflict (held_by self.old.clauses) self.old.trail.steps conflict }
@@ -200,76 +213,4 @@ impl Plain {
         hints.as_mut_slice().reverse();
         Ok(hints)
     }
-
-    /// Goes down to a conflict, and refutes where that is at level 0.
-    fn turn(&mut self, alloc: Global) -> Mem<Turn>
-        requires { IsPlain self.old }
-        ensures clauses { OnOk result (self.new.clauses ≡ self.old.clauses) }
-        ensures turn { IfOk result (IsPlainTurn self.new) }
-    {
-        match self.descend()? {
-            None => Ok(Turn::Satisfied),
-            Some(id) => {
-                if !self.starts.is_empty() {
-                    return Ok(Turn::Conflict(id));
-                }
-                let hints = self.refute(alloc, id)?;
-                Ok(Turn::Refuted(hints))
-            }
-        }
-    }
-}
-
-/// Learns from a conflict, and logs what is learnt.
-fn learn_line(
-    alloc: Global,
-    cnf: &Cnf,
-    search: &mut Plain,
-    lines: &mut Vec<Line>,
-    conflict: u32,
-) -> Mem<()>
-    requires plain { IsPlain search.old }
-    requires some { 0 < length search.old.starts.items }
-    requires conflict { IsConflict (held_by search.old.clauses) search.old.trail.steps conflict }
-    requires logged { IsLogged cnf.now search.old.clauses lines.old.items }
-    requires few { cnf.now.variables ≤ 2147483647 }
-    requires room { length cnf.now.clauses + length lines.old.items < 2147483646 }
-    ensures plain { OnOk result (IsPlain search.new) }
-    ensures logged { OnOk result (IsLogged cnf.now search.new.clauses lines.new.items) }
-    ensures count { OnOk result (length lines.new.items ≡ length lines.old.items + 1) }
-{
-    let id = cnf.clauses().len() as u64 + lines.len() as u64 + 1;
-    let learnt = search.learn(alloc, conflict)?;
-    lines.push(line_of(id, learnt))?;
-    Ok(())
-}
-
-/// Searches as `solve` does, and promises the same, by a plain search: it reads all clauses again for each literal that
-/// it sets, and learns the clause of the negated decisions.
-pub fn solve_plain(alloc: Global, cnf: &Cnf, budget: u64) -> Mem<Solved>
-    requires few { cnf.now.variables ≤ 2147483647 }
-    requires room { length cnf.now.clauses + budget ≤ 2147483646 }
-    ensures { IfOk result (IsAnswer cnf.now budget) }
-{
-    let mut search = Plain::new(alloc, cnf)?;
-    let mut lines = Vec::new(alloc);
-    for spent in 0..budget + 1 {
-        match search.turn(alloc)? {
-            Turn::Satisfied => {
-                let values = truth_values(alloc, &search.trail, cnf.variables())?;
-                return Ok(Solved::Sat(values));
-            }
-            Turn::Refuted(hints) => {
-                let log = refutation(alloc, cnf, lines, hints)?;
-                return Ok(Solved::Unsat(log));
-            }
-            Turn::Conflict(id) => {
-                if spent == budget {
-                    return Ok(Solved::Spent(spent_log(cnf, lines)));
-                }
-                learn_line(alloc, cnf, &mut search, &mut lines, id)?;
-            }
-        }
-    }
-    unreachable!()
 }

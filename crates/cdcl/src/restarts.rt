@@ -1,7 +1,7 @@
 // When a search begins again at level 0, with what it has learnt (Luby, Sinclair and Zuckerman, "Optimal Speedup of Las
 // Vegas Algorithms", 1993).
 
-const UNIT: u64 = 100;
+const UNIT: u64 = 256;
 
 /// Counts the conflicts up to the next restart.
 #[derive(Clone, Copy)]

@@ -19,6 +19,7 @@ use crate::state::State;
 use cnf_base::Lit;
 use rml_row::Mem;
 use std::alloc::Global;
+use std::marker::Model;
 
 /// A search: its state, the places of the trail where its levels begin, how far propagation is, and what guides it.
 #[derive(Drop)]
@@ -30,6 +31,23 @@ pub struct Search {
     pub order: Order,
     pub phases: Phases,
     pub restarts: Restarts,
+}
+
+/// A search of which the invariant holds. The main loop moves it from call to call, so it sees none in mid-work.
+#[derive(Drop)]
+pub struct Solver {
+    pub search: Search,
+}
+
+impl Model for Solver {
+    ghost use Rattle.cdcl.specs.declared.search.Search.{Search};
+    ghost use Rattle.cdcl.specs.Solver.{IsSolver};
+
+    ghost Value = { Search };
+
+    ghost view = { λ a. a.search };
+
+    ghost invariant = { λ a. IsSolver a.search };
 }
 
 /// Takes off the starts that are not before a place, at least one; the answer is the lowest of them.
@@ -172,6 +190,7 @@ impl Search {
             &self.state.clauses,
             &self.state.trail,
             self.marks.as_mut_slice(),
+            &mut self.order,
             levels,
             conflict,
         )?;

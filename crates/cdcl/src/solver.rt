@@ -9,13 +9,12 @@ ghost use Rattle.lrat_log.specs.declared.line.Line.TheVariants.{Add};
 ghost use Rattle.cdcl.specs.Trail.{held_by, is_set, IsConflict};
 ghost use Rattle.cdcl.specs.State.{held_in};
 ghost use Rattle.cdcl.specs.Assigned.{AreAllSet};
-ghost use Rattle.cdcl.specs.Solver.{IsSolver};
 ghost use Rattle.cdcl.specs.Logged.{IsLogged};
 ghost use Rattle.cdcl.specs.Answered.{IsAnswer, IsTurn};
 
 use crate::analyse::Learnt;
 use crate::load::{Loaded, load};
-use crate::search::Search;
+use crate::search::Solver;
 use crate::truth::truth_values;
 use cnf_base::{Cnf, Values};
 use lrat_log::{Line, Log, growth_laws, learnt_laws};
@@ -31,31 +30,43 @@ pub enum Solved {
     Spent(Log),
 }
 
-/// How a search stands where it cannot go down further.
+/// How a search stands where it cannot go down further: all variables are set, the formula is refuted, or a clause is
+/// false above level 0.
 #[derive(Drop)]
 pub enum Turn {
-    Satisfied,
+    Satisfied(Solver),
     Refuted(Vec<u64>),
-    Conflict(u32),
+    Conflict(Solver, u32),
 }
 
-impl Search {
+impl Solver {
     /// Goes down to a conflict, and refutes where that is at level 0.
-    fn turn(&mut self, alloc: Global) -> Mem<Turn>
-        requires { IsSolver self.old }
-        ensures clauses { OnOk result (self.new.state.clauses ≡ self.old.state.clauses) }
-        ensures turn { IfOk result (IsTurn self.new) }
+    fn turn(self, alloc: Global) -> Mem<Turn>
+        ensures { IfOk result (IsTurn self) }
     {
-        match self.descend(alloc)? {
-            None => Ok(Turn::Satisfied),
+        let Solver { mut search } = self;
+        match search.descend(alloc)? {
+            None => Ok(Turn::Satisfied(Solver { search })),
             Some(id) => {
-                if !self.starts.is_empty() {
-                    return Ok(Turn::Conflict(id));
+                if !search.starts.is_empty() {
+                    return Ok(Turn::Conflict(Solver { search }, id));
                 }
-                let hints = self.refute(alloc, id)?;
+                let hints = search.refute(alloc, id)?;
                 Ok(Turn::Refuted(hints))
             }
         }
+    }
+
+    /// The truth values of a search in which all variables are set.
+    fn values(&self, alloc: Global, cnf: &Cnf, lines: &[Line]) -> Mem<Values>
+        requires drawn { self.now.head ≡ length self.now.state.trail.steps }
+        requires set { AreAllSet self.now.state.trail }
+        requires logged { IsLogged cnf.now self.now.state.clauses lines.now }
+        requires few { cnf.now.variables ≤ 2147483647 }
+        ensures { IfOk result (IsModel cnf.now) }
+    {
+        let values = truth_values(alloc, &self.search.state.trail, cnf.variables())?;
+        Ok(values)
     }
 }
 
@@ -90,25 +101,24 @@ pub fn spent_log(cnf: &Cnf, lines: Vec<Line>) -> Log
 fn learn_line(
     alloc: Global,
     cnf: &Cnf,
-    search: &mut Search,
+    solver: Solver,
     lines: &mut Vec<Line>,
     conflict: u32,
-) -> Mem<()>
-    requires solver { IsSolver search.old }
-    requires some { 0 < length search.old.starts.items }
-    requires conflict { IsConflict (held_in search.old.state) search.old.state.trail.steps conflict }
-    requires logged { IsLogged cnf.now search.old.state.clauses lines.old.items }
+) -> Mem<Solver>
+    requires some { 0 < length solver.starts.items }
+    requires conflict { IsConflict (held_in solver.state) solver.state.trail.steps conflict }
+    requires logged { IsLogged cnf.now solver.state.clauses lines.old.items }
     requires few { cnf.now.variables ≤ 2147483647 }
     requires room { length cnf.now.clauses + length lines.old.items < 2147483646 }
-    ensures solver { OnOk result (IsSolver search.new) }
-    ensures logged { OnOk result (IsLogged cnf.now search.new.state.clauses lines.new.items) }
+    ensures logged { IfOk result (λ s. IsLogged cnf.now s.state.clauses lines.new.items) }
     ensures count { OnOk result (length lines.new.items ≡ length lines.old.items + 1) }
 {
     let id = cnf.clauses().len() as u64 + lines.len() as u64 + 1;
+    let Solver { mut search } = solver;
     let learnt = search.learn(alloc, conflict)?;
     lines.push(line_of(id, learnt))?;
     search.restart()?;
-    Ok(())
+    Ok(Solver { search })
 }
 
 /// A log that ends with the empty clause.
@@ -137,8 +147,8 @@ pub fn solve(alloc: Global, cnf: &Cnf, budget: u64) -> Mem<Solved>
     requires room { length cnf.now.clauses + budget ≤ 2147483646 }
     ensures { IfOk result (IsAnswer cnf.now budget) }
 {
-    let mut search = match load(alloc, cnf)? {
-        Loaded::Ready(search) => search,
+    let mut solver = match load(alloc, cnf)? {
+        Loaded::Ready(solver) => solver,
         Loaded::Refuted(hints) => {
             let log = refutation(alloc, cnf, Vec::new(alloc), hints)?;
             return Ok(Solved::Unsat(log));
@@ -146,20 +156,20 @@ pub fn solve(alloc: Global, cnf: &Cnf, budget: u64) -> Mem<Solved>
     };
     let mut lines = Vec::new(alloc);
     for spent in 0..budget + 1 {
-        match search.turn(alloc)? {
-            Turn::Satisfied => {
-                let values = truth_values(alloc, &search.state.trail, cnf.variables())?;
+        match solver.turn(alloc)? {
+            Turn::Satisfied(full) => {
+                let values = full.values(alloc, cnf, lines.as_slice())?;
                 return Ok(Solved::Sat(values));
             }
             Turn::Refuted(hints) => {
                 let log = refutation(alloc, cnf, lines, hints)?;
                 return Ok(Solved::Unsat(log));
             }
-            Turn::Conflict(id) => {
+            Turn::Conflict(stopped, id) => {
                 if spent == budget {
                     return Ok(Solved::Spent(spent_log(cnf, lines)));
                 }
-                learn_line(alloc, cnf, &mut search, &mut lines, id)?;
+                solver = learn_line(alloc, cnf, stopped, &mut lines, id)?;
             }
         }
     }

@@ -4,6 +4,7 @@ ghost use Rattle.cdcl.specs.Watch.{no_watch, no_pair};
 
 use cnf_base::Lit;
 use rml_row::Mem;
+use smallvec::SmallVec;
 use std::alloc::Global;
 use std::marker::Model;
 use std::mem;
@@ -16,16 +17,16 @@ pub struct Pair {
 }
 
 /// The place of a clause that watches a literal, and a literal of it that may be true already.
-#[derive(Clone, Copy)]
+#[derive(Clone, Copy, Default)]
 pub struct Watch {
     pub place: u32,
     pub blocker: Lit,
 }
 
-/// The clauses that watch a literal.
+/// The clauses that watch a literal. Up to two of them take no memory of their own.
 #[derive(Drop)]
 pub struct WatchList {
-    watches: Vec<Watch>,
+    watches: SmallVec<Watch, 2>,
 }
 
 impl Model for WatchList {
@@ -42,7 +43,7 @@ impl WatchList {
         ensures { result ≡ [] }
     {
         WatchList {
-            watches: Vec::new(alloc),
+            watches: SmallVec::new(alloc),
         }
     }
 
@@ -56,14 +57,14 @@ impl WatchList {
         requires { i < length self.now }
         ensures { result ≡ get_or self.now i no_watch }
     {
-        self.watches[i]
+        self.watches.as_slice()[i]
     }
 
     pub fn set(&mut self, i: usize, watch: Watch)
         requires { i < length self.old }
         ensures { self.new ≡ set self.old i watch }
     {
-        self.watches[i] = watch;
+        self.watches.as_mut_slice()[i] = watch;
     }
 
     pub fn push(&mut self, watch: Watch) -> Mem<()>

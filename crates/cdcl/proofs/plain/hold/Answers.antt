@@ -1,4 +1,4 @@
-use Rattle.std.proofs.Common.{◌≡◌, ◌<◌, List, [], ◌∷◌, ◌++◌, length, arith, ap, ◌∙◌}
+use Rattle.std.proofs.Common.{◌<◌, List, [], ◌∷◌, ◌++◌, length, arith, ap, ◌∙◌}
 use Rattle.cnf_base.specs.declared.cnf.Entry.{Entry}
 use Rattle.cdcl.proofs.Begins.{taken_more}
 use Rattle.cdcl.proofs.plain.hold.Goals as goal

@@ -1,4 +1,4 @@
-use Rattle.std.proofs.Common.{◌≡◌, ◌+◌, ◌*◌, ℕ, [], ◌∷◌, ◌++◌, length, inr, refl, ap, ◌∙◌}
+use Rattle.std.proofs.Common.{◌≡◌, ℕ, [], ◌∷◌, ◌++◌, length, inr, refl, ap, ◌∙◌}
 use Rattle.cdcl.specs.declared.plain.Plain.{Plain}
 use Rattle.cdcl.proofs.Searching.{unset_literal}
 use Rattle.cdcl.proofs.Stepping.{plain_decided, set_one}

@@ -1,4 +1,4 @@
-use Rattle.std.proofs.Common.{◌≡◌, ◌≤◌, ℕ, length, get_or, take, arith, ap, refl, ◌∙◌}
+use Rattle.std.proofs.Common.{◌≡◌, ℕ, length, get_or, take, ap, refl, ◌∙◌}
 use Rattle.cdcl.specs.declared.plain.Plain.{Plain}
 use Rattle.cdcl.proofs.Stepping.{plain_cut}
 use Rattle.cdcl.proofs.plain.Plain.go_back.Goals as goal

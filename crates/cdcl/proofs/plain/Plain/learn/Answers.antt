@@ -1,4 +1,4 @@
-use Rattle.std.proofs.Common.{◌≡◌, ℕ, List, [], ◌∷◌, ◌++◌, length, ap, refl, reverse, ◌∙◌}
+use Rattle.std.proofs.Common.{◌≡◌, ℕ, List, [], ◌∷◌, ◌++◌, ap, refl, reverse, ◌∙◌}
 use Rattle.cnf_base.specs.declared.cnf.Entry.TheVariants.{Clause}
 use Rattle.cdcl.specs.declared.plain.Plain.{Plain}
 use Rattle.cdcl.proofs.Stepping.{plain_held, drawn_small, learnt_passes_back}

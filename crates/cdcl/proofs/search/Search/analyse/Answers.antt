@@ -1,7 +1,8 @@
-use Rattle.std.proofs.Common.{◌≡◌, ◌-◌, ℕ, length, arith, sym, ◌∙◌, subst}
+use Rattle.std.proofs.Common.{◌≡◌, ◌-◌, ◌++◌, ℕ, Bool, List, length, take, drop, arith, ap, sym, ◌∙◌, subst}
+use Rattle.std.proofs.Math.Seq.{take-append_seam}
 use Rattle.lrat_log.specs.Learnt.{IsQuiet}
 use Rattle.cdcl.specs.Trail.{was_set}
-use Rattle.cdcl.specs.Learning.{HasTops, AreBeforeSecond}
+use Rattle.cdcl.specs.Learning.{is_marked, HasTops, AreBeforeSecond}
 use Rattle.cdcl.specs.State.{held_in}
 use Rattle.cdcl.specs.Found.{top_of}
 use Rattle.cdcl.proofs.Searching.{level_quiet, state_holds}
@@ -30,3 +31,18 @@ returns-clause-found c =
 
 pub learn-requires-clause-tables : goal.learn-requires-clause-tables
 learn-requires-clause-tables c = state_holds c.args.self.now.state c.requires.solver.search.state
+
+-- the marks that the analysis left, in the list that was lent
+marks_back : (old new : List Bool) (n : ℕ) → n ≡ length old → length new ≡ length old → take n (new ++ drop (length new) old) ≡ new
+marks_back old new n a b = rw (a ∙ sym b) (take-append_seam new (drop (length new) old))
+
+pub returns-clause-solver : goal.returns-clause-solver
+returns-clause-solver c =
+    let marks = c.args.self.now.marks in
+    let same : length c.learn.new.marks ≡ length marks.items = c.learn.auto.marks ∙ ap length c.as_mut_slice.ensures.value in
+    let back = marks_back marks.items c.learn.new.marks marks.len marks.ok.0 same in
+    record {
+      search = c.requires.solver.search;
+      marked = ap length back ∙ same ∙ c.requires.solver.marked;
+      clear = λ l. ap (λ (m : List Bool). is_marked m l) back ∙ c.in_ok-learnt.ensures.clear l;
+    }
