@@ -2,7 +2,7 @@
 ghost use Rattle.std.specs.Prelude.{◌≡◌, true, false, map, string_bytes, IfOk, IfSome, IfNone, option_map, codes};
 ghost use Rattle.std.specs.Str.{bytes_eq};
 ghost use Rattle.clap.specs.Words.{app_of, rule_of, first_of, is_simple_and_free};
-ghost use Rattle.command_line.specs.Lines.{required_rule, check_app, matched, check_by, line_of, request_line};
+ghost use Rattle.command_line.specs.Lines.{required_rule, check_app, lrat_app, matched, check_by, lrat_by, line_of, request_line};
 ghost use Rattle.command_line.specs.Rows.{rows_in};
 
 use clap::error::ErrorKind;
@@ -15,6 +15,8 @@ use std::alloc::{AllocError, Global};
 pub enum Request<'a> {
     /// `check FILE`: the file of a model.
     Check(&'a str),
+    /// `lrat CNF LOG`: the files of a formula and of a log.
+    Lrat(&'a str, &'a str),
 }
 
 /// What the words behind the program's name ask for, or nothing where they are no command line. A call
@@ -27,6 +29,8 @@ pub fn read_words<'a>(alloc: Global, words: &'a [String]) -> Mem<Option<Request<
     };
     if is_word(command.as_bytes(), "check") {
         check(alloc, words)
+    } else if is_word(command.as_bytes(), "lrat") {
+        lrat(alloc, words)
     } else {
         Ok(None)
     }
@@ -50,6 +54,14 @@ fn check_command<'a>(alloc: Global) -> Mem<Command<'a>>
     ensures { IfOk result (λ command. app_of command ≡ check_app) }
 {
     let command = Command::new(alloc, "check").arg(required(alloc, "FILE"))?;
+    Ok(command)
+}
+
+fn lrat_command<'a>(alloc: Global) -> Mem<Command<'a>>
+    ensures { IfOk result (λ command. app_of command ≡ lrat_app) }
+{
+    let formula = Command::new(alloc, "lrat").arg(required(alloc, "CNF"))?;
+    let command = formula.arg(required(alloc, "LOG"))?;
     Ok(command)
 }
 
@@ -91,4 +103,25 @@ fn check<'a>(alloc: Global, words: &'a [String]) -> Mem<Option<Request<'a>>>
     let command = check_command(alloc)?;
     let matches = matches(command, words)?;
     Ok(check_of(&matches))
+}
+
+fn lrat_of<'a>(matches: &Option<ArgMatches<'a>>) -> Option<Request<'a>>
+    ensures { option_map request_line result ≡ lrat_by (option_map rows_in matches.now) }
+{
+    match matches {
+        None => None,
+        Some(matches) => {
+            let formula = value(matches, "CNF")?;
+            let log = value(matches, "LOG")?;
+            Some(Request::Lrat(formula, log))
+        }
+    }
+}
+
+fn lrat<'a>(alloc: Global, words: &'a [String]) -> Mem<Option<Request<'a>>>
+    ensures { IfOk result (λ r. option_map request_line r ≡ lrat_by (matched lrat_app (map (λ w. string_bytes w) words.entry.now))) }
+{
+    let command = lrat_command(alloc)?;
+    let matches = matches(command, words)?;
+    Ok(lrat_of(&matches))
 }
