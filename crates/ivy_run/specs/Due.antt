@@ -5,7 +5,8 @@ use Rattle.rml_bytes.specs.Outside.{Rose}
 use Rattle.rml_report.specs.ReportText.{report_text}
 use Rattle.rml_report.specs.declared.report.Verdict.{Verdict}
 use Rattle.rml_report.specs.declared.report.Verdict.TheVariants as verdict
-use Rattle.ivy_run.specs.Faults.{fault_line}
+use Rattle.ivy_run.specs.Faults.{fault_line, refusal_line}
+use Rattle.ivy_run.specs.declared.fault_text.FaultKind.TheVariants.{Model, Formula, Log}
 use Rattle.ivy_run.specs.declared.ended.Outcome.{Outcome}
 use Rattle.ivy_run.specs.declared.ended.Outcome.TheVariants as outcome
 use Rattle.ivy_run.specs.declared.ended.Written.{Written}
@@ -25,14 +26,19 @@ verdict_status verdict.Undecided = 3
 abbrev pub usage_text : List ℕ
 usage_text = codes "usage: ivycheck check FILE, emit FILE GOAL cnf|lrat, lrat CNF LOG, or sample N\n"
 
--- a report goes to the one sink, and what is said in place of one to the other
-abbrev pub due_of : List ℕ → Outcome → Due
-due_of text (outcome.Checked model report) = record { out = report_text model report; err = []; status = verdict_status report.verdict }
-due_of text (outcome.Fault fault) = record { out = []; err = fault_line text fault; status = 4 }
-due_of text outcome.Usage = record { out = []; err = usage_text; status = 2 }
-due_of text outcome.TooLong = record { out = []; err = codes "the file is too long\n"; status = 4 }
-due_of text outcome.ReadFault = record { out = []; err = codes "cannot read the file\n"; status = 5 }
-due_of text outcome.NoMemory = record { out = []; err = codes "no memory\n"; status = 7 }
+-- a verdict goes to the one sink, and what is said in place of one to the other
+abbrev pub due_of : List ℕ → List ℕ → Outcome → Due
+due_of first second (outcome.Checked model report) = record { out = report_text model report; err = []; status = verdict_status report.verdict }
+due_of first second outcome.Refuted = record { out = codes "verdict: refuted\n"; err = []; status = 0 }
+due_of first second outcome.NotRefuted = record { out = codes "verdict: not refuted\n"; err = []; status = 1 }
+due_of first second (outcome.CnfFault fault) = record { out = []; err = fault_line Formula first fault.code fault.at; status = 4 }
+due_of first second (outcome.LogFault fault) = record { out = []; err = fault_line Log second fault.code fault.at; status = 4 }
+due_of first second (outcome.Refused refusal) = record { out = []; err = refusal_line refusal.code refusal.id; status = 4 }
+due_of first second (outcome.Fault fault) = record { out = []; err = fault_line Model first fault.code fault.at; status = 4 }
+due_of first second outcome.Usage = record { out = []; err = usage_text; status = 2 }
+due_of first second outcome.TooLong = record { out = []; err = codes "the file is too long\n"; status = 4 }
+due_of first second outcome.ReadFault = record { out = []; err = codes "cannot read the file\n"; status = 5 }
+due_of first second outcome.NoMemory = record { out = []; err = codes "no memory\n"; status = 7 }
 
 -- a front of the text was taken
 abbrev pub TakesFront : Option (List ℕ) → Option (List ℕ) → List ℕ → Type 0

@@ -1,12 +1,25 @@
-// The line of a fault.
+// The lines of faults and refusals.
 ghost use Rattle.std.specs.Prelude.{◌≡◌, ◌++◌, ◌≤◌, length, map, OnOk, IfOk, decimal};
-ghost use Rattle.ivy_run.specs.Faults.{text_in, fault_text, fault_line};
+ghost use Rattle.ivy_run.specs.Faults.{letter_of, text_in, fault_text, fault_line, refusal_line};
 
-use rml_lex::{Fault, place};
+use rml_lex::place;
 use rml_row::Mem;
 use std::alloc::Global;
 
-const TEXTS: [(u8, &str); 20] = [
+/// What a fault is one of: each kind has a letter and numbers of its own.
+#[derive(Clone, Copy)]
+pub enum FaultKind {
+    /// A fault of a model's text.
+    Model,
+    /// A fault of a formula's text.
+    Formula,
+    /// A fault of a log's text.
+    Log,
+    /// A line of a log that is not accepted.
+    Refusal,
+}
+
+const MODEL_FAULTS: [(u8, &str); 20] = [
     (1, "bad byte"),
     (2, "name too long"),
     (3, "bad number"),
@@ -29,6 +42,28 @@ const TEXTS: [(u8, &str); 20] = [
     (20, "too many paths"),
 ];
 
+const FORMULA_FAULTS: [(u8, &str); 5] = [
+    (1, "bad header"),
+    (2, "bad number"),
+    (3, "variable out of range"),
+    (4, "wrong number of clauses"),
+    (5, "unended"),
+];
+
+const LOG_FAULTS: [(u8, &str); 5] = [
+    (1, "bad number"),
+    (2, "RAT hint"),
+    (3, "unended"),
+    (4, "id not above the last"),
+    (5, "variable out of range"),
+];
+
+const REFUSALS: [(u8, &str); 3] = [
+    (1, "unknown id"),
+    (2, "hint is neither unit nor false"),
+    (3, "no conflict"),
+];
+
 // The text of the first row of this code; nothing where there is none.
 fn text_in(rows: &[(u8, &'static str)], code: u8) -> &'static str
     ensures { result.now ≡ text_in (map (λ row. (row.0, row.1.now)) rows.now) code }
@@ -44,10 +79,26 @@ fn text_in(rows: &[(u8, &'static str)], code: u8) -> &'static str
 }
 
 #[tactic(auto, unfolding(crate::specs::Faults::fault_text))]
-fn fault_text(code: u8) -> &'static str
-    ensures { result.now ≡ fault_text code }
+fn fault_text(kind: FaultKind, code: u8) -> &'static str
+    ensures { result.now ≡ fault_text kind code }
 {
-    text_in(&TEXTS, code)
+    match kind {
+        FaultKind::Model => text_in(&MODEL_FAULTS, code),
+        FaultKind::Formula => text_in(&FORMULA_FAULTS, code),
+        FaultKind::Log => text_in(&LOG_FAULTS, code),
+        FaultKind::Refusal => text_in(&REFUSALS, code),
+    }
+}
+
+fn letter(kind: FaultKind) -> &'static str
+    ensures { result.now ≡ letter_of kind }
+{
+    match kind {
+        FaultKind::Model => "F",
+        FaultKind::Formula => "N",
+        FaultKind::Log => "L",
+        FaultKind::Refusal => "C",
+    }
 }
 
 fn push_text(out: &mut Vec<u8>, text: &str) -> Mem<()>
@@ -63,22 +114,38 @@ fn push_number(alloc: Global, out: &mut Vec<u8>, n: u64) -> Mem<()>
     out.extend_from_slice(text.as_bytes())
 }
 
-/// The line of a fault: its code, where it stands, and what it is.
+/// The line of a fault: its letter and number, where it stands, and what it is.
 #[tactic(auto, using(std::proofs::Common::append_assoc), unfolding(crate::specs::Faults::fault_line))]
-pub fn fault_line(alloc: Global, text: &[u8], fault: Fault) -> Mem<Vec<u8>>
-    requires { fault.at ≤ length text.now }
-    ensures { IfOk result (λ line. line.items ≡ fault_line text.now fault) }
+pub fn fault_line(alloc: Global, kind: FaultKind, text: &[u8], code: u8, at: u64) -> Mem<Vec<u8>>
+    requires { at ≤ length text.now }
+    ensures { IfOk result (λ line. line.items ≡ fault_line kind text.now code at) }
 {
     let mut out = Vec::new(alloc);
-    let (line, column) = place(text, fault.at);
-    push_text(&mut out, "F")?;
-    push_number(alloc, &mut out, fault.code as u64)?;
+    let (line, column) = place(text, at);
+    push_text(&mut out, letter(kind))?;
+    push_number(alloc, &mut out, code as u64)?;
     push_text(&mut out, " at ")?;
     push_number(alloc, &mut out, line)?;
     push_text(&mut out, ":")?;
     push_number(alloc, &mut out, column)?;
     push_text(&mut out, ": ")?;
-    push_text(&mut out, fault_text(fault.code))?;
+    push_text(&mut out, fault_text(kind, code))?;
+    push_text(&mut out, "\n")?;
+    Ok(out)
+}
+
+/// The line of a refusal: its number, the id of the line that is not accepted, and why.
+#[tactic(auto, using(std::proofs::Common::append_assoc), unfolding(crate::specs::Faults::refusal_line))]
+pub fn refusal_line(alloc: Global, code: u8, id: u64) -> Mem<Vec<u8>>
+    ensures { IfOk result (λ line. line.items ≡ refusal_line code id) }
+{
+    let mut out = Vec::new(alloc);
+    push_text(&mut out, letter(FaultKind::Refusal))?;
+    push_number(alloc, &mut out, code as u64)?;
+    push_text(&mut out, " at id ")?;
+    push_number(alloc, &mut out, id)?;
+    push_text(&mut out, ": ")?;
+    push_text(&mut out, fault_text(FaultKind::Refusal, code))?;
     push_text(&mut out, "\n")?;
     Ok(out)
 }

@@ -4,6 +4,7 @@
 mod due;
 mod ended;
 mod fault_text;
+mod judge;
 mod top;
 mod work;
 

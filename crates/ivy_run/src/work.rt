@@ -1,61 +1,69 @@
 // From the words to the answer.
-ghost use Rattle.std.specs.Prelude.{◌≡◌, ◌≤◌, [], map, string_bytes};
+ghost use Rattle.std.specs.Prelude.{◌≡◌, ◌≤◌, ℕ, List, [], map, string_bytes};
 ghost use Rattle.command_line.specs.Lines.{line_of};
-ghost use Rattle.ivy_run.specs.Ends.{IsReportOn, IsReportNow, IsFaultIn, EndsCheck, IsLoaded};
-ghost use Rattle.ivy_run.specs.Steps.{Judges, AnswersLoad, CanSay};
+ghost use Rattle.ivy_run.specs.Ends.{EndsCheck, EndsLrat, IsLoaded};
+ghost use Rattle.ivy_run.specs.Steps.{LoadsFile, Says};
 
 use crate::ended::Outcome;
+use crate::judge::{judge_model, judge_refutation};
 use command_line::{Request, read_words};
 use rml_bytes::{Files, LoadError};
-use rml_front::read_model;
-use rml_row::Refused;
 use std::alloc::Global;
-use truth_tables::report;
 
 const LIMIT: u64 = 1048576;
 
-// The answer to a text.
-fn judge(alloc: Global, text: &[u8]) -> Outcome
-    ensures is { Judges text.now result }
-    ensures can { CanSay text.now result }
-{
-    truth_tables::report_law();
-    rml_report::rendering_law();
-    let model = match read_model(alloc, text) {
-        Ok(model) => model,
-        Err(Refused::For(fault)) => return Outcome::Fault(fault),
-        Err(Refused::NoMemory) => return Outcome::NoMemory,
-    };
-    let Ok(report) = report(alloc, &model) else {
-        return Outcome::NoMemory;
-    };
-    Outcome::Checked { model, report }
-}
+const CLAUSE_LIMIT: u64 = 268435456;
 
-// The answer to what a load left in first.
-fn answer(alloc: Global, load: Result<(), LoadError>, first: &[u8]) -> Outcome
-    ensures is { AnswersLoad first.now load result }
-    ensures can { CanSay first.now result }
+// Loads a file whole, or answers why not.
+fn load_file<F: Files>(files: &mut F, name: &str, most: u64, into: &mut Vec<u8>) -> Option<Outcome>
+    requires { into.old.items ≡ [] }
+    ensures same { (n : List ℕ) → F.told files.new n ≡ F.told files.old n }
+    ensures later { F.faults files.old ≤ F.faults files.new }
+    ensures loads { LoadsFile (F.told files.old name.now) most (F.faults files.old) (F.faults files.new) into.new.items result }
 {
-    match load {
-        Ok(()) => judge(alloc, first),
-        Err(LoadError::Failed) => Outcome::ReadFault,
-        Err(LoadError::TooLong) => Outcome::TooLong,
-        Err(LoadError::NoMemory) => Outcome::NoMemory,
+    match files.load(name, most, into) {
+        Ok(()) => None,
+        Err(LoadError::Failed) => Some(Outcome::ReadFault),
+        Err(LoadError::TooLong) => Some(Outcome::TooLong),
+        Err(LoadError::NoMemory) => Some(Outcome::NoMemory),
     }
 }
 
 fn check_file<F: Files>(alloc: Global, name: &str, files: &mut F, first: &mut Vec<u8>) -> Outcome
     requires { first.old.items ≡ [] }
     ensures later { F.faults files.old ≤ F.faults files.new }
-    ensures ends { EndsCheck (F.told files.old name.now) (F.faults files.old) (F.faults files.new) result first.new.items }
-    ensures report { IsReportOn first.new.items result }
-    ensures now { IsReportNow result }
-    ensures fault { IsFaultIn first.new.items result }
-    ensures can { CanSay first.new.items result }
+    ensures ends { EndsCheck (F.told files.old name.now) (F.faults files.old) (F.faults files.new) first.new.items [] result }
+    ensures says { Says first.new.items [] result }
 {
-    let load = files.load(name, LIMIT, first);
-    answer(alloc, load, first)
+    match load_file(files, name, LIMIT, first) {
+        Some(end) => end,
+        None => judge_model(alloc, first),
+    }
+}
+
+fn check_refutation<F: Files>(
+    alloc: Global,
+    formula: &str,
+    log: &str,
+    files: &mut F,
+    first: &mut Vec<u8>,
+    second: &mut Vec<u8>,
+) -> Outcome
+    requires first { first.old.items ≡ [] }
+    requires second { second.old.items ≡ [] }
+    ensures later { F.faults files.old ≤ F.faults files.new }
+    ensures ends { EndsLrat (F.told files.old formula.now) (F.told files.old log.now) (F.faults files.old) (F.faults files.new)
+        first.new.items second.new.items result }
+    ensures says { Says first.new.items second.new.items result }
+{
+    match load_file(files, formula, CLAUSE_LIMIT, first) {
+        Some(end) => return end,
+        None => {}
+    }
+    match load_file(files, log, CLAUSE_LIMIT, second) {
+        Some(end) => end,
+        None => judge_refutation(alloc, first, second),
+    }
 }
 
 /// Reads the words, and does what they ask for.
@@ -64,18 +72,20 @@ pub fn work<F: Files>(
     words: &[String],
     files: &mut F,
     first: &mut Vec<u8>,
+    second: &mut Vec<u8>,
 ) -> Outcome
-    requires { first.old.items ≡ [] }
+    requires first { first.old.items ≡ [] }
+    requires second { second.old.items ≡ [] }
     ensures loaded { IsLoaded (F.told files.old) (F.faults files.old) (F.faults files.new)
-        (line_of (map (λ w. string_bytes w) words.now)) result first.new.items [] }
-    ensures report { IsReportOn first.new.items result }
-    ensures now { IsReportNow result }
-    ensures fault { IsFaultIn first.new.items result }
-    ensures can { CanSay first.new.items result }
+        (line_of (map (λ w. string_bytes w) words.now)) result first.new.items second.new.items }
+    ensures says { Says first.new.items second.new.items result }
 {
     match read_words(alloc, words) {
         Err(_) => Outcome::NoMemory,
         Ok(None) => Outcome::Usage,
         Ok(Some(Request::Check(name))) => check_file(alloc, name, files, first),
+        Ok(Some(Request::Lrat(formula, log))) => {
+            check_refutation(alloc, formula, log, files, first, second)
+        }
     }
 }
