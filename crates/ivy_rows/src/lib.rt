@@ -10,6 +10,8 @@ mod phases;
 #[cfg(test)]
 mod prefixes;
 #[cfg(test)]
+mod refutations;
+#[cfg(test)]
 mod reports;
 #[cfg(test)]
 mod running;

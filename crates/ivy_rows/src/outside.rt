@@ -65,6 +65,7 @@ fn words_that_are_no_command_line(rt: HostRuntime) -> Result<(), Fail> {
     is_usage(&rt, alloc, &["sample", "41"])?;
     is_usage(&rt, alloc, &["check", "--help"])?;
     is_usage(&rt, alloc, &["help"])?;
+    is_usage(&rt, alloc, &["lrat", "model"])?;
     Ok(())
 }
 

@@ -5,13 +5,14 @@ use std::alloc::Global;
 use std::process::Abort;
 use std::test::Fail;
 
-/// What a run leaves: its status and outcome, how many bytes it loaded, and what the sinks took.
+/// What a run leaves: its status and outcome, how many bytes it loaded of each file, and what the sinks took.
 #[derive(Drop)]
 pub struct Left {
     pub status: u8,
     pub outcome: &'static str,
     pub written: Written,
     pub loaded: usize,
+    pub second: usize,
     pub out: MemSink,
     pub err: MemSink,
 }
@@ -40,6 +41,11 @@ pub fn sink(alloc: Global) -> Result<MemSink, Fail> {
 fn name_of(outcome: &Outcome) -> &'static str {
     match outcome {
         Outcome::Checked { .. } => "checked",
+        Outcome::Refuted => "refuted",
+        Outcome::NotRefuted => "not refuted",
+        Outcome::CnfFault(_) => "formula fault",
+        Outcome::LogFault(_) => "log fault",
+        Outcome::Refused(_) => "refused",
         Outcome::Fault(_) => "fault",
         Outcome::Usage => "usage",
         Outcome::TooLong => "too long",
@@ -63,6 +69,7 @@ pub fn run_over(
         outcome: name_of(&ended.outcome),
         written: ended.written,
         loaded: ended.loaded.first.len(),
+        second: ended.loaded.second.len(),
         out,
         err,
     })
