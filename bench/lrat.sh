@@ -13,7 +13,7 @@ trap 'rm -r "$work"' EXIT
 build_library_program() {
     mkdir "$work/copy"
     cp -a .. "$work/copy"
-    echo "lrat_time: lrat_check lrat_log cnf_base rml_row" >>"$work/copy/crates.txt"
+    echo "lrat_time: lrat_check lrat_log cnf_base base" >>"$work/copy/crates.txt"
     mkdir -p "$work/copy/crates/lrat_time/src"
     cat >"$work/copy/crates/lrat_time/src/main.rt" <<'END'
 //! Times the library.

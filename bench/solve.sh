@@ -10,16 +10,16 @@ work=${WORK:-$(mktemp -d)}
 repeat=${REPEAT:-9}
 
 mkdir -p "$work/crates/solve_file/src"
-for crate in rml_row cnf_base lrat_log cdcl; do
+for crate in base cnf_base lrat_log cdcl; do
     rm -rf "$work/crates/$crate"
     cp -a "$here/../crates/$crate" "$work/crates/"
 done
 cat >"$work/crates.txt" <<'END'
-rml_row:
-cnf_base: rml_row smallvec indexmap itoa
-lrat_log: cnf_base rml_row
-cdcl: lrat_log cnf_base rml_row smallvec
-solve_file: cdcl lrat_log cnf_base rml_row
+base:
+cnf_base: base smallvec indexmap itoa
+lrat_log: cnf_base base
+cdcl: lrat_log cnf_base base smallvec
+solve_file: cdcl lrat_log cnf_base base
 END
 cat >"$work/crates/solve_file/src/main.rt" <<'END'
 //! Reads a formula from the file that the first argument names, or from standard input, and says what `solve` answers

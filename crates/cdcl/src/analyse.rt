@@ -10,8 +10,8 @@ ghost use Rattle.cdcl.specs.Holding.{IsHolding};
 use crate::clauses::Clauses;
 use crate::order::Order;
 use crate::trail::{Step, Trail};
+use base::Mem;
 use cnf_base::Lit;
-use rml_row::Mem;
 use std::alloc::Global;
 
 /// What a conflict gives: the learnt literals, from the newest on, and the hints, from the last on.

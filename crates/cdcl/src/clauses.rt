@@ -4,8 +4,8 @@ ghost use Rattle.cnf_base.specs.declared.cnf.Entry.TheVariants.{Clause, True};
 ghost use Rattle.std.specs.Bool.{OnTrue, OnFalse};
 ghost use Rattle.cdcl.specs.Trail.{held_by};
 
+use base::Mem;
 use cnf_base::{Entry, Lit};
-use rml_row::Mem;
 use std::alloc::Global;
 use std::marker::Model;
 

@@ -18,8 +18,8 @@ use crate::search::{Search, Solver};
 use crate::state::State;
 use crate::trail::Trail;
 use crate::watches::{Pair, WatchList, Watches};
+use base::Mem;
 use cnf_base::{Cnf, Entry, Lit};
-use rml_row::Mem;
 use std::alloc::Global;
 
 /// A search that may begin, or the hints of the empty clause.

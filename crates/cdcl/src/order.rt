@@ -3,8 +3,8 @@ ghost use Rattle.std.specs.Prelude.{MatchOption};
 ghost use Rattle.cdcl.specs.Assigned.{IsUnset, AreAllSet};
 
 use crate::trail::Trail;
+use base::Mem;
 use cnf_base::Lit;
-use rml_row::Mem;
 use std::alloc::Global;
 
 const ABSENT: usize = usize::MAX;

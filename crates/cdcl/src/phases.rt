@@ -1,8 +1,8 @@
 // The truth value that a variable had last.
 ghost use Rattle.std.specs.Prelude.{◌≡◌, ◌⊎◌, ◌+◌, ◌*◌, ◌^◌, ◌<◌};
 
+use base::Mem;
 use cnf_base::Lit;
-use rml_row::Mem;
 use std::alloc::Global;
 
 /// For each variable, whether it was true when it was set last. A decision sets it so again.

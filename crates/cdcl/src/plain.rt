@@ -16,8 +16,8 @@ use crate::load::greatest_variable;
 use crate::scan::{Next, scan};
 use crate::search::pop_starts;
 use crate::trail::{Step, Trail};
+use base::Mem;
 use cnf_base::{Cnf, Entry, Lit};
-use rml_row::Mem;
 use std::alloc::Global;
 use std::marker::Model;
 

@@ -12,9 +12,9 @@ ghost use Rattle.cdcl.specs.PlainTurns.{IsPlainTurn};
 use crate::plain::{Plain, PlainSolver};
 use crate::solver::{Solved, line_of, refutation, spent_log};
 use crate::truth::truth_values;
+use base::Mem;
 use cnf_base::{Cnf, Values};
 use lrat_log::Line;
-use rml_row::Mem;
 use std::alloc::Global;
 
 /// How a plain search stands where it cannot go down further: all variables are set, the formula is refuted, or a

@@ -9,8 +9,8 @@ ghost use Rattle.cdcl.specs.State.{held_in, IsState, Grows, IsVisiting, IsWatchi
 use crate::state::State;
 use crate::trail::Trail;
 use crate::watches::{Pair, Watch, WatchList};
+use base::Mem;
 use cnf_base::Lit;
-use rml_row::Mem;
 use std::alloc::Global;
 
 /// A literal of a clause that is not false and neither of two.

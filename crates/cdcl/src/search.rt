@@ -16,8 +16,8 @@ use crate::order::Order;
 use crate::phases::Phases;
 use crate::restarts::Restarts;
 use crate::state::State;
+use base::Mem;
 use cnf_base::Lit;
-use rml_row::Mem;
 use std::alloc::Global;
 use std::marker::Model;
 

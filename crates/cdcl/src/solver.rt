@@ -16,9 +16,9 @@ use crate::analyse::Learnt;
 use crate::load::{Loaded, load};
 use crate::search::Solver;
 use crate::truth::truth_values;
+use base::{Mem, Row};
 use cnf_base::{Cnf, Values};
 use lrat_log::{Line, Log, growth_laws, learnt_laws};
-use rml_row::{Mem, Row};
 use std::alloc::Global;
 
 /// What a search under a budget of learnt clauses ends with: truth values that satisfy the formula, a refutation, or

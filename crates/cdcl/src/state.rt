@@ -6,8 +6,8 @@ ghost use Rattle.cnf_base.specs.Literals.{opposite};
 use crate::clauses::Clauses;
 use crate::trail::Trail;
 use crate::watches::{Pair, Watches};
+use base::Mem;
 use cnf_base::Lit;
-use rml_row::Mem;
 
 /// The clauses, what is set, and which literals watch.
 #[derive(Drop)]

@@ -1,7 +1,7 @@
 // Formulas that are satisfied, refuted or spend a budget, from their texts, by both solvers.
 use super::{Solved, solve, solve_plain};
+use base::Refused;
 use cnf_base::read_cnf;
-use rml_row::Refused;
 use std::alloc::Global;
 
 /// Four pigeons and three holes: pigeon p sits in hole h where variable 3 p + h is true.

@@ -5,8 +5,8 @@ ghost use Rattle.cdcl.specs.Trail.{no_step, is_set};
 ghost use Rattle.std.specs.Bool.{OnTrue, OnFalse};
 ghost use Rattle.cdcl.specs.Assigned.{IsUnset, HasValue, AreAllSet};
 
+use base::Mem;
 use cnf_base::Lit;
-use rml_row::Mem;
 use std::alloc::Global;
 use std::marker::Model;
 

@@ -4,8 +4,8 @@ ghost use Rattle.cnf_base.specs.Formulas.{value_of};
 ghost use Rattle.cdcl.specs.Trail.{is_set};
 
 use crate::trail::Trail;
+use base::Mem;
 use cnf_base::Values;
-use rml_row::Mem;
 use std::alloc::Global;
 
 /// The truth value of each variable from 1 on; one that has no place is false.

@@ -2,8 +2,8 @@
 ghost use Rattle.std.specs.Prelude.{List, ◌≡◌, ℕ, ◌+◌, ◌-◌, ◌*◌, ◌^◌, ◌<◌, ◌≤◌, [], ◌∷◌, ◌++◌, length, IfOk, OnOk, OnErr, get_or, set, take};
 ghost use Rattle.cdcl.specs.Watch.{no_watch, no_pair};
 
+use base::Mem;
 use cnf_base::Lit;
-use rml_row::Mem;
 use smallvec::SmallVec;
 use std::alloc::Global;
 use std::marker::Model;

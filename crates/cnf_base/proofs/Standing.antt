@@ -4,9 +4,9 @@ use Rattle.std.specs.Prelude.{◌==◌, nat_lt, codes}
 use Rattle.std.specs.Str.{bytes_eq}
 use Rattle.std.specs.Result.{IfErr}
 use Rattle.std.proofs.lemmas.Grind.{common_steps}
-use Rattle.rml_row.specs.declared.refused.Refused.{Refused}
-use Rattle.rml_row.specs.declared.refused.Refused.TheVariants.{For, NoMemory}
-use Rattle.rml_row.specs.Because.{Because}
+use Rattle.base.specs.declared.refused.Refused.{Refused}
+use Rattle.base.specs.declared.refused.Refused.TheVariants.{For, NoMemory}
+use Rattle.base.specs.Because.{Because}
 use Rattle.cnf_base.specs.declared.text.Mode.{Mode}
 use Rattle.cnf_base.specs.declared.text.Mode.TheVariants.{LineStart}
 use Rattle.cnf_base.specs.declared.text.Stage.{Stage}

@@ -1,7 +1,7 @@
 -- What a reader answers, by what the text says.
 use Rattle.std.specs.Prelude.{◌≡◌, Result, Ok, Err}
-use Rattle.rml_row.specs.declared.refused.Refused.{Refused}
-use Rattle.rml_row.specs.declared.refused.Refused.TheVariants.{For, NoMemory}
+use Rattle.base.specs.declared.refused.Refused.{Refused}
+use Rattle.base.specs.declared.refused.Refused.TheVariants.{For, NoMemory}
 
 -- the fault, or want of memory
 abbrev pub Fails : {A F : Type 0} → Result A F → Refused F → Type 0

@@ -1,6 +1,6 @@
 -- How far a reader is.
 use Rattle.std.specs.Prelude.{ℕ, ◌≡◌, ◌==◌, ◌&&◌, not, nat_lt, nat_le, Bool, List, length, Result, Ok, Err}
-use Rattle.rml_row.specs.declared.refused.Refused.{Refused}
+use Rattle.base.specs.declared.refused.Refused.{Refused}
 use Rattle.cnf_base.specs.declared.text.CnfFault.{CnfFault}
 use Rattle.cnf_base.specs.declared.reader.Reading.{Reading}
 use Rattle.cnf_base.specs.declared.text.Numeral.{Numeral}

@@ -5,8 +5,8 @@ ghost use Rattle.cnf_base.specs.Clauses.{IsClause, with_literal, entry_of};
 ghost use Rattle.cnf_base.specs.declared.cnf.Entry.TheVariants.{True};
 
 use crate::{Entry, Lit};
+use base::Mem;
 use indexmap::IndexSet;
-use rml_row::Mem;
 use smallvec::SmallVec;
 use std::alloc::Global;
 use std::marker::Model;

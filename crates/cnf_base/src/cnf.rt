@@ -2,7 +2,7 @@
 ghost use Rattle.std.specs.Prelude.{◌≡◌, IfOk};
 
 use crate::Clause;
-use rml_row::{Mem, Row};
+use base::{Mem, Row};
 use std::alloc::Global;
 use std::marker::Model;
 

@@ -6,15 +6,15 @@ ghost use Rattle.cnf_base.specs.Reading.{at_start, body_number, take_word, ended
 ghost use Rattle.cnf_base.specs.Answers.{Answers};
 ghost use Rattle.cnf_base.specs.Places.{StandsBy};
 ghost use Rattle.cnf_base.specs.ReaderState.{state_of, is_literal, Takes, Goes};
-ghost use Rattle.rml_row.specs.Because.{Because};
-ghost use Rattle.rml_row.specs.declared.refused.Refused.{Refused};
-ghost use Rattle.rml_row.specs.declared.refused.Refused.TheVariants.{For};
+ghost use Rattle.base.specs.Because.{Because};
+ghost use Rattle.base.specs.declared.refused.Refused.{Refused};
+ghost use Rattle.base.specs.declared.refused.Refused.TheVariants.{For};
 
 use crate::number::{literal_of, number_of};
 use crate::text::{CnfFault, Numeral, Stage};
 use crate::words::Words;
 use crate::{Cnf, Entry, Lit, entry};
-use rml_row::{Mem, Refused, Row};
+use base::{Mem, Refused, Row};
 use std::alloc::Global;
 
 // What was read so far.

@@ -1,6 +1,6 @@
 // Texts that are read and written.
 use super::*;
-use rml_row::Refused;
+use base::Refused;
 use std::alloc::Global;
 use std::test::Fail;
 

@@ -3,8 +3,8 @@ ghost use Rattle.std.specs.Prelude.{◌≡◌, ◌++◌, ◌∷◌, OnOk, IfOk, 
 ghost use Rattle.cnf_base.specs.Writing.{literal_text, literals_text, entry_text, entries_text, text_of};
 
 use crate::{Cnf, Entry, Lit};
+use base::Mem;
 use itoa::Buffer;
-use rml_row::Mem;
 use std::alloc::Global;
 
 /// The number in decimal digits, behind what is there.

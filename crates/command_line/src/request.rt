@@ -5,9 +5,9 @@ ghost use Rattle.clap.specs.Words.{app_of, rule_of, first_of, is_simple_and_free
 ghost use Rattle.command_line.specs.Lines.{required_rule, check_app, lrat_app, matched, check_by, lrat_by, line_of, request_line};
 ghost use Rattle.command_line.specs.Rows.{rows_in};
 
+use base::Mem;
 use clap::error::ErrorKind;
 use clap::{Arg, ArgAction, ArgMatches, Command};
-use rml_row::Mem;
 use std::alloc::{AllocError, Global};
 
 /// A command line of the program.

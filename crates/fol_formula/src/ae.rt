@@ -4,7 +4,7 @@ ghost use Rattle.fol_formula.specs.Fragments.{IsAe};
 ghost use Rattle.fol_formula.specs.Counts.{form_nodes, form_depth, saturated};
 
 use crate::Sentence;
-use rml_row::Mem;
+use base::Mem;
 use std::alloc::Global;
 use std::marker::Model;
 

@@ -3,7 +3,7 @@ ghost use Rattle.std.specs.Prelude.{◌≡◌, IfOk};
 ghost use Rattle.fol_formula.specs.View.{form, term, forms, terms as terms_view};
 
 use crate::{Formula, Term};
-use rml_row::Mem;
+use base::Mem;
 use std::alloc::Global;
 
 impl Term {

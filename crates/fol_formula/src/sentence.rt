@@ -5,7 +5,7 @@ ghost use Rattle.fol_formula.specs.Fits.{BoundForm};
 ghost use Rattle.fol_formula.specs.Counts.{form_nodes, form_depth, saturated};
 
 use crate::Formula;
-use rml_row::Mem;
+use base::Mem;
 use std::alloc::Global;
 use std::marker::Model;
 

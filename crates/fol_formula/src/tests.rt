@@ -4,7 +4,7 @@ ghost use Rattle.fol_formula.specs.View.{form};
 ghost use Rattle.fol_formula.specs.Syntax.{rel, bound, for_all, for_some, term_then, no_terms};
 
 use super::*;
-use rml_row::Mem;
+use base::Mem;
 use std::alloc::Global;
 use std::test::Fail;
 

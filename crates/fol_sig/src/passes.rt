@@ -1,6 +1,6 @@
 // The order of the sorts in which the functions go upward.
 ghost use Rattle.std.specs.Prelude.{◌≡◌, ◌<◌, ◌≤◌, ◌^◌, ℕ, length, All, IfOk, IfErr, OnOk};
-ghost use Rattle.rml_row.specs.Because.{Because};
+ghost use Rattle.base.specs.Because.{Because};
 ghost use Rattle.fol_sig.specs.Tables.{numbers};
 ghost use Rattle.fol_sig.specs.Symbols.{Symbols, symbols};
 ghost use Rattle.fol_sig.specs.Strata.{IsStrata, IsFirstCycle, IsOnCycle, with_functions};
@@ -8,7 +8,7 @@ ghost use Rattle.fol_sig.specs.Passes.{ArePlaced, AreWaiting, IsSoFar, Advances,
 
 use crate::order::{Cycle, Strata};
 use crate::{FunId, Signature, Sort};
-use rml_row::{Mem, Refused};
+use base::{Mem, Refused};
 use std::alloc::Global;
 
 /// The order of the sorts in which the functions go upward.

@@ -4,7 +4,7 @@ ghost use Rattle.fol_sig.specs.Tables.{IsSignature, AreSorts, numbers};
 ghost use Rattle.fol_sig.specs.Symbols.{symbols, AreSorted};
 
 use crate::{FunId, RelId, Sort, Sorts};
-use rml_row::Mem;
+use base::Mem;
 use std::alloc::Global;
 use std::marker::Model;
 

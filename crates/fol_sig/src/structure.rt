@@ -1,12 +1,13 @@
 // Finite structures.
-ghost use Rattle.std.specs.Prelude.{◌≡◌, ◌<◌, length, All, IfOk, map};
+ghost use Rattle.std.specs.Prelude.{◌≡◌, ◌<◌, [], ◌∷◌, ◌++◌, length, All, IfOk, OnOk, OnErr, map};
 ghost use Rattle.fol_sig.specs.Tables.{numbers, AreSorts, InRange, tuple_count, size_at, rel_at, fun_at, relation_at, function_at, blank_relation, blank_function, blank};
 ghost use Rattle.fol_sig.specs.Symbols.{Symbols, FitsStructure, symbols};
+ghost use Rattle.fol_sig.specs.Constants.{constant_table, keep_functions};
 ghost use Rattle.fol_sig.specs.Updates.{SetsRelation, SetsFunction, with_relation_cells, with_function_cells};
 
 use crate::table::Table;
 use crate::{FunId, RelId, Signature, Sort, Sorts};
-use rml_row::Mem;
+use base::Mem;
 use std::alloc::Global;
 use std::marker::Model;
 
@@ -165,6 +166,26 @@ impl Structure {
         ensures fits { (sig : Symbols) → FitsStructure sig self.old → FitsStructure sig self.new }
     {
         self.functions[fun.0 as usize].table.set_cells(cells);
+    }
+
+    /// Adds a function without arguments behind the others. The structure is as before where the memory
+    /// is wanting.
+    pub fn add_constant(&mut self, alloc: Global, sort: Sort, value: u32) -> Mem<()>
+        requires known { sort.0 < length self.old.sizes }
+        requires within { value < size_at self.old sort.0 }
+        ensures added { OnOk result (self.new ≡ record self.old { functions = self.old.functions ++ constant_table sort.0 value ∷ [] }) }
+        ensures kept { OnErr result (self.new ≡ self.old) }
+    {
+        let table = Table::filled(alloc, &self.sizes, &Sorts::new(alloc), value)?;
+        self.functions.push(Function { table, into: sort })?;
+        Ok(())
+    }
+
+    /// Drops the functions behind the first ones.
+    pub fn keep_functions(&mut self, count: u32)
+        ensures { self.new ≡ keep_functions count self.old }
+    {
+        self.functions.truncate(count as usize);
     }
 }
 

@@ -4,7 +4,7 @@ ghost use Rattle.fol_sig.specs.Tables.{InRange, tuple_count, place_of, filled, c
 ghost use Rattle.fol_sig.specs.Tables.{numbers};
 
 use crate::{Sort, Sorts};
-use rml_row::Mem;
+use base::Mem;
 use std::alloc::{AllocError, Global};
 use std::marker::Model;
 

@@ -1,7 +1,7 @@
 ghost use Rattle.std.specs.Prelude.{◌≡◌, [], ◌∷◌, IfOk};
 
 use super::*;
-use rml_row::Refused;
+use base::Refused;
 use std::alloc::Global;
 use std::test::Fail;
 

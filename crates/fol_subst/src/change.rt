@@ -11,9 +11,9 @@ ghost use Rattle.fol_subst.specs.Kept.{kept, kept_one};
 use crate::measure::Measure;
 use crate::put::{put_formula, put_term};
 use crate::replacement::Replacement;
+use base::Mem;
 use fol_formula::{Formula, Term};
 use fol_sig::{FunId, RelId};
-use rml_row::Mem;
 use std::alloc::Global;
 
 #[cycle(change)]

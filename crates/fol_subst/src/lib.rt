@@ -12,7 +12,7 @@ mod raise;
 mod replacement;
 
 ghost use Rattle.std.specs.Prelude.{◌≡◌, IfOk, IfErr, IsTrue, false};
-ghost use Rattle.rml_row.specs.Because.{Because};
+ghost use Rattle.base.specs.Because.{Because};
 ghost use Rattle.fol_formula.specs.View.{form, term as term_view};
 ghost use Rattle.fol_subst.specs.Replace.{change_rel, change_fun, change_const, changed_form};
 ghost use Rattle.fol_subst.specs.Shift.{shift_form};
@@ -20,6 +20,7 @@ ghost use Rattle.fol_subst.specs.Limits.{is_too_large, IndicesFit};
 ghost use Rattle.fol_subst.specs.Outcome.{CanReplace, IsReplacement, IsShifted};
 ghost use Rattle.fol_subst.specs.Changes.{change_of};
 
+use base::Refused;
 use change::change_formula;
 use extent::Extent;
 use fol_formula::{Formula, Term};
@@ -28,7 +29,6 @@ pub use laws::{conditions, exactness};
 use measure::Measure;
 use raise::shift_formula;
 use replacement::Replacement;
-use rml_row::Refused;
 use std::alloc::Global;
 
 /// The result would have over 1,000,000 nodes, or be over 1,000 deep.

@@ -6,8 +6,8 @@ ghost use Rattle.fol_subst.specs.Replace.{picked, put_form, put_forms, put_term,
 ghost use Rattle.fol_subst.specs.Room.{RoomForm, RoomForms, RoomTerm, RoomTerms};
 
 use crate::raise::shift_term;
+use base::Mem;
 use fol_formula::{Formula, Term};
-use rml_row::Mem;
 use std::alloc::Global;
 
 // The arguments stand in the place of the indices that are bound outside, the nearest first.

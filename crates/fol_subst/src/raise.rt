@@ -4,8 +4,8 @@ ghost use Rattle.fol_formula.specs.View.{form, forms, term as term_view, terms a
 ghost use Rattle.fol_subst.specs.Shift.{raised, shift_form, shift_forms, shift_term, shift_terms};
 ghost use Rattle.fol_subst.specs.Room.{RoomForm, RoomForms, RoomTerm, RoomTerms};
 
+use base::Mem;
 use fol_formula::{Formula, Term};
-use rml_row::Mem;
 use std::alloc::Global;
 
 #[cycle(shift)]

@@ -5,8 +5,8 @@ ghost use Rattle.fol_formula.specs.View.{form, term as term_view};
 ghost use Rattle.fol_formula.specs.Syntax.{rel as rel_tree, equal, conjunction, disjunction, for_all, for_some, form_then, no_forms, bound, app, term_then, no_terms};
 
 use super::*;
+use base::Mem;
 use fol_sig::Sort;
-use rml_row::Mem;
 use std::test::Fail;
 
 const SORT: Sort = Sort(0);

@@ -5,9 +5,9 @@ ghost use Rattle.ivy_run.specs.Steps.{CanSay, IsMade, IsFixed, Stays, is_verdict
 
 use crate::ended::{Outcome, Written};
 use crate::fault_text::{FaultKind, fault_line, refusal_line};
+use base::Mem;
 use rml_bytes::Sink;
 use rml_report::{Verdict, render};
-use rml_row::Mem;
 use std::alloc::Global;
 
 /// The texts that take no memory.

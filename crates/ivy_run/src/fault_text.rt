@@ -2,8 +2,8 @@
 ghost use Rattle.std.specs.Prelude.{◌≡◌, ◌++◌, ◌≤◌, length, map, OnOk, IfOk, decimal};
 ghost use Rattle.ivy_run.specs.Faults.{letter_of, text_in, fault_text, fault_line, refusal_line};
 
+use base::Mem;
 use rml_lex::place;
-use rml_row::Mem;
 use std::alloc::Global;
 
 /// What a fault is one of: each kind has a letter and numbers of its own.

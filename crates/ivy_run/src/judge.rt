@@ -10,11 +10,11 @@ ghost use Rattle.ivy_run.specs.Refutations.{answer_to_lines, answer_to_log, refu
 ghost use Rattle.ivy_run.specs.Steps.{CanSay, Says};
 
 use crate::ended::Outcome;
+use base::Refused;
 use cnf_base::{Cnf, read_cnf};
 use lrat_check::check_owned;
 use lrat_log::{Log, read_log};
 use rml_front::read_model;
-use rml_row::Refused;
 use std::alloc::Global;
 use truth_tables::report;
 

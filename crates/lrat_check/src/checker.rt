@@ -1,8 +1,8 @@
 // A checker of logs.
 use crate::table::Table;
+use base::{Mem, Refused, Row};
 use cnf_base::{Cnf, Entry, Lit};
 use lrat_log::{Line, Outcome, soundness};
-use rml_row::{Mem, Refused, Row};
 use std::alloc::Global;
 use std::marker::Model;
 
@@ -36,7 +36,7 @@ impl Model for Checker {
 }
 
 ghost use Rattle.std.specs.Prelude.{◌≡◌, ℕ, ◌+◌, ◌<◌, ◌≤◌, List, [], ◌∷◌, ◌++◌, length, All, IfOk, OnOk, OnErr, IfErr, IsTrue};
-ghost use Rattle.rml_row.specs.Because.{Because};
+ghost use Rattle.base.specs.Because.{Because};
 ghost use Rattle.cnf_base.specs.Formulas.{IsUnsatisfiable};
 ghost use Rattle.lrat_log.specs.declared.line.Line.TheVariants.{Add, Delete};
 ghost use Rattle.lrat_log.specs.declared.outcome.Outcome.TheVariants.{Accepted};

@@ -4,8 +4,8 @@ ghost use Rattle.std.specs.Prelude.{◌≡◌, ℕ, ◌<◌, ◌≤◌, false, L
 ghost use Rattle.cnf_base.specs.Literals.{variable_of, opposite};
 ghost use Rattle.lrat_check.specs.Spans.{marked, HaveStamps, AreUpTo};
 
+use base::Mem;
 use cnf_base::Lit;
-use rml_row::Mem;
 
 fn clear(stamps: &mut [u32])
     ensures { (k : ℕ) → get_or stamps.new k 0 ≡ 0 }

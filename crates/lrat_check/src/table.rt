@@ -2,9 +2,9 @@
 use crate::hints::{mark_false, run_hints};
 use crate::spans::{Span, find};
 use crate::stamps::{make_room, next_epoch};
+use base::Mem;
 use cnf_base::Lit;
 use lrat_log::Outcome;
-use rml_row::Mem;
 use std::alloc::Global;
 use std::marker::Model;
 

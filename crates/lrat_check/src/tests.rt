@@ -1,8 +1,8 @@
 // Logs that are checked, from their texts.
 use super::*;
+use base::Refused;
 use cnf_base::read_cnf;
 use lrat_log::read_log;
-use rml_row::Refused;
 use std::alloc::Global;
 use std::test::Fail;
 

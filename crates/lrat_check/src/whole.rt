@@ -1,15 +1,15 @@
 // A whole log.
 ghost use Rattle.std.specs.Prelude.{◌≡◌, length, Some, None, IfOk, IfErr, OnOk};
-ghost use Rattle.rml_row.specs.Because.{Because};
+ghost use Rattle.base.specs.Because.{Because};
 ghost use Rattle.lrat_log.specs.Held.{held_of};
 ghost use Rattle.lrat_log.specs.Accepted.{IsAccepted};
 ghost use Rattle.lrat_log.specs.Logs.{IsLogOver};
 ghost use Rattle.lrat_check.specs.Whole.{first_refusal};
 
 use crate::checker::{Checker, Refusal};
+use base::Refused;
 use cnf_base::Cnf;
 use lrat_log::Log;
-use rml_row::Refused;
 use std::alloc::Global;
 
 /// A checker that has accepted every line of a log, or the refusal of the first line that is not

@@ -3,8 +3,8 @@ use Rattle.std.proofs.Common.{◌≡◌, ℕ, ◌<◌, ◌≤◌, Bool, true, fa
 use Rattle.std.specs.Prelude.{◌==◌, not, nat_lt, nat_le, codes}
 use Rattle.std.specs.Str.{bytes_eq}
 use Rattle.std.specs.Result.{IfOk}
-use Rattle.rml_row.specs.declared.refused.Refused.{Refused}
-use Rattle.rml_row.specs.declared.refused.Refused.TheVariants.{For, NoMemory}
+use Rattle.base.specs.declared.refused.Refused.{Refused}
+use Rattle.base.specs.declared.refused.Refused.TheVariants.{For, NoMemory}
 use Rattle.cnf_base.specs.Answers.{Fails, Answers}
 use Rattle.std.proofs.lemmas.Bool.{ltb-false, leb-false, eqb-false}
 use Rattle.cnf_base.specs.declared.text.Numeral.{Numeral}

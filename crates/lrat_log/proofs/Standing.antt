@@ -3,9 +3,9 @@ use Rattle.std.proofs.Common.{ℕ, ◌≤◌, Bool, true, false, List, [], ◌�
 use Rattle.std.specs.Prelude.{◌==◌, nat_lt, nat_le, codes}
 use Rattle.std.specs.Str.{bytes_eq}
 use Rattle.std.specs.Result.{IfErr}
-use Rattle.rml_row.specs.declared.refused.Refused.{Refused}
-use Rattle.rml_row.specs.declared.refused.Refused.TheVariants.{For, NoMemory}
-use Rattle.rml_row.specs.Because.{Because}
+use Rattle.base.specs.declared.refused.Refused.{Refused}
+use Rattle.base.specs.declared.refused.Refused.TheVariants.{For, NoMemory}
+use Rattle.base.specs.Because.{Because}
 use Rattle.cnf_base.specs.declared.text.Numeral.{Numeral}
 use Rattle.cnf_base.specs.Answers.{Answers}
 use Rattle.cnf_base.specs.Words.{Word, words_of}

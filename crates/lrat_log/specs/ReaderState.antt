@@ -1,6 +1,6 @@
 -- How far a reader is.
 use Rattle.std.specs.Prelude.{ℕ, ◌≡◌, Bool, true, false, List, Result, Ok, Err}
-use Rattle.rml_row.specs.declared.refused.Refused.{Refused}
+use Rattle.base.specs.declared.refused.Refused.{Refused}
 use Rattle.cnf_base.specs.Answers.{Fails}
 use Rattle.cnf_base.specs.Words.{Word}
 use Rattle.lrat_log.specs.declared.text.LogFault.{LogFault}

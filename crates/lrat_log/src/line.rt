@@ -1,8 +1,8 @@
 // Logs of additions and deletions.
 ghost use Rattle.std.specs.Prelude.{◌≡◌, IfOk};
 
+use base::{Mem, Row};
 use cnf_base::Lit;
-use rml_row::{Mem, Row};
 use std::alloc::Global;
 use std::marker::Model;
 

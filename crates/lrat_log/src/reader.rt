@@ -7,14 +7,14 @@ ghost use Rattle.lrat_log.specs.Logs.{IsLog, IsLogOver};
 ghost use Rattle.lrat_log.specs.Places.{StandsBy};
 ghost use Rattle.lrat_log.specs.Reading.{at_start, take_id, take_literal, take_second, take_hint, take_deleted, take_word, with_addition, with_deletion, ended, read_words, read_of};
 ghost use Rattle.lrat_log.specs.ReaderState.{state_of, is_for_ids, Takes, Goes};
-ghost use Rattle.rml_row.specs.Because.{Because};
-ghost use Rattle.rml_row.specs.declared.refused.Refused.{Refused};
-ghost use Rattle.rml_row.specs.declared.refused.Refused.TheVariants.{For};
+ghost use Rattle.base.specs.Because.{Because};
+ghost use Rattle.base.specs.declared.refused.Refused.{Refused};
+ghost use Rattle.base.specs.declared.refused.Refused.TheVariants.{For};
 
 use crate::line::{Line, Log};
 use crate::text::{LogFault, Stage};
+use base::{Mem, Refused, Row};
 use cnf_base::{Lit, Numeral, Words, literal_of, number_of, word_laws};
-use rml_row::{Mem, Refused, Row};
 use std::alloc::{AllocError, Global};
 
 // What was read so far.

@@ -3,8 +3,8 @@ ghost use Rattle.std.specs.Prelude.{◌≡◌, ◌++◌, ◌∷◌, OnOk, IfOk};
 ghost use Rattle.lrat_log.specs.Writing.{ids_text, line_text, text_of};
 
 use crate::{Line, Log};
+use base::Mem;
 use cnf_base::{push_decimal, push_literals};
-use rml_row::Mem;
 use std::alloc::Global;
 
 #[tactic(auto, using(std::proofs::Common::append_assoc))]

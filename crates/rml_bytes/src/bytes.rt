@@ -1,7 +1,7 @@
 // Lists of bytes as small types of their own, so that a clause can compare them.
 ghost use Rattle.std.specs.Prelude.{◌≡◌, ◌↔◌, ℕ, [], List, length, IfOk, IsTrue};
 
-use rml_row::Mem;
+use base::Mem;
 use std::alloc::Global;
 use std::marker::Model;
 

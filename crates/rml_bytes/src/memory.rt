@@ -4,7 +4,7 @@ ghost use Rattle.rml_bytes.specs.Memory.{NamesDiffer, IncreaseAbove, new_shelf, 
 ghost use Rattle.rml_bytes.specs.Outside.{Told, Loads, Takes, HasCause, absent, whole};
 
 use crate::{Bytes, Failed, Files, LoadError, Name, Sink};
-use rml_row::Mem;
+use base::Mem;
 use std::alloc::Global;
 use std::marker::Model;
 

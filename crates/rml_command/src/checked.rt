@@ -11,7 +11,7 @@ use crate::goal::{Goal, Stage};
 use crate::laws::goal_law;
 use crate::model::Model;
 use crate::path::Path;
-use rml_row::Row;
+use base::Row;
 
 /// A model in the fragment, with the paths of its blocks.
 #[derive(Drop)]

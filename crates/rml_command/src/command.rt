@@ -3,9 +3,9 @@ ghost use Rattle.std.specs.Prelude.{◌≡◌, IfOk};
 ghost use Rattle.rml_command.specs.View.{primitive};
 ghost use Rattle.rml_command.specs.Paths.{is_abort};
 
+use base::Mem;
 use fol_formula::{Formula, Sentence, Term};
 use fol_sig::{FunId, RelId};
-use rml_row::Mem;
 use std::alloc::Global;
 
 /// One step of a block. The right side of an update has the symbol's parameters as its free indices,

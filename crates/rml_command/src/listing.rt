@@ -1,14 +1,14 @@
 // The paths of a block, counted before they are listed.
 ghost use Rattle.std.specs.Prelude.{◌≡◌, ◌+◌, ◌*◌, ◌<◌, ◌≤◌, ◌++◌, ◌∷◌, [], length, IfOk, IfErr, OnOk, IsTrue, ◌↔◌};
 ghost use Rattle.std.specs.List.{flat_map};
-ghost use Rattle.rml_row.specs.Because.{Because};
+ghost use Rattle.base.specs.Because.{Because};
 ghost use Rattle.rml_command.specs.View.{primitive as primitive_view, command as command_view, commands};
 ghost use Rattle.rml_command.specs.Paths.{continued, paths_of, paths_in_turn, paths_of_each};
 ghost use Rattle.rml_command.specs.Counts.{open_count, stopped_count, capped, one_longer};
 
 use crate::command::{Command, Primitive};
 use crate::path::Path;
-use rml_row::{Mem, Refused};
+use base::{Mem, Refused};
 use std::alloc::Global;
 
 /// How many paths a block may have.

@@ -7,9 +7,9 @@ ghost use Rattle.rml_command.specs.Parts.{model_of};
 use crate::command::Command;
 use crate::names::Names;
 use crate::places::Places;
+use base::Row;
 use fol_formula::Sentence;
 use fol_sig::Signature;
-use rml_row::Row;
 
 /// What a model is made of. A missing block is `skip`.
 #[derive(Drop)]

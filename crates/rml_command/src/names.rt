@@ -1,5 +1,5 @@
 // The names that a model's text gives.
-use rml_row::Row;
+use base::Row;
 
 /// The bytes of a name.
 pub type Name = Row<u8>;

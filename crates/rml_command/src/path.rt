@@ -4,7 +4,7 @@ ghost use Rattle.rml_command.specs.View.{primitive as primitive_view};
 ghost use Rattle.rml_command.specs.Paths.{has_abort};
 
 use crate::command::Primitive;
-use rml_row::Mem;
+use base::Mem;
 use std::alloc::Global;
 use std::marker::Model;
 

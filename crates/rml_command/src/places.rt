@@ -1,6 +1,6 @@
 // Where a model's text may break the fragment.
+use base::Row;
 use fol_formula::Sentence;
-use rml_row::Row;
 
 /// The word before a condition.
 #[derive(Clone, Copy, Debug)]

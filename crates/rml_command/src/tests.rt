@@ -1,6 +1,6 @@
 use super::*;
+use base::{Mem, Refused};
 use fol_sig::FunId;
-use rml_row::{Mem, Refused};
 use std::alloc::Global;
 use std::test::Fail;
 

@@ -10,11 +10,11 @@ ghost use Rattle.rml_exec.specs.Steps.{elements_after, CanStep, CanJudge, StepsT
 
 use crate::tables::{set_function, set_relation, set_variable};
 use crate::trace::{Followed, Trace};
+use base::Mem;
 use fol_eval::{Env, holds};
 use fol_formula::Sentence;
 use fol_sig::{FunId, Structure};
 use rml_command::{Checked, Path, Primitive};
-use rml_row::Mem;
 use std::alloc::Global;
 
 /// Follows a path from a structure. It is blocked exactly where an assumption is false, an element for a

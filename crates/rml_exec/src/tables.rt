@@ -11,10 +11,10 @@ ghost use Rattle.rml_command.specs.Trees.{set_rel, set_fun, havoc};
 ghost use Rattle.rml_command.specs.Outcomes.{set_relation as relation_set, set_function as function_set, set_variable as variable_set, range_of};
 ghost use Rattle.rml_exec.specs.Steps.{CanUpdate, AtEachTuple};
 
+use base::Mem;
 use fol_eval::{Env, holds, value};
 use fol_formula::{Formula, Term};
 use fol_sig::{FunId, RelId, Sort, Structure};
-use rml_row::Mem;
 use std::alloc::Global;
 
 /// The formula is evaluated in the structure as it was.

@@ -14,11 +14,11 @@ ghost use Rattle.rml_exec.specs.Sample.{sample, known, IsSample};
 mod rows;
 
 use super::*;
+use base::{Mem, Row};
 use fol_eval::{Env, holds};
 use fol_formula::{Formula, Sentence, Term};
 use fol_sig::{FunId, RelId, Signature, Sort, Sorts, Structure, strata};
 use rml_command::{Checked, Command, Model, Name, Names, Parts, Path, Places, Primitive};
-use rml_row::{Mem, Row};
 use std::alloc::Global;
 use std::test::Fail;
 

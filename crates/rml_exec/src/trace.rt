@@ -1,7 +1,7 @@
 // What is followed, and how it ends.
+use base::Row;
 use fol_sig::Structure;
 use rml_command::Goal;
-use rml_row::Row;
 
 /// A path, by its number in its block from 1, and an element for each of its havocs in order.
 #[derive(Drop)]

@@ -1,7 +1,7 @@
 // A model is checked.
 ghost use Rattle.std.specs.Prelude.{◌≡◌, map, IfOk, OnOk, IfErr};
 ghost use Rattle.std.specs.List.{AllByRecursion};
-ghost use Rattle.rml_row.specs.Because.{Because};
+ghost use Rattle.base.specs.Because.{Because};
 ghost use Rattle.rml_lex.specs.declared.token.Fault.{Fault as OneFault};
 ghost use Rattle.rml_command.specs.View.{command as command_view};
 ghost use Rattle.rml_command.specs.Paths.{paths_of};
@@ -13,9 +13,9 @@ ghost use Rattle.rml_fragment.specs.Faults.{Breaks, HasLongBlock, IsFault};
 use crate::fragment::fragment_fault;
 use crate::laws::passing_law;
 use crate::long::long_block_fault;
+use base::{Mem, Refused, Row};
 use rml_command::{Checked, Command, Model, Path, paths};
 use rml_lex::Fault;
-use rml_row::{Mem, Refused, Row};
 use std::alloc::{AllocError, Global};
 
 /// The model with the paths of its blocks, or its fault: 15 to 19 where it leaves the fragment, and only

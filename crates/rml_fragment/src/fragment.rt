@@ -8,11 +8,11 @@ ghost use Rattle.rml_fragment.specs.Faults.{ClosesCycle, Misses, ConditionMisses
 
 use crate::demand::Demand;
 use crate::first::{earlier, fault_unless};
+use base::{Mem, Refused};
 use fol_formula::Sentence;
 use fol_sig::{Cycle, strata, strata_laws};
 use rml_command::{Condition, Model};
 use rml_lex::Fault;
-use rml_row::{Mem, Refused};
 use std::alloc::{AllocError, Global};
 
 /// The first fault by which a model leaves the fragment.

@@ -1,9 +1,9 @@
 -- What each phase promises, said of the text.
 use Rattle.std.proofs.Common.{◌≡◌, ℕ, inr, List, length, None, Result, Ok, Err, sym, subst, ◌∙◌}
 use Rattle.std.specs.Prelude.{IfOk, OnOk, IfErr}
-use Rattle.rml_row.specs.declared.refused.Refused.{Refused}
-use Rattle.rml_row.specs.declared.refused.Refused.TheVariants.{For, NoMemory}
-use Rattle.rml_row.specs.Because.{Because}
+use Rattle.base.specs.declared.refused.Refused.{Refused}
+use Rattle.base.specs.declared.refused.Refused.TheVariants.{For, NoMemory}
+use Rattle.base.specs.Because.{Because}
 use Rattle.rml_lex.specs.declared.token.Fault.{Fault}
 use Rattle.rml_lex.specs.declared.token.Token.{Token}
 use Rattle.rml_lex.specs.Tokens.{AreTokens, StandsBy}

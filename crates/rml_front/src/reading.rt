@@ -1,12 +1,12 @@
 // From the bytes of a text to its model.
 ghost use Rattle.std.specs.Prelude.{length, IfOk, IfErr};
-ghost use Rattle.rml_row.specs.Because.{Because};
+ghost use Rattle.base.specs.Because.{Because};
 ghost use Rattle.rml_lex.specs.Tokens.{StandsBy};
 ghost use Rattle.rml_front.specs.Texts.{IsModelOf, IsFaultOf};
 
+use base::Refused;
 use rml_command::Checked;
 use rml_lex::{Fault, lex};
-use rml_row::Refused;
 use std::alloc::Global;
 
 /// The model of a text, or its fault.

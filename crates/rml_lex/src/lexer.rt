@@ -1,14 +1,14 @@
 // From bytes to tokens.
 ghost use Rattle.std.specs.Prelude.{◌≡◌, ◌≤◌, ℕ, List, false, length, map, IfOk, IfErr, Option};
 ghost use Rattle.std.specs.List.{prefix_len, AllByRecursion};
-ghost use Rattle.rml_row.specs.Because.{Because};
+ghost use Rattle.base.specs.Because.{Because};
 ghost use Rattle.rml_lex.specs.Bytes.{is_letter, is_digit, is_blank, goes_on, gap_len};
 ghost use Rattle.rml_lex.specs.Spelling.{spelled, reserved, sign_at};
 ghost use Rattle.rml_lex.specs.Tokens.{front_of, sign_front, IsWithin, AreTokens, IsFault, EndsBy, StandsBy, word_of};
 
 use crate::token::Front;
 use crate::{Fault, Kind, Sign, Token, Word};
-use rml_row::Refused;
+use base::Refused;
 use std::alloc::Global;
 
 const LONGEST_NAME: usize = 64;

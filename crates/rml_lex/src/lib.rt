@@ -14,7 +14,7 @@ pub use token::{Fault, Kind, Sign, Token, Word};
 #[cfg(test)]
 mod tests {
     use super::*;
-    use rml_row::Refused;
+    use base::Refused;
     use std::test::Fail;
 
     #[test]

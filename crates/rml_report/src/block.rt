@@ -9,10 +9,10 @@ use crate::tables::{push_sorts, push_tables};
 use crate::words::{
     push_cause, push_labelled, push_name, push_number, push_numbers_line, push_text,
 };
+use base::Mem;
 use fol_sig::Sort;
 use rml_command::{About, Checked, Names};
 use rml_exec::{Counterexample, Followed, follow};
-use rml_row::Mem;
 use std::alloc::Global;
 
 #[tactic(auto, using(std::proofs::Common::append_assoc), unfolding(crate::specs::ReportText::path_line))]

@@ -8,8 +8,8 @@ use crate::block::push_block;
 use crate::cause::Cause;
 use crate::report::{Answer, Axioms, Group, Report, Verdict};
 use crate::words::{push_cause, push_name, push_number, push_text};
+use base::Mem;
 use rml_command::{About, Checked, Names, Stage};
-use rml_row::Mem;
 use std::alloc::Global;
 
 #[tactic(auto, using(std::proofs::Common::append_assoc))]

@@ -1,8 +1,8 @@
 // What is reported of a model.
 use crate::cause::{Cause, Least};
+use base::Row;
 use rml_command::{About, Stage};
 use rml_exec::Counterexample;
-use rml_row::Row;
 
 /// Whether some structure satisfies the axioms.
 #[derive(Clone, Copy, Debug, PartialEq, Eq)]

@@ -7,9 +7,9 @@ ghost use Rattle.rml_report.specs.Words.{name_at};
 ghost use Rattle.rml_report.specs.TableText.{each_tuple, more_text, listed_text, tuple_text, cell_text, value_text, arguments_of, values_text, symbol_label, symbol_line, relation_line, function_line, tables_text, sort_line, sorts_text, IsCell, HasSymbol, EachTuple};
 
 use crate::words::{push_labelled, push_number, push_text, push_truth};
+use base::Mem;
 use fol_sig::{FunId, RelId, Sort, Structure};
 use rml_command::{Model, Names};
-use rml_row::Mem;
 use std::alloc::Global;
 
 /// What has a table.

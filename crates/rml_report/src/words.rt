@@ -3,8 +3,8 @@ ghost use Rattle.std.specs.Prelude.{◌≡◌, ◌++◌, OnOk, decimal};
 ghost use Rattle.rml_report.specs.Words.{name_at, labelled, truth_text, numbers_text, numbers_line, cause_text};
 
 use crate::cause::Cause;
+use base::Mem;
 use rml_command::Name;
-use rml_row::Mem;
 use std::alloc::Global;
 
 pub fn push_text(out: &mut Vec<u8>, text: &str) -> Mem<()>

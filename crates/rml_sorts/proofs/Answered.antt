@@ -1,9 +1,9 @@
 -- A part of a tree answers for the whole.
 use Rattle.std.proofs.Common.{◌≡◌, ◌++◌, List, Some, None, Result, Ok, Err, sym, subst, ◌∙◌}
 use Rattle.std.specs.Result.{IsErrAnd, IfErr}
-use Rattle.rml_row.specs.declared.refused.Refused.{Refused}
-use Rattle.rml_row.specs.declared.refused.Refused.TheVariants.{For, NoMemory}
-use Rattle.rml_row.specs.Because.{Because}
+use Rattle.base.specs.declared.refused.Refused.{Refused}
+use Rattle.base.specs.declared.refused.Refused.TheVariants.{For, NoMemory}
+use Rattle.base.specs.Because.{Because}
 use Rattle.rml_lex.specs.declared.token.Fault.{Fault}
 use Rattle.rml_sorts.specs.Demands.{Demand, first_fault}
 use Rattle.rml_sorts.specs.Answering.{Answers}

@@ -16,7 +16,7 @@ use Rattle.rml_command.specs.Models.{ModelTree}
 use Rattle.rml_command.specs.declared.places.Condition.{Condition}
 use Rattle.rml_sorts.specs.Demands.{Demand, first_fault}
 use Rattle.rml_sorts.specs.Commands.{branching, command_of, commands_of, branches_of}
-use Rattle.rml_row.specs.declared.refused.Refused.{Refused}
+use Rattle.base.specs.declared.refused.Refused.{Refused}
 use Rattle.rml_lex.specs.declared.token.Fault.{Fault}
 use Rattle.rml_sorts.proofs.Firsts.{first_right}
 use Rattle.rml_sorts.proofs.Answered.{Refuses, refuses_as, refuses_left}

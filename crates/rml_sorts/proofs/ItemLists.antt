@@ -2,7 +2,7 @@
 use Rattle.std.proofs.Common.{◌≡◌, ◌+◌, ◌<◌, ◌≤◌, ◌++◌, ℕ, List, length, drop, get_or, None, sym, subst, ap, ◌∙◌}
 use Rattle.std.specs.List.{AllByRecursion}
 use Rattle.std.proofs.lemmas.List.{drop_all}
-use Rattle.rml_row.specs.declared.refused.Refused.{Refused}
+use Rattle.base.specs.declared.refused.Refused.{Refused}
 use Rattle.rml_lex.specs.declared.token.Fault.{Fault}
 use Rattle.rml_syntax.specs.declared.tree.Item.{Item}
 use Rattle.rml_syntax.specs.Tree.{ItemTree, item_tree, item_trees}

@@ -1,6 +1,6 @@
 -- Argument sorts, one after another.
 use Rattle.std.proofs.Common.{◌≡◌, ◌+◌, ◌<◌, ◌++◌, ℕ, zero, suc, Bool, true, false, nat_lt, if◌then◌else◌, List, [], ◌∷◌, length, drop, get_or, Some, None, refl, sym, subst, ap, ◌∙◌, arith}
-use Rattle.rml_row.specs.declared.refused.Refused.{Refused}
+use Rattle.base.specs.declared.refused.Refused.{Refused}
 use Rattle.rml_lex.specs.declared.token.Fault.{Fault}
 use Rattle.fol_sig.specs.declared.Sort.{Sort}
 use Rattle.fol_sig.specs.Tables.{AreSorts, numbers}

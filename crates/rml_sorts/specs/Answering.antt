@@ -1,7 +1,7 @@
 -- What a call answers that judges a part of a tree and builds what the part stands for.
 use Rattle.std.specs.Prelude.{◌≡◌, List, Some, None, Result, Ok, Err}
-use Rattle.rml_row.specs.declared.refused.Refused.{Refused}
-use Rattle.rml_row.specs.Because.{Because}
+use Rattle.base.specs.declared.refused.Refused.{Refused}
+use Rattle.base.specs.Because.{Because}
 use Rattle.rml_lex.specs.declared.token.Fault.{Fault}
 use Rattle.rml_sorts.specs.Demands.{Demand, first_fault}
 

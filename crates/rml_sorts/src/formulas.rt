@@ -13,9 +13,9 @@ ghost use Rattle.rml_sorts.specs.Sound.{IsSound};
 use crate::draft::{ModelDraft, bytes};
 use crate::meaning::Meaning;
 use crate::scope::Scope;
+use base::Mem;
 use fol_formula::{Formula, Term};
 use fol_sig::{FunId, RelId, Sort};
-use rml_row::Mem;
 use rml_syntax::{Binder, Expr, Name, Quantifier};
 use std::alloc::Global;
 

@@ -12,10 +12,10 @@ ghost use Rattle.rml_sorts.specs.Sound.{IsSound};
 
 use crate::draft::{ModelDraft, NameTables, PlaceLists, bytes};
 use crate::table::NameTable;
+use base::{Mem, Row};
 use fol_formula::Sentence;
 use fol_sig::{Signature, Sort, Sorts};
 use rml_command::{Command, Condition, Model, Names, Parts, Places};
-use rml_row::{Mem, Row};
 use rml_syntax::Name;
 use std::alloc::Global;
 

@@ -4,7 +4,7 @@ ghost use Rattle.rml_syntax.specs.Tree.{expr_tree, expr_trees, exprs_of, command
 ghost use Rattle.rml_sorts.specs.Formulas.{quantifiers_in, quantifiers_in_each};
 ghost use Rattle.rml_sorts.specs.Commands.{quantifiers_of, quantifiers_of_block, quantifiers_of_blocks, quantifiers_of_side};
 
-use rml_row::Mem;
+use base::Mem;
 use rml_syntax::{Command, Expr};
 
 // The quantifiers of an expression that stand inside an `ite`, or all of them.

@@ -1,6 +1,6 @@
 // A whole tree.
 ghost use Rattle.std.specs.Prelude.{◌≡◌, length, None, Some, IfOk, OnOk, IfErr};
-ghost use Rattle.rml_row.specs.Because.{Because};
+ghost use Rattle.base.specs.Because.{Because};
 ghost use Rattle.rml_lex.specs.Tokens.{StandsBy};
 ghost use Rattle.rml_syntax.specs.Tree.{file_tree, item_trees};
 ghost use Rattle.rml_syntax.specs.Within.{TreeWithin};
@@ -14,9 +14,9 @@ ghost use Rattle.rml_sorts.specs.Answering.{Answers};
 use crate::draft::ModelDraft;
 use crate::items::{Progress, add_item};
 use crate::laws::fault_law;
+use base::Refused;
 use rml_command::Model;
 use rml_lex::Fault;
-use rml_row::Refused;
 use rml_syntax::{Item, Tree};
 use std::alloc::Global;
 

@@ -17,10 +17,10 @@ ghost use Rattle.rml_sorts.specs.Answering.{Answers};
 use crate::draft::ModelDraft;
 use crate::targets::sentence_fault;
 use crate::updates::sentence;
+use base::{Mem, Refused};
 use fol_formula::{Formula, Sentence};
 use rml_command::{Command, Condition, Primitive, Word};
 use rml_lex::Fault;
-use rml_row::{Mem, Refused};
 use rml_syntax::Expr;
 use std::alloc::Global;
 

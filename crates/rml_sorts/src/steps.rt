@@ -16,9 +16,9 @@ ghost use Rattle.rml_sorts.specs.Answering.{Answers};
 use crate::draft::ModelDraft;
 use crate::targets::{assign_fault, put_fault, tuple_fault};
 use crate::updates::{assignment, insertion, placement, removal};
+use base::Refused;
 use rml_command::Command;
 use rml_lex::Fault;
-use rml_row::Refused;
 use rml_syntax::{Expr, Name};
 use std::alloc::Global;
 

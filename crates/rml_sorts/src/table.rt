@@ -2,9 +2,9 @@
 ghost use Rattle.std.specs.Prelude.{◌≡◌, ◌<◌, ◌++◌, ◌∷◌, [], false, length, OnOk, IfOk, OnErr};
 ghost use Rattle.rml_sorts.specs.Meanings.{place_among, is_among};
 
+use base::{Mem, Row};
 use indexmap::IndexSet;
 use rml_command::Name;
-use rml_row::{Mem, Row};
 use std::alloc::Global;
 use std::marker::Model;
 

@@ -20,10 +20,10 @@ use crate::draft::{ModelDraft, bytes};
 use crate::formulas::{formula, term};
 use crate::meaning::Meaning;
 use crate::scope::Scope;
+use base::Mem;
 use fol_formula::{Formula, Sentence, Term};
 use fol_sig::{FunId, RelId, Sort};
 use rml_command::Primitive;
-use rml_row::Mem;
 use rml_syntax::{Expr, Name};
 use std::alloc::Global;
 

@@ -5,8 +5,8 @@ use Rattle.rml_lex.specs.declared.token.Kind.{Kind}
 use Rattle.rml_lex.specs.declared.token.Token.{Token}
 use Rattle.rml_syntax.specs.declared.front.Stop.{Stop}
 use Rattle.rml_syntax.specs.declared.front.Stop.TheVariants as stops
-use Rattle.rml_row.specs.declared.refused.Refused.{Refused}
-use Rattle.rml_row.specs.declared.refused.Refused.TheVariants as refused
+use Rattle.base.specs.declared.refused.Refused.{Refused}
+use Rattle.base.specs.declared.refused.Refused.TheVariants as refused
 use Rattle.rml_syntax.specs.Language.{Tokens, Phrase}
 use Rattle.rml_syntax.specs.Tree.{ExprTree}
 use Rattle.rml_syntax.specs.Reading.{begins, Follows, Unexpected, TooDeep, Failure, Read, Reader, ◌>>=◌, lexeme_at, both_at, made_at, times_at, more_at, Stops, expr_at, inners, unary_at, and_at}

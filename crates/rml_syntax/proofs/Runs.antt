@@ -4,8 +4,8 @@ use Rattle.std.proofs.lemmas.List.{append-nil}
 use Rattle.rml_lex.specs.declared.token.Kind.{Kind}
 use Rattle.rml_syntax.specs.declared.front.Stop.{Stop}
 use Rattle.rml_syntax.specs.declared.front.Stop.TheVariants as stops
-use Rattle.rml_row.specs.declared.refused.Refused.{Refused}
-use Rattle.rml_row.specs.declared.refused.Refused.TheVariants as refused
+use Rattle.base.specs.declared.refused.Refused.{Refused}
+use Rattle.base.specs.declared.refused.Refused.TheVariants as refused
 use Rattle.rml_syntax.specs.Language.{Tokens}
 use Rattle.rml_syntax.specs.Tree.{ItemTree}
 use Rattle.rml_syntax.specs.Reading.{begins, Unexpected, TooDeep, Failure, Read, Reader, ◌>>=◌, made_at, times_at, many_at, Stops, inners, item_at}

@@ -3,7 +3,7 @@ use Rattle.std.proofs.Common.{◌≡◌, ℕ, ◌≤◌, Bool, true, false, cond
 use Rattle.std.specs.Prelude.{◌&&◌, not}
 use Rattle.std.specs.List.{AllByRecursion}
 use Rattle.std.proofs.lemmas.List.{append-nil, append_cancel_left}
-use Rattle.rml_row.specs.declared.refused.Refused.TheVariants as refused
+use Rattle.base.specs.declared.refused.Refused.TheVariants as refused
 use Rattle.rml_lex.specs.declared.token.Token.{Token}
 use Rattle.rml_lex.specs.declared.token.Kind.TheVariants.{Word, Number}
 use Rattle.rml_lex.specs.declared.token.Word.TheVariants.{Rml}

@@ -1,7 +1,7 @@
 -- The tree of a text's tokens, and their first fault.
 use Rattle.std.specs.Prelude.{◌≡◌, ◌==◌, ◌&&◌, Bool, true, false, ℕ, List, [], ◌∷◌, ◌++◌, ◌⊎◌, length, Result, Ok, Err, if◌then◌else◌}
-use Rattle.rml_row.specs.declared.refused.Refused.{Refused}
-use Rattle.rml_row.specs.declared.refused.Refused.TheVariants.{For, NoMemory}
+use Rattle.base.specs.declared.refused.Refused.{Refused}
+use Rattle.base.specs.declared.refused.Refused.TheVariants.{For, NoMemory}
 use Rattle.rml_lex.specs.declared.token.Kind.TheVariants.{Word, Number}
 use Rattle.rml_lex.specs.declared.token.Word.TheVariants.{Rml}
 use Rattle.rml_lex.specs.declared.token.Fault.{Fault}

@@ -2,8 +2,8 @@
 -- for each word and each production of the grammar. No public contract cites it.
 use Rattle.std.specs.Prelude.{◌≡◌, ℕ, ◌+◌, zero, suc, Bool, true, false, ◌||◌, ◌&&◌, not, ◌==◌, cond, List, [], ◌∷◌, length, drop, Option, Some, None, Result, Ok, Err}
 use Rattle.std.specs.Borrow.{Bor}
-use Rattle.rml_row.specs.declared.refused.Refused.{Refused}
-use Rattle.rml_row.specs.declared.refused.Refused.TheVariants as refused
+use Rattle.base.specs.declared.refused.Refused.{Refused}
+use Rattle.base.specs.declared.refused.Refused.TheVariants as refused
 use Rattle.rml_lex.specs.declared.token.Token.{Token}
 use Rattle.rml_lex.specs.declared.token.Kind.{Kind}
 use Rattle.rml_lex.specs.declared.token.Kind.TheVariants.{Word, Sign}

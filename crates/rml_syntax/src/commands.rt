@@ -7,8 +7,8 @@ ghost use Rattle.rml_syntax.specs.Reading.{Reads, begins, made_at, both_at, behi
 use crate::front::{Read, Stop, behind, lexeme, name};
 use crate::terms::{arguments, enclosed, expr};
 use crate::tree::{Command, Expr, Name};
+use base::Refused;
 use rml_lex::{Kind, Sign, Token, Word};
-use rml_row::Refused;
 use std::alloc::Global;
 
 // ---- the nodes

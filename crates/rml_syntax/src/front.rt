@@ -4,8 +4,8 @@ ghost use Rattle.rml_syntax.specs.Language.{place_of};
 ghost use Rattle.rml_syntax.specs.Reading.{number, Reads, Follows, begins, lexeme_at, name_at};
 
 use crate::tree::Name;
+use base::Refused;
 use rml_lex::{Kind, Token};
-use rml_row::Refused;
 
 /// Why the reading stopped, with the tokens from there on.
 #[derive(Clone, Copy, Debug)]

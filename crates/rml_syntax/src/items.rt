@@ -8,8 +8,8 @@ use crate::commands::{block, names, parameters};
 use crate::front::{Read, Stop, behind, lexeme, name};
 use crate::terms::expr;
 use crate::tree::Item;
+use base::Refused;
 use rml_lex::{Kind, Sign, Token, Word};
-use rml_row::Refused;
 use std::alloc::Global;
 
 // ---- what is behind an item's word

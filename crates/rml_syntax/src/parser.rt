@@ -1,7 +1,7 @@
 //! Whole texts.
 ghost use Rattle.std.specs.Prelude.{◌≡◌, List, true, false, length, drop, MatchOption, IfOk, IfErr};
 ghost use Rattle.std.specs.List.{AllByRecursion};
-ghost use Rattle.rml_row.specs.Because.{Because};
+ghost use Rattle.base.specs.Because.{Because};
 ghost use Rattle.rml_lex.specs.Tokens.{EndsBy, StandsBy};
 ghost use Rattle.rml_syntax.specs.Tree.{ItemTree, item_trees, file_tree};
 ghost use Rattle.rml_syntax.specs.Faults.{is_one, IsTree, IsFault, place_at, AnswersTree, AnswersFault};
@@ -12,8 +12,8 @@ ghost use Rattle.rml_syntax.specs.Reading.{Gives, all_at, read_at, is_other_form
 use crate::front::Stop;
 use crate::items::items;
 use crate::tree::{Item, Tree};
+use base::Refused;
 use rml_lex::{Fault, Kind, Token, Word, word};
-use rml_row::Refused;
 use std::alloc::Global;
 
 // How many levels may open inside one another.

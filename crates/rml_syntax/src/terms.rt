@@ -6,8 +6,8 @@ ghost use Rattle.rml_syntax.specs.Reading.{Reads, begins, made_at, both_at, behi
 
 use crate::front::{Read, Stop, behind, lexeme, name, start};
 use crate::tree::{Binder, Expr, Name, Quantifier};
+use base::{Mem, Refused};
 use rml_lex::{Kind, Sign, Token, Word};
-use rml_row::{Mem, Refused};
 use std::alloc::Global;
 
 // ---- the nodes

@@ -1,8 +1,8 @@
 //! What no clause says: that the grammar is the language's, on its worked rows and a whole model.
 use super::*;
 use crate::examples::EXAMPLES;
+use base::Refused;
 use rml_lex::{lex, place};
-use rml_row::Refused;
 use std::alloc::{AllocError, Global};
 use std::test::*;
 

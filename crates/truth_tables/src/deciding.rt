@@ -8,12 +8,12 @@ ghost use Rattle.truth_tables.specs.Answers.{IsDecidedAnswer, IsDecidedAxioms};
 ghost use Rattle.truth_tables.specs.Seeking.{IsStage, shown_of};
 
 use crate::seeking::{Sought, seek};
+use base::{Mem, Row};
 use fol_formula::Sentence;
 use fol_sig::Structure;
 use rml_command::{About, Checked, Goal, Path, Stage};
 use rml_exec::{Counterexample, Trace};
 use rml_report::{Answer, Axioms, Least};
-use rml_row::{Mem, Row};
 use std::alloc::Global;
 
 const MAX_RELATIONS: u32 = 12;

@@ -9,9 +9,9 @@ ghost use Rattle.truth_tables.specs.Seeking.{IsStage, IsBeforeFinal};
 
 use crate::deciding::{decide, decide_axioms, is_decided};
 use crate::later::later;
+use base::{Mem, Row};
 use rml_command::{About, Checked, Stage};
 use rml_report::{Answer, Axioms, Cause, Group, Report, Verdict};
-use rml_row::{Mem, Row};
 use std::alloc::Global;
 
 // A group with its answer.

@@ -8,12 +8,12 @@ ghost use Rattle.rml_command.specs.Models.{FitsPath};
 ghost use Rattle.rml_command.specs.Goals.{is_allowed};
 ghost use Rattle.truth_tables.specs.Seeking.{is_broken, is_sought, CanSeek, AgreeBelow, NoneIsSought};
 
+use base::{Mem, Row};
 use fol_eval::{Env, holds};
 use fol_formula::Sentence;
 use fol_sig::{RelId, Structure};
 use rml_command::{Checked, Path, Stage};
 use rml_exec::{Followed, Trace, follow};
-use rml_row::{Mem, Row};
 use std::alloc::Global;
 
 /// What is sought: a structure that satisfies the axioms, or one that induction allows before this

@@ -1,5 +1,5 @@
 use Rattle.std.proofs.Common.{length, subst}
-use Rattle.rml_row.specs.Because.{Because}
+use Rattle.base.specs.Because.{Because}
 use Rattle.rml_lex.specs.Tokens.{StandsBy}
 use Rattle.rml_syntax.specs.Tree.{item_trees}
 use Rattle.rml_sorts.specs.Items.{no_items, items_demands}

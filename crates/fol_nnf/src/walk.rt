@@ -1,0 +1,205 @@
+// Along the formula.
+ghost use Rattle.std.specs.Prelude.{◌≡◌, IfOk, map};
+ghost use Rattle.fol_formula.specs.View.{form, forms, term as term_view, terms as terms_view};
+ghost use Rattle.fol_formula.specs.NormalForms.{both};
+ghost use Rattle.fol_nnf.specs.Normal.{constant, gathered, quantified, two, normal, normals, leaves, leaves_of_terms};
+ghost use Rattle.fol_formula.specs.Fragments.{IsNormalForm};
+ghost use Rattle.fol_nnf.specs.Atoms.{IsAtom};
+ghost use Rattle.fol_nnf.specs.Leaves.{term_leaf, terms_leaf};
+
+use crate::join::{applications, joined_equations, joined_terms, one_of, push_given, relations};
+use crate::leaf::{TermLeaf, TermsLeaf, literal};
+use base::Mem;
+use fol_formula::{Formula, Term};
+use fol_sig::Sort;
+use std::alloc::Global;
+
+fn constant(positive: bool) -> Formula
+    ensures { form result ≡ constant positive }
+{
+    if positive {
+        Formula::True
+    } else {
+        Formula::False
+    }
+}
+
+fn gathered(positive: bool, parts: Vec<Formula>) -> Formula
+    ensures { form result ≡ gathered positive (forms parts.items) }
+{
+    if positive {
+        Formula::And(parts)
+    } else {
+        Formula::Or(parts)
+    }
+}
+
+fn quantified(alloc: Global, positive: bool, sort: Sort, body: Formula) -> Mem<Formula>
+    ensures { IfOk result (λ f. form f ≡ quantified positive sort.0 (form body)) }
+{
+    let body = Box::new(alloc, body)?;
+    Ok(if positive {
+        Formula::Forall(sort, body)
+    } else {
+        Formula::Exists(sort, body)
+    })
+}
+
+fn two(alloc: Global, p: Formula, q: Formula) -> Mem<Vec<Formula>>
+    ensures { IfOk result (λ ps. forms ps.items ≡ two (form p) (form q)) }
+{
+    let mut all = Vec::new(alloc);
+    all.push(p)?;
+    all.push(q)?;
+    Ok(all)
+}
+
+fn both(alloc: Global, p: Formula, q: Formula) -> Mem<Formula>
+    ensures { IfOk result (λ f. form f ≡ both (form p) (form q)) }
+{
+    let parts = two(alloc, p, q)?;
+    Ok(Formula::And(parts))
+}
+
+// A copy of an atom without `Ite`, or its negation.
+#[tactic(auto, using(crate::proofs::Plain::plain_stays))]
+fn plain_literal(alloc: Global, positive: bool, atom: &Formula) -> Mem<Formula>
+    requires normal { IsNormalForm (form atom.now) }
+    requires atom { IsAtom (form atom.now) }
+    ensures { IfOk result (λ f. form f ≡ normal positive (form atom.now)) }
+{
+    let copy = atom.copy(alloc)?;
+    let formula = literal(alloc, positive, copy)?;
+    Ok(formula)
+}
+
+/// The normal form of a formula, or of its negation.
+#[cycle(normal)]
+pub fn normal_formula(alloc: Global, p: &Formula, positive: bool) -> Mem<Formula>
+    ensures { IfOk result (λ f. form f ≡ normal positive (form p.now)) }
+{
+    match p {
+        Formula::True => Ok(constant(positive)),
+        Formula::False => Ok(constant(!positive)),
+        Formula::Rel(r, args) => {
+            if p.is_normal_form() {
+                let formula = plain_literal(alloc, positive, p)?;
+                return Ok(formula);
+            }
+            let leaves = leaves_of_all(alloc, args)?;
+            let literals = relations(alloc, positive, *r, leaves)?;
+            let formula = one_of(alloc, literals)?;
+            Ok(formula)
+        }
+        Formula::Eq(a, b) => {
+            if p.is_normal_form() {
+                let formula = plain_literal(alloc, positive, p)?;
+                return Ok(formula);
+            }
+            let a = leaves_of(alloc, a)?;
+            let b = leaves_of(alloc, b)?;
+            let literals = joined_equations(alloc, positive, &a, &b)?;
+            let formula = one_of(alloc, literals)?;
+            Ok(formula)
+        }
+        Formula::Not(p) => {
+            let formula = normal_formula(alloc, p, !positive)?;
+            Ok(formula)
+        }
+        Formula::And(ps) => {
+            let parts = normal_formulas(alloc, ps, positive)?;
+            Ok(gathered(positive, parts))
+        }
+        Formula::Or(ps) => {
+            let parts = normal_formulas(alloc, ps, positive)?;
+            Ok(gathered(!positive, parts))
+        }
+        Formula::Implies(p, q) => {
+            let p = normal_formula(alloc, p, !positive)?;
+            let q = normal_formula(alloc, q, positive)?;
+            let parts = two(alloc, p, q)?;
+            Ok(gathered(!positive, parts))
+        }
+        Formula::Iff(p, q) => {
+            let first = normal_formula(alloc, p, true)?;
+            let second = normal_formula(alloc, q, positive)?;
+            let left = both(alloc, first, second)?;
+            let first = normal_formula(alloc, p, false)?;
+            let second = normal_formula(alloc, q, !positive)?;
+            let right = both(alloc, first, second)?;
+            let parts = two(alloc, left, right)?;
+            Ok(Formula::Or(parts))
+        }
+        Formula::Forall(k, p) => {
+            let body = normal_formula(alloc, p, positive)?;
+            let formula = quantified(alloc, positive, *k, body)?;
+            Ok(formula)
+        }
+        Formula::Exists(k, p) => {
+            let body = normal_formula(alloc, p, positive)?;
+            let formula = quantified(alloc, !positive, *k, body)?;
+            Ok(formula)
+        }
+    }
+}
+
+#[cycle(normal)]
+fn normal_formulas(alloc: Global, ps: &[Formula], positive: bool) -> Mem<Vec<Formula>>
+    ensures { IfOk result (λ fs. forms fs.items ≡ normals positive (forms ps.now)) }
+{
+    let mut all = Vec::with_capacity(alloc, ps.len())?;
+    for p in ps {
+        all.push(normal_formula(alloc, p, positive)?)?;
+    }
+    Ok(all)
+}
+
+#[cycle(normal)]
+fn leaves_of(alloc: Global, t: &Term) -> Mem<Vec<TermLeaf>>
+    ensures { IfOk result (λ ls. map term_leaf ls.items ≡ leaves (term_view t.now)) }
+{
+    match t {
+        Term::Bound(i) => {
+            let mut all = Vec::new(alloc);
+            all.push(TermLeaf {
+                conditions: Vec::new(alloc),
+                term: Term::Bound(*i),
+            })?;
+            Ok(all)
+        }
+        Term::App(f, args) => {
+            let leaves = leaves_of_all(alloc, args)?;
+            let all = applications(alloc, *f, leaves)?;
+            Ok(all)
+        }
+        Term::Ite(p, a, b) => {
+            let mut all = Vec::new(alloc);
+            let condition = normal_formula(alloc, p, true)?;
+            let leaves = leaves_of(alloc, a)?;
+            push_given(alloc, &condition, leaves, &mut all)?;
+            let condition = normal_formula(alloc, p, false)?;
+            let leaves = leaves_of(alloc, b)?;
+            push_given(alloc, &condition, leaves, &mut all)?;
+            Ok(all)
+        }
+    }
+}
+
+// From the last argument on.
+#[cycle(normal)]
+fn leaves_of_all(alloc: Global, ts: &[Term]) -> Mem<Vec<TermsLeaf>>
+    ensures { IfOk result (λ ls. map terms_leaf ls.items ≡ leaves_of_terms (terms_view ts.now)) }
+{
+    let mut all = Vec::new(alloc);
+    all.push(TermsLeaf {
+        conditions: Vec::new(alloc),
+        terms: Vec::new(alloc),
+    })?;
+    let mut left = ts.len();
+    while left > 0 {
+        left -= 1;
+        let first = leaves_of(alloc, &ts[left])?;
+        all = joined_terms(alloc, &first, &all)?;
+    }
+    Ok(all)
+}

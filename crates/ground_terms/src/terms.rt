@@ -1,0 +1,297 @@
+// The closed lists of ground terms.
+ghost use Rattle.std.specs.Prelude.{◌≡◌, ◌<◌, ◌≤◌, ◌^◌, ◌+◌, ◌++◌, ℕ, length, map, All, IfOk, slice_index};
+ghost use Rattle.fol_sig.specs.Symbols.{symbols};
+ghost use Rattle.fol_sig.specs.Strata.{IsStrata};
+ghost use Rattle.fol_sig.specs.Tables.{InRange, tuple_count, place_of, numbers};
+ghost use Rattle.ground_terms.specs.Tuples.{tuples};
+ghost use Rattle.ground_terms.specs.Terms.{AreClosed, StandOnce, term_counts, terms_into, terms_at, term_at, constants_into, applications_into, constant_of, applications_of, application};
+ghost use Rattle.ground_terms.specs.TermCounts.{AreCounts, HasFewTerms};
+ghost use Rattle.ground_terms.specs.Numberings.{numbering, first_place, place_where, is_of, AreFirsts, IsPlaced};
+ghost use Rattle.ground_terms.specs.TermViews.{plain_term};
+
+use crate::Tuple;
+use crate::tuples::{count_tuples, number_of_tuple, tuple_of_number};
+use base::Mem;
+use fol_sig::{FunId, Signature, Sort, Strata};
+use std::alloc::Global;
+use std::marker::Model;
+
+/// The constant of a sort without other terms, or a function applied to terms. A number is the place of a term
+/// in the list of its sort.
+#[derive(Drop, Debug)]
+pub enum GroundTerm {
+    Default,
+    App(FunId, Tuple),
+}
+
+/// The terms of each sort: its constants, then the applications of functions to terms, by function and tuple.
+#[derive(Drop, Debug)]
+pub struct Terms {
+    lists: Vec<Vec<GroundTerm>>,
+    counts: Vec<u32>,
+    firsts: Vec<u32>,
+}
+
+impl Model for Terms {
+    ghost use Rattle.std.specs.Prelude.{◌≡◌, map};
+    ghost use Rattle.ground_terms.specs.Terms.{Lists, term_counts};
+    ghost use Rattle.ground_terms.specs.Numberings.{AreFirsts};
+    ghost use Rattle.ground_terms.specs.TermViews.{plain_term};
+
+    ghost Value = { Lists };
+
+    ghost view = { λ s. map (λ v. map plain_term v.items) s.lists.items };
+
+    ghost invariant = { λ s. (s.counts.items ≡ term_counts (map (λ v. map plain_term v.items) s.lists.items)) × AreFirsts (map (λ v. map plain_term v.items) s.lists.items) s.firsts.items };
+}
+
+impl Terms {
+    /// The closed lists of a signature.
+    pub fn new(alloc: Global, signature: &Signature, strata: &Strata) -> Mem<Terms>
+        requires strata { IsStrata (symbols signature.now) strata.now }
+        requires few { HasFewTerms (symbols signature.now) }
+        ensures closed { IfOk result (AreClosed (symbols signature.now)) }
+        ensures once { IfOk result (StandOnce (symbols signature.now)) }
+        ensures counted { IfOk result (λ terms. AreCounts (symbols signature.now) (term_counts terms)) }
+    {
+        let (lists, counts) = closed_lists(alloc, signature, strata)?;
+        let firsts = first_places(alloc, signature, &lists, &counts)?;
+        Ok(Terms {
+            lists,
+            counts,
+            firsts,
+        })
+    }
+
+    /// How many terms each sort has.
+    pub fn counts(&self) -> &[u32]
+        ensures { result.now ≡ term_counts self.now }
+    {
+        &self.counts
+    }
+
+    /// The terms of a sort.
+    pub fn of_sort(&self, sort: Sort) -> &[GroundTerm]
+        requires { sort.0 < length self.now }
+        ensures { map plain_term result.now ≡ terms_at self.now sort.0 }
+    {
+        &self.lists[sort.0 as usize]
+    }
+
+    /// The place of a function's application to terms, in the list of the function's sort.
+    pub fn place(&self, signature: &Signature, function: FunId, arguments: &[u32]) -> u32
+        requires closed { AreClosed (symbols signature.now) self.now }
+        requires known { function.0 < length signature.now.functions }
+        requires in_range { InRange (term_counts self.now) ((symbols signature.now).from_of function.0) arguments.now }
+        ensures value { result ≡ (numbering (symbols signature.now) self.now).place function.0 arguments.now }
+        ensures placed { IsPlaced (symbols signature.now) self.now function.0 arguments.now }
+    {
+        let _sorts = signature.sorts();
+        place_in(
+            &self.counts,
+            &self.firsts,
+            signature.from_of(function),
+            function,
+            arguments,
+        )
+    }
+}
+
+fn place_in(
+    counts: &[u32],
+    firsts: &[u32],
+    sorts: &[Sort],
+    function: FunId,
+    arguments: &[u32],
+) -> u32
+    requires sorted { All (λ k. k < length counts.now) (numbers sorts.now) }
+    requires in_range { InRange counts.now (numbers sorts.now) arguments.now }
+    requires known { function.0 < length firsts.now }
+    requires room { (k : ℕ) × (slice_index firsts.now function.0 + tuple_count counts.now (numbers sorts.now) ≤ slice_index counts.now k) }
+    ensures { result ≡ slice_index firsts.now function.0 + place_of counts.now (numbers sorts.now) arguments.now }
+{
+    firsts[function.0 as usize] + number_of_tuple(counts, sorts, arguments) as u32
+}
+
+// The lists, and how long each is.
+fn closed_lists(
+    alloc: Global,
+    signature: &Signature,
+    strata: &Strata,
+) -> Mem<(Vec<Vec<GroundTerm>>, Vec<u32>)>
+    requires strata { IsStrata (symbols signature.now) strata.now }
+    requires few { HasFewTerms (symbols signature.now) }
+    ensures closed { IfOk result (λ made. AreClosed (symbols signature.now) (map (λ v. map plain_term v.items) made.0.items)) }
+    ensures counted { IfOk result (λ made. made.1.items ≡ term_counts (map (λ v. map plain_term v.items) made.0.items)) }
+{
+    let mut lists = Vec::new(alloc);
+    for _k in 0..signature.sorts() {
+        lists.push(Vec::new(alloc))?;
+    }
+    let mut counts = vec![in alloc; 0u32; signature.sorts() as usize]?;
+    for sort in strata.order() {
+        let list = terms_of(alloc, signature, &counts, *sort)?;
+        counts[sort.0 as usize] = list.len() as u32;
+        lists[sort.0 as usize] = list;
+    }
+    Ok((lists, counts))
+}
+
+// The terms of a sort, where each sort has so many.
+fn terms_of(
+    alloc: Global,
+    signature: &Signature,
+    counts: &[u32],
+    sort: Sort,
+) -> Mem<Vec<GroundTerm>>
+    requires each { length counts.now ≡ signature.now.sorts }
+    requires few { length (terms_into (symbols signature.now) counts.now sort.0) < 2 ^ 32 }
+    ensures { IfOk result (λ ts. map plain_term ts.items ≡ terms_into (symbols signature.now) counts.now sort.0) }
+{
+    let mut all = Vec::new(alloc);
+    push_constants(alloc, signature, sort, &mut all)?;
+    push_applications(alloc, signature, counts, sort, &mut all)?;
+    if all.is_empty() {
+        all.push(GroundTerm::Default)?;
+    }
+    Ok(all)
+}
+
+fn push_constants(
+    alloc: Global,
+    signature: &Signature,
+    sort: Sort,
+    all: &mut Vec<GroundTerm>,
+) -> Mem<()>
+    ensures { IfOk result (λ _. map plain_term all.new.items ≡ map plain_term all.old.items ++ constants_into (symbols signature.now) sort.0) }
+{
+    for f in 0..signature.function_count() {
+        push_constant(alloc, signature, sort, FunId(f), all)?;
+    }
+    Ok(())
+}
+
+fn push_constant(
+    alloc: Global,
+    signature: &Signature,
+    sort: Sort,
+    function: FunId,
+    all: &mut Vec<GroundTerm>,
+) -> Mem<()>
+    requires { function.0 < length signature.now.functions }
+    ensures { IfOk result (λ _. map plain_term all.new.items ≡ map plain_term all.old.items ++ constant_of (symbols signature.now) sort.0 function.0) }
+{
+    if signature.into_of(function).0 == sort.0 && signature.from_of(function).is_empty() {
+        all.push(GroundTerm::App(function, Tuple::new(alloc)))?;
+    }
+    Ok(())
+}
+
+fn push_applications(
+    alloc: Global,
+    signature: &Signature,
+    counts: &[u32],
+    sort: Sort,
+    all: &mut Vec<GroundTerm>,
+) -> Mem<()>
+    requires each { length counts.now ≡ signature.now.sorts }
+    requires few { length (terms_into (symbols signature.now) counts.now sort.0) < 2 ^ 32 }
+    ensures { IfOk result (λ _. map plain_term all.new.items ≡ map plain_term all.old.items ++ applications_into (symbols signature.now) counts.now sort.0) }
+{
+    for f in 0..signature.function_count() {
+        push_applications_of(alloc, signature, counts, sort, FunId(f), all)?;
+    }
+    Ok(())
+}
+
+fn push_applications_of(
+    alloc: Global,
+    signature: &Signature,
+    counts: &[u32],
+    sort: Sort,
+    function: FunId,
+    all: &mut Vec<GroundTerm>,
+) -> Mem<()>
+    requires each { length counts.now ≡ signature.now.sorts }
+    requires known { function.0 < length signature.now.functions }
+    requires few { length (terms_into (symbols signature.now) counts.now sort.0) < 2 ^ 32 }
+    ensures { IfOk result (λ _. map plain_term all.new.items ≡ map plain_term all.old.items ++ applications_of (symbols signature.now) counts.now sort.0 function.0) }
+{
+    let _sorts = signature.sorts();
+    let from = signature.from_of(function);
+    if signature.into_of(function).0 == sort.0 && !from.is_empty() {
+        push_each(alloc, counts, from, function, all)?;
+    }
+    Ok(())
+}
+
+// Pushes the application to each tuple.
+fn push_each(
+    alloc: Global,
+    counts: &[u32],
+    sorts: &[Sort],
+    function: FunId,
+    all: &mut Vec<GroundTerm>,
+) -> Mem<()>
+    requires sorted { All (λ k. k < length counts.now) (numbers sorts.now) }
+    requires short { length sorts.now ≤ 8 }
+    requires few { tuple_count counts.now (numbers sorts.now) < 2 ^ 32 }
+    ensures { IfOk result (λ _. map plain_term all.new.items ≡ map plain_term all.old.items ++ map (application function.0) (tuples counts.now (numbers sorts.now))) }
+{
+    for number in 0..count_tuples(counts, sorts) {
+        let arguments = tuple_of_number(alloc, counts, sorts, number);
+        all.push(GroundTerm::App(function, arguments))?;
+    }
+    Ok(())
+}
+
+// The place of the first application of each function.
+fn first_places(
+    alloc: Global,
+    signature: &Signature,
+    lists: &[Vec<GroundTerm>],
+    counts: &[u32],
+) -> Mem<Vec<u32>>
+    requires closed { AreClosed (symbols signature.now) (map (λ v. map plain_term v.items) lists.now) }
+    requires counted { counts.now ≡ term_counts (map (λ v. map plain_term v.items) lists.now) }
+    ensures { IfOk result (λ firsts. AreFirsts (map (λ v. map plain_term v.items) lists.now) firsts.items) }
+{
+    let _sorts = signature.sorts();
+    let mut firsts = Vec::new(alloc);
+    for f in 0..signature.function_count() {
+        firsts.push(first_in(lists, counts, signature.into_of(FunId(f)), FunId(f)))?;
+    }
+    Ok(firsts)
+}
+
+fn first_in(lists: &[Vec<GroundTerm>], counts: &[u32], sort: Sort, function: FunId) -> u32
+    requires counted { counts.now ≡ term_counts (map (λ v. map plain_term v.items) lists.now) }
+    requires known { sort.0 < length lists.now }
+    ensures { result ≡ first_place (map (λ v. map plain_term v.items) lists.now) sort.0 function.0 }
+{
+    let count = counts[sort.0 as usize];
+    first_of(&lists[sort.0 as usize], count, function)
+}
+
+fn first_of(terms: &[GroundTerm], count: u32, function: FunId) -> u32
+    requires { count ≡ length terms.now }
+    ensures { result ≡ place_where (is_of function.0) (map plain_term terms.now) }
+{
+    let mut place = 0u32;
+    for term in terms {
+        if is_application_of(term, function) {
+            return place;
+        }
+        place += 1;
+    }
+    place
+}
+
+fn is_application_of(term: &GroundTerm, function: FunId) -> bool
+    ensures { result ≡ is_of function.0 (plain_term term.now) }
+{
+    match term {
+        GroundTerm::Default => false,
+        GroundTerm::App(f, _) => function == *f,
+    }
+}

@@ -1,0 +1,205 @@
+// A path is gone back, from its end to its beginning.
+ghost use Rattle.std.specs.Prelude.{◌≡◌, ◌<◌, [], length, false, IfOk, IfErr, OnOk, IsTrue};
+ghost use Rattle.base.specs.Because.{Because};
+ghost use Rattle.fol_sig.specs.Symbols.{symbols};
+ghost use Rattle.fol_formula.specs.View.{form, term};
+ghost use Rattle.fol_formula.specs.Syntax.{implication, for_all};
+ghost use Rattle.fol_formula.specs.Fits.{FitsForm};
+ghost use Rattle.fol_subst.specs.Replace.{change_rel, change_fun, change_const, changed_form};
+ghost use Rattle.fol_subst.specs.Limits.{is_too_large};
+ghost use Rattle.fol_subst.specs.Outcome.{CanReplace};
+ghost use Rattle.rml_command.specs.Trees.{set_rel, set_fun, havoc};
+ghost use Rattle.rml_command.specs.View.{primitive as primitive_view};
+ghost use Rattle.rml_command.specs.Models.{FitsPrimitive, FitsPath};
+ghost use Rattle.rml_command.specs.Outcomes.{all_of as all_of_them};
+ghost use Rattle.rml_wp.specs.Preconditions.{back_of, precondition_of, passes_limit, target_of, where_lawful as where_lawful_of};
+ghost use Rattle.rml_wp.specs.Laws.{HasTarget};
+ghost use Rattle.rml_wp.specs.Measures.{Measures};
+
+use crate::measured::Measured;
+use base::{Mem, Refused};
+use fol_formula::{Formula, Sentence, Term};
+use fol_sig::{FunId, RelId, Sort};
+use fol_subst::{FormulaLimit, replace_const, replace_fun, replace_rel};
+use rml_command::{About, Model, Path, Primitive};
+use std::alloc::Global;
+
+// The precondition of a path for what a goal is about.
+pub fn along(
+    alloc: Global,
+    model: &Model,
+    about: About,
+    path: &Path,
+) -> Result<Measured, Refused<FormulaLimit>>
+    requires about { HasTarget model.now about }
+    requires path { FitsPath (symbols model.now.signature) path.now }
+    ensures precondition { IfOk result (λ m. Measures m (precondition_of (symbols model.now.signature) model.now.axioms (target_of model.now about) path.now)) }
+    ensures within { OnOk result (passes_limit (symbols model.now.signature) model.now.axioms (target_of model.now about) path.now ≡ false) }
+    ensures limit { IfErr result (Because (λ _. IsTrue (passes_limit (symbols model.now.signature) model.now.axioms (target_of model.now about) path.now))) }
+{
+    fol_subst::exactness();
+    fol_formula::indices();
+    let _ = model.signature();
+    let target = target(alloc, model, about)?;
+    let mut now = match Measured::of(target) {
+        Ok(measured) => measured,
+        Err(refused) => return Err(refused),
+    };
+    let primitives = path.primitives();
+    let mut i = primitives.len();
+    while i > 0 {
+        i -= 1;
+        now = match step_back(alloc, model, &primitives[i], now) {
+            Ok(measured) => measured,
+            Err(refused) => return Err(refused),
+        };
+    }
+    Ok(now)
+}
+
+fn target(alloc: Global, model: &Model, about: About) -> Mem<Formula>
+    requires { HasTarget model.now about }
+    ensures { IfOk result (λ f. form f ≡ target_of model.now about) }
+{
+    match about {
+        About::Abort => Ok(Formula::True),
+        About::Conjecture(k) => {
+            let f = model.conjectures()[k as usize].formula().copy(alloc)?;
+            Ok(f)
+        }
+    }
+}
+
+fn step_back(
+    alloc: Global,
+    model: &Model,
+    primitive: &Primitive,
+    rest: Measured,
+) -> Result<Measured, Refused<FormulaLimit>>
+    requires primitive { FitsPrimitive (symbols model.now.signature) (primitive_view primitive.now) }
+    requires rest { FitsForm (symbols model.now.signature) [] (form rest.formula) }
+    requires counted { Measures rest (form rest.formula) }
+    ensures back { IfOk result (λ m. Measures m (back_of (symbols model.now.signature) model.now.axioms (primitive_view primitive.now) (form rest.formula))) }
+    ensures limit { IfErr result (Because (λ _. IsTrue (is_too_large (back_of (symbols model.now.signature) model.now.axioms (primitive_view primitive.now) (form rest.formula))))) }
+{
+    match primitive {
+        Primitive::Assume(sentence) => before_assumption(alloc, sentence, rest),
+        Primitive::SetRel(rel, by) => before_set_rel(alloc, model, *rel, by, rest.formula),
+        Primitive::SetFun(fun, by) => before_set_fun(alloc, model, *fun, by, rest.formula),
+        Primitive::Havoc(variable) => before_havoc(alloc, model, *variable, rest),
+        Primitive::Abort => Measured::of(Formula::False),
+    }
+}
+
+// The rest is not counted again.
+fn before_assumption(
+    alloc: Global,
+    sentence: &Sentence,
+    rest: Measured,
+) -> Result<Measured, Refused<FormulaLimit>>
+    requires { Measures rest (form rest.formula) }
+    ensures back { IfOk result (λ m. Measures m (implication sentence.now (form rest.formula))) }
+    ensures limit { IfErr result (Because (λ _. IsTrue (is_too_large (implication sentence.now (form rest.formula))))) }
+{
+    let nodes = sentence
+        .nodes()
+        .saturating_add(rest.nodes)
+        .saturating_add(1);
+    let depth = sentence.depth().max(rest.depth).saturating_add(1);
+    let implication = implies(alloc, sentence.formula().copy(alloc)?, rest.formula)?;
+    Measured::new(implication, nodes, depth)
+}
+
+fn before_set_rel(
+    alloc: Global,
+    model: &Model,
+    rel: RelId,
+    by: &Formula,
+    rest: Formula,
+) -> Result<Measured, Refused<FormulaLimit>>
+    requires primitive { FitsPrimitive (symbols model.now.signature) (set_rel rel.0 (form by.now)) }
+    requires rest { FitsForm (symbols model.now.signature) [] (form rest) }
+    ensures back { IfOk result (λ m. Measures m (changed_form (change_rel rel.0 (form by.now)) 0 (where_lawful_of model.now.axioms (form rest)))) }
+    ensures limit { IfErr result (Because (λ _. IsTrue (is_too_large (changed_form (change_rel rel.0 (form by.now)) 0 (where_lawful_of model.now.axioms (form rest)))))) }
+{
+    fol_subst::conditions();
+    let axioms = model.axioms();
+    let within = where_lawful(alloc, axioms, rest)?;
+    let replaced = replace_rel(alloc, &within, rel, by)?;
+    Measured::of(replaced)
+}
+
+fn before_set_fun(
+    alloc: Global,
+    model: &Model,
+    fun: FunId,
+    by: &Term,
+    rest: Formula,
+) -> Result<Measured, Refused<FormulaLimit>>
+    requires primitive { FitsPrimitive (symbols model.now.signature) (set_fun fun.0 (term by.now)) }
+    requires rest { FitsForm (symbols model.now.signature) [] (form rest) }
+    ensures back { IfOk result (λ m. Measures m (changed_form (change_fun fun.0 (term by.now)) 0 (where_lawful_of model.now.axioms (form rest)))) }
+    ensures limit { IfErr result (Because (λ _. IsTrue (is_too_large (changed_form (change_fun fun.0 (term by.now)) 0 (where_lawful_of model.now.axioms (form rest)))))) }
+{
+    fol_subst::conditions();
+    let axioms = model.axioms();
+    let within = where_lawful(alloc, axioms, rest)?;
+    let replaced = replace_fun(alloc, &within, fun, by)?;
+    Measured::of(replaced)
+}
+
+// A bound variable is as large as the program variable that it replaces, so nothing is counted again.
+fn before_havoc(
+    alloc: Global,
+    model: &Model,
+    variable: FunId,
+    rest: Measured,
+) -> Result<Measured, Refused<FormulaLimit>>
+    requires primitive { FitsPrimitive (symbols model.now.signature) (havoc variable.0) }
+    requires rest { FitsForm (symbols model.now.signature) [] (form rest.formula) }
+    requires counted { Measures rest (form rest.formula) }
+    ensures back { IfOk result (λ m. Measures m (back_of (symbols model.now.signature) model.now.axioms (havoc variable.0) (form rest.formula))) }
+    ensures limit { IfErr result (Because (λ _. IsTrue (is_too_large (back_of (symbols model.now.signature) model.now.axioms (havoc variable.0) (form rest.formula))))) }
+{
+    fol_subst::conditions();
+    fol_formula::indices();
+    let axioms = model.axioms();
+    let lawful = all_of(alloc, axioms)?;
+    let nodes = lawful.nodes().saturating_add(rest.nodes).saturating_add(2);
+    let depth = lawful.depth().max(rest.depth).saturating_add(2);
+    let within = implies(alloc, lawful, rest.formula)?;
+    let replaced = replace_const(alloc, &within, variable, 0)?;
+    let all = for_each(alloc, model.signature().into_of(variable), replaced)?;
+    Measured::new(all, nodes, depth)
+}
+
+fn for_each(alloc: Global, sort: Sort, body: Formula) -> Mem<Formula>
+    ensures { IfOk result (λ f. form f ≡ for_all sort.0 (form body)) }
+{
+    Ok(Formula::Forall(sort, Box::new(alloc, body)?))
+}
+
+fn implies(alloc: Global, p: Formula, q: Formula) -> Mem<Formula>
+    ensures { IfOk result (λ f. form f ≡ implication (form p) (form q)) }
+{
+    let p = Box::new(alloc, p)?;
+    Ok(Formula::Implies(p, Box::new(alloc, q)?))
+}
+
+fn where_lawful(alloc: Global, axioms: &[Sentence], rest: Formula) -> Mem<Formula>
+    ensures { IfOk result (λ f. form f ≡ where_lawful_of axioms.now (form rest)) }
+{
+    let f = implies(alloc, all_of(alloc, axioms)?, rest)?;
+    Ok(f)
+}
+
+/// The And of sentences.
+pub fn all_of(alloc: Global, sentences: &[Sentence]) -> Mem<Formula>
+    ensures { IfOk result (λ f. form f ≡ all_of_them sentences.now) }
+{
+    let mut all = Vec::new(alloc);
+    for sentence in sentences {
+        all.push(sentence.formula().copy(alloc)?)?;
+    }
+    Ok(Formula::And(all))
+}

@@ -1,0 +1,143 @@
+// A counterexample is read off the values of a sentence's existentials.
+ghost use Rattle.std.specs.Prelude.{◌≡◌, ◌<◌, ◌^◌, length, map, drop, true, IfOk};
+ghost use Rattle.fol_formula.specs.View.{form};
+ghost use Rattle.fol_formula.specs.Counts.{saturated};
+ghost use Rattle.rml_command.specs.View.{primitive as primitive_view};
+ghost use Rattle.rml_command.specs.Goals.{IsGoal};
+ghost use Rattle.rml_command.specs.Outcomes.{all_of};
+ghost use Rattle.rml_wp.specs.Preconditions.{target_of};
+ghost use Rattle.rml_wp.specs.Witnesses.{witness_places, values_at};
+ghost use Rattle.rml_wp.specs.Numbers.{number_of};
+ghost use Rattle.rml_wp.specs.Consumed.{next_of, behind_of, read_havocs, behind_path, read_values};
+ghost use Rattle.rml_wp.specs.Laws.{HasTarget};
+ghost use Rattle.rml_wp.specs.WitnessLaws.{GivesCounterexamples};
+
+use crate::existentials::{count, count_all_sentences};
+use crate::laws::witness_law;
+use base::{Mem, Row};
+use fol_formula::Formula;
+use rml_command::{About, Checked, Goal, Model, Primitive};
+use std::alloc::Global;
+
+/// The elements of a counterexample: one for each havoc of the path, and one for each leading quantifier
+/// of the conjecture.
+#[derive(Drop)]
+pub struct Witness {
+    pub havoc: Row<u32>,
+    pub values: Row<u32>,
+}
+
+/// What stands at the goal's places in the values of the existentials of its refuting sentence, which are
+/// in the order of its normal form: the elements and values of a counterexample, wherever the values satisfy
+/// the sentence.
+pub fn read_witness(
+    alloc: Global,
+    checked: &Checked,
+    goal: &Goal,
+    witnesses: &[u32],
+) -> Mem<Witness>
+    requires { IsGoal checked.now goal.now }
+    ensures havoc { IfOk result (λ w. w.havoc ≡ values_at witnesses.now (witness_places checked.now goal.now).havocs) }
+    ensures values { IfOk result (λ w. w.values ≡ values_at witnesses.now (witness_places checked.now goal.now).values) }
+    ensures counterexamples { IfOk result (λ w. GivesCounterexamples checked.now goal.now witnesses.now w.havoc w.values) }
+{
+    witness_law();
+    let path = checked.path(goal).primitives();
+    let model = checked.model();
+    let axioms = count_all_sentences(model.axioms());
+    let start = skip(witnesses, axioms);
+    let havoc = havocs(alloc, path, axioms, start)?;
+    let behind = behind_all(path, axioms, start);
+    let values = values_for(alloc, model, goal.about, behind)?;
+    Ok(Witness {
+        havoc: Row::from_vec(havoc),
+        values: Row::from_vec(values),
+    })
+}
+
+// As far as an abort, behind which nothing is done.
+fn havocs(alloc: Global, path: &[Primitive], axioms: u64, start: &[u32]) -> Mem<Vec<u32>>
+    ensures { IfOk result (λ v. v.items ≡ read_havocs axioms (map primitive_view path.now) start.now) }
+{
+    let mut havoc = Vec::new(alloc);
+    let mut rest = start;
+    for primitive in path {
+        match primitive {
+            Primitive::Abort => return Ok(havoc),
+            Primitive::Havoc(_) => havoc.push(next(rest))?,
+            _ => {}
+        }
+        rest = behind(primitive, axioms, rest);
+    }
+    Ok(havoc)
+}
+
+fn behind_all<'a>(path: &[Primitive], axioms: u64, start: &'a [u32]) -> &'a [u32]
+    ensures { result.now ≡ behind_path axioms (map primitive_view path.now) start.now }
+{
+    let mut rest = start;
+    for primitive in path {
+        if let Primitive::Abort = primitive {
+            return rest;
+        }
+        rest = behind(primitive, axioms, rest);
+    }
+    rest
+}
+
+// What is left behind the existentials of a primitive.
+fn behind<'a>(primitive: &Primitive, axioms: u64, rest: &'a [u32]) -> &'a [u32]
+    ensures { result.now ≡ behind_of axioms (primitive_view primitive.now) rest.now }
+{
+    match primitive {
+        Primitive::Assume(p) => skip(rest, count(p.formula()).positive),
+        Primitive::SetRel(_, _) => skip(rest, axioms),
+        Primitive::SetFun(_, _) => skip(rest, axioms),
+        Primitive::Havoc(_) => skip(skip(rest, 1), axioms),
+        Primitive::Abort => rest,
+    }
+}
+
+fn values_for(alloc: Global, model: &Model, about: About, rest: &[u32]) -> Mem<Vec<u32>>
+    requires { HasTarget model.now about }
+    ensures { IfOk result (λ v. v.items ≡ read_values (target_of model.now about) rest.now) }
+{
+    match about {
+        About::Abort => Ok(Vec::new(alloc)),
+        About::Conjecture(k) => {
+            let values = leading_values(alloc, model.conjectures()[k as usize].formula(), rest)?;
+            Ok(values)
+        }
+    }
+}
+
+fn leading_values(alloc: Global, sentence: &Formula, start: &[u32]) -> Mem<Vec<u32>>
+    ensures { IfOk result (λ v. v.items ≡ read_values (form sentence.now) start.now) }
+{
+    let mut values = Vec::new(alloc);
+    let mut rest = start;
+    let mut body = sentence;
+    while let Formula::Forall(_, inner) = body {
+        values.push(next(rest))?;
+        rest = skip(rest, 1);
+        body = inner;
+    }
+    Ok(values)
+}
+
+fn next(rest: &[u32]) -> u32
+    ensures { result ≡ next_of rest.now }
+{
+    if rest.is_empty() { 0 } else { rest[0] }
+}
+
+fn skip(rest: &[u32], count: u64) -> &[u32]
+    ensures rest { result.now ≡ drop count rest.now }
+    ensures short { length rest.now < 2 ^ 63 }
+{
+    if count >= rest.len() as u64 {
+        &[]
+    } else {
+        &rest[count as usize..]
+    }
+}
