@@ -21,6 +21,3 @@ mod watches;
 
 pub use plain_solver::solve_plain;
 pub use solver::{Solved, solve};
-
-#[cfg(test)]
-mod tests;

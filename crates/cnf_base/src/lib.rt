@@ -21,6 +21,3 @@ pub use reader::read_cnf;
 pub use text::{CnfFault, Mode, Numeral, Stage};
 pub use words::{Word, Words};
 pub use writer::{push_decimal, push_literals, write_cnf};
-
-#[cfg(test)]
-mod tests;

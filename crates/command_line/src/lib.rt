@@ -4,6 +4,3 @@
 mod request;
 
 pub use request::{Request, read_words};
-
-#[cfg(test)]
-mod tests;

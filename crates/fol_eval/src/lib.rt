@@ -13,6 +13,3 @@ pub enum Env<'a> {
     Empty,
     Bind { element: u32, outer: &'a Env<'a> },
 }
-
-#[cfg(test)]
-mod tests;

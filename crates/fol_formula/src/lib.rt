@@ -48,6 +48,3 @@ pub enum Formula {
     Forall(Sort, Box<Formula>),
     Exists(Sort, Box<Formula>),
 }
-
-#[cfg(test)]
-mod tests;

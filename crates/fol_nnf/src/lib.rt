@@ -36,6 +36,3 @@ pub fn normal(alloc: Global, sentence: &Ea) -> Mem<Normal>
     let formula = normal_formula(alloc, sentence.sentence().formula(), true)?;
     Ok(Normal::new(Sentence::of(formula)))
 }
-
-#[cfg(test)]
-mod tests;

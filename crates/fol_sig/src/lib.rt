@@ -32,6 +32,3 @@ pub struct RelId(pub u32);
 /// A function, by its place in the signature. A function without arguments is a variable.
 #[derive(Clone, Copy, PartialEq, Eq, Debug)]
 pub struct FunId(pub u32);
-
-#[cfg(test)]
-mod tests;

@@ -115,6 +115,3 @@ fn replace(
     let changed = change_formula(alloc, within, change, &measure, 0)?;
     Ok(changed)
 }
-
-#[cfg(test)]
-mod tests;

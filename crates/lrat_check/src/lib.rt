@@ -10,6 +10,3 @@ mod whole;
 
 pub use checker::{Checker, Refusal};
 pub use whole::{check_log, check_owned};
-
-#[cfg(test)]
-mod tests;

@@ -18,6 +18,3 @@ pub use outcome::{Effect, Outcome};
 pub use reader::read_log;
 pub use text::{LogFault, Stage};
 pub use writer::write_log;
-
-#[cfg(test)]
-mod tests;

@@ -14,6 +14,3 @@ pub use bytes::{Bytes, Name};
 pub use memory::{MemFiles, MemSink};
 pub use outside::{Failed, Files, LoadError, Sink};
 pub use system::{DiskFiles, StdSink};
-
-#[cfg(test)]
-mod tests;

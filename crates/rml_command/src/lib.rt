@@ -21,6 +21,3 @@ pub use model::{Model, Parts};
 pub use names::{Name, Names};
 pub use path::Path;
 pub use places::{Condition, Places, Word};
-
-#[cfg(test)]
-mod tests;

@@ -7,6 +7,3 @@ mod trace;
 
 pub use following::follow;
 pub use trace::{Counterexample, Followed, Trace};
-
-#[cfg(test)]
-mod tests;

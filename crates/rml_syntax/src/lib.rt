@@ -12,8 +12,3 @@ mod tree;
 pub use laws::one_tree_or_fault;
 pub use parser::parse;
 pub use tree::{Binder, Command, Expr, Item, Name, Quantifier, Tree};
-
-#[cfg(test)]
-mod examples;
-#[cfg(test)]
-mod tests;

@@ -63,6 +63,3 @@ pub fn constants(alloc: Global, signature: &Signature, sentence: &Normal) -> Mem
         constants,
     })
 }
-
-#[cfg(test)]
-mod tests;

@@ -1,6 +1,0 @@
-use Rattle.fol_formula.specs.View.{form, term}
-use Rattle.fol_subst.proofs.Samples.{function}
-use Rattle.fol_subst.proofs.tests.a_function_becomes_a_term.Goals as goal
-
-pub replace_fun-requires : goal.replace_fun-requires
-replace_fun-requires g c = function (form c.in_ok-fixed_point.field-0) (term c.in_ok-twice.field-0) c.in_ok-fixed_point.ensures c.in_ok-twice.ensures
