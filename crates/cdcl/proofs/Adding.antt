@@ -3,6 +3,7 @@ use Rattle.std.proofs.Common.{◌≡◌, ℕ, ◌+◌, ◌<◌, ◌⊎◌, Bool,
 use Rattle.std.proofs.lemmas.List.{get_or-set_same, get_or-set_other}
 use Rattle.std.proofs.Math.ListN.{get_or-append}
 use Rattle.std.proofs.Math.Seq.{get_or-append_seam}
+use Rattle.std.proofs.lemmas.Bool.{cases_eq}
 use Rattle.cnf_base.specs.declared.cnf.Entry.{Entry}
 use Rattle.cnf_base.specs.declared.cnf.Entry.TheVariants.{Clause}
 use Rattle.cdcl.specs.declared.trail.Step.{Step}
@@ -14,7 +15,7 @@ use Rattle.cdcl.specs.declared.watches.Watch.{Watch}
 use Rattle.cdcl.specs.declared.watches.Watches.{Watches}
 use Rattle.cdcl.specs.Watch.{Pairs, no_pair, no_watch, pair_at, list_at, IsPairOf, IsSafe, AreSafe, StandsIn, IsWatch, AreWatches, AreListed}
 use Rattle.cdcl.specs.Added.{IsAdded}
-use Rattle.cdcl.proofs.Visits.{same_or_not, stands_old, stands_new, watches_pushed}
+use Rattle.cdcl.proofs.Visits.{stands_old, stands_new, watches_pushed}
 
 pub record IsPushed (l m : List (List Watch)) (a : ℕ) (w : Watch) : Type 0 where
   pub small : a < length l
@@ -27,7 +28,7 @@ pushed_there : (l m : List (List Watch)) (a : ℕ) (w : Watch) (x : ℕ) → IsP
 pushed_there l m a w x p n = ap (λ (y : List (List Watch)). get_or y x []) p.same ∙ get_or-set_other l a x (get_or l a [] ++ w ∷ []) [] n
 
 pushed_grown : (l m : List (List Watch)) (a : ℕ) (w : Watch) (x k : ℕ) → IsPushed l m a w → StandsIn (list_at l x) k → StandsIn (list_at m x) k
-pushed_grown l m a w x k p s = at (same_or_not x a)
+pushed_grown l m a w x k p s = at (cases_eq x a)
   where
     at : (x ≡ a) ⊎ (x ≡ a → ⊥) → StandsIn (list_at m x) k
     at (inr q) = subst (λ (y : List Watch). StandsIn y k) (sym (pushed_there l m a w x p q)) s
@@ -38,7 +39,7 @@ pushed_new l m a w p = subst (λ (y : List Watch). StandsIn y w.place) (sym (pus
 
 pushed_watches : (held : Held) (pairs : Pairs) (l m : List (List Watch)) (a : ℕ) (w : Watch) → IsPushed l m a w → IsWatch held pairs w
     → ((x : ℕ) → AreWatches held pairs (list_at l x)) → (x : ℕ) → AreWatches held pairs (list_at m x)
-pushed_watches held pairs l m a w p i v x = at (same_or_not x a)
+pushed_watches held pairs l m a w p i v x = at (cases_eq x a)
   where
     at : (x ≡ a) ⊎ (x ≡ a → ⊥) → AreWatches held pairs (list_at m x)
     at (inr q) = subst (AreWatches held pairs) (sym (pushed_there l m a w x p q)) (v x)

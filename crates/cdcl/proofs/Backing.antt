@@ -2,6 +2,7 @@
 use Rattle.std.proofs.Common.{◌≡◌, ℕ, zero, suc, ◌-◌, ◌<◌, ◌≤◌, ◌⊎◌, List, [], ◌∷◌, length, get_or, take, refl, arith, ap, sym, ◌∙◌, inl, inr}
 use Rattle.std.proofs.lemmas.Grind.{common_steps, get_or_default_zero}
 use Rattle.std.proofs.lemmas.Bool.{cases_lt}
+use Rattle.std.proofs.lemmas.List.{get_or-take}
 use Rattle.cdcl.specs.declared.search.Search.{Search}
 use Rattle.cdcl.specs.Solver.{AreRising, WentBack}
 
@@ -13,12 +14,6 @@ before_second starts level second at i r h lt e s =
     two : (i < level - 1) ⊎ (level - 1 ≤ i) → at ≡ get_or starts (level - 1) 0 → get_or starts i 0 < second
     two (inl k) v = let x = r i (level - 1) k (omega arith) in omega arith
     two (inr k) v = let q : i ≡ level - 1 = omega arith in rw q (omega arith)
-
-get_or-take : (xs : List ℕ) (n i : ℕ) → i < n → get_or (take n xs) i 0 ≡ get_or xs i 0
-get_or-take xs zero i h = absurd (omega arith)
-get_or-take [] (suc n) i h = refl
-get_or-take (x ∷ xs) (suc n) zero h = refl
-get_or-take (x ∷ xs) (suc n) (suc i) h = get_or-take xs n i (omega arith)
 
 pub went_back : (a b : Search) (popped : List ℕ) (to second : ℕ) → b.starts.items ≡ popped → length popped < length a.starts.items → popped ≡ take (length popped) a.starts.items
     → to ≡ get_or a.starts.items (length popped) 0 → second ≤ to → ((i : ℕ) → i < length popped → get_or a.starts.items i 0 < second)
@@ -35,7 +30,7 @@ went_back a b popped to second e f t q ab bf sc sz st h w = record {
 }
   where
     same : (i : ℕ) → i < length b.starts.items → get_or b.starts.items i 0 ≡ get_or a.starts.items i 0
-    same i k = ap (λ (x : List ℕ). get_or x i 0) (e ∙ t) ∙ get_or-take a.starts.items (length popped) i (rw (← e) k)
+    same i k = ap (λ (x : List ℕ). get_or x i 0) (e ∙ t) ∙ get_or-take (length popped) a.starts.items i 0 (rw (← e) k)
 
 pub last_start : (starts : List ℕ) (n at : ℕ) → n ≡ length starts → 0 < length starts → at ≡ get_or starts (n - 1) at → at ≡ get_or starts (length starts - 1) 0
 last_start starts n at e h q =

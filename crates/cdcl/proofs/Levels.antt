@@ -5,6 +5,7 @@ use Rattle.std.proofs.lemmas.Grind.{common_steps}
 use Rattle.std.proofs.lemmas.Bool.{cases_lt}
 use Rattle.std.proofs.Math.ListN.{get_or-append}
 use Rattle.std.proofs.Math.Seq.{get_or-append_seam}
+use Rattle.std.proofs.lemmas.List.{get_or-take}
 use Rattle.lrat_log.specs.Held.{Held}
 use Rattle.lrat_log.specs.Learnt.{IsQuiet}
 use Rattle.cdcl.specs.declared.trail.Step.{Step}
@@ -64,12 +65,6 @@ starts_decided t l starts s = record { rising = rise; inside = inner; decided = 
             let m = more in
             (length starts, omega arith, start_new ∙ (let e : length t ≡ i = omega arith in e))
 
-pub get_or-take : (xs : List ℕ) (n i : ℕ) → i < n → get_or (take n xs) i 0 ≡ get_or xs i 0
-get_or-take xs zero i h = absurd (omega arith)
-get_or-take [] (suc n) i h = refl
-get_or-take (x ∷ xs) (suc n) zero h = refl
-get_or-take (x ∷ xs) (suc n) (suc i) h = get_or-take xs n i (omega arith)
-
 -- the trail is cut at the start of level k + 1, and so are the starts
 pub starts_cut : (t : List Step) (starts : List ℕ) (k : ℕ) → AreStarts t starts → k < length starts → AreStarts (take (get_or starts k 0) t) (take k starts)
 starts_cut t starts k s lt = record { rising = rise; inside = inner; decided = why }
@@ -84,7 +79,7 @@ starts_cut t starts k s lt = record { rising = rise; inside = inner; decided = w
     count = grind (arith, common_steps, lt)
 
     start_old : (i : ℕ) → i < k → get_or (take k starts) i 0 ≡ get_or starts i 0
-    start_old i h = get_or-take starts k i h
+    start_old i h = get_or-take k starts i 0 h
 
     rise : (i j : ℕ) → i < j → j < length (take k starts) → get_or (take k starts) i 0 < get_or (take k starts) j 0
     rise i j h g =
@@ -139,6 +134,6 @@ pub quiet_cut : (held : Held) (t : List Step) (starts : List ℕ) (k : ℕ) → 
 quiet_cut held t starts k a lt q i h =
     let c : length (take k starts) ≡ k = grind (arith, common_steps, lt) in
     let r = a.rising i k (omega arith) lt in
-    let e : get_or (take k starts) i 0 ≡ get_or starts i 0 = get_or-take starts k i (omega arith) in
+    let e : get_or (take k starts) i 0 ≡ get_or starts i 0 = get_or-take k starts i 0 (omega arith) in
     subst (λ (n : ℕ). IsQuiet held (was_set (take (get_or starts k 0) t) n)) (sym e)
     (quiet_same held (was_set t (get_or starts i 0)) (was_set (take (get_or starts k 0) t) (get_or starts i 0)) (λ l. sym (was_set-take t (get_or starts k 0) (get_or starts i 0) l (omega arith))) (q i (omega arith)))

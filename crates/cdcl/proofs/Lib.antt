@@ -21,6 +21,3 @@ pub mod Loads
 pub mod Logging
 pub mod Values
 pub mod Begins
-pub mod Scanning
-pub mod Stepping
-pub mod PlainBegins

@@ -4,6 +4,7 @@ use Rattle.std.proofs.lemmas.Grind.{common_steps}
 use Rattle.std.proofs.lemmas.Bool.{cases_lt}
 use Rattle.std.proofs.Math.ListN.{get_or-append}
 use Rattle.std.proofs.Math.Seq.{get_or-append_seam}
+use Rattle.std.proofs.lemmas.List.{get_or-take}
 use Rattle.cnf_base.specs.declared.cnf.Entry.TheVariants.{Clause}
 use Rattle.cnf_base.specs.Literals.{opposite}
 use Rattle.lrat_log.specs.Held.{Held}
@@ -21,7 +22,7 @@ use Rattle.cdcl.proofs.Trails.{was_set-push, all_set_push, trail_push, trail_cut
 use Rattle.cdcl.specs.Assigned.{IsUnset}
 use Rattle.cdcl.proofs.Literals.{opposite-even, opposite-odd}
 use Rattle.cdcl.proofs.Growth.{free_less}
-use Rattle.cdcl.proofs.Levels.{get_or-take, starts_decided, starts_cut}
+use Rattle.cdcl.proofs.Levels.{starts_decided, starts_cut}
 use Rattle.cdcl.proofs.Watching.{safe_more, all_quiet}
 
 -- the clauses and the trail of a state
@@ -136,7 +137,7 @@ module _ (a b : State) (starts : List ℕ) (head k : ℕ) (s : IsSearch a starts
       count = grind (arith, common_steps, lt)
 
       start_old : (i : ℕ) → i < k → get_or (take k starts) i 0 ≡ get_or starts i 0
-      start_old i h = get_or-take starts k i h
+      start_old i h = get_or-take k starts i 0 h
 
       cut_safe : (n : ℕ) → n ≤ get_or starts k 0 → IsSafeAt a n → WereSafe (held_in a) (take (get_or starts k 0) a.trail.steps) (pairs_of a) n
       cut_safe n h v m c e = safe_more (was_set a.trail.steps n) (was_set (take (get_or starts k 0) a.trail.steps) n) (was_set a.trail.steps n) (was_set (take (get_or starts k 0) a.trail.steps) n) c (pairs_of a m)

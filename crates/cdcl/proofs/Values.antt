@@ -17,8 +17,6 @@ use Rattle.cdcl.specs.Trail.{held_by, is_set, HasTrue}
 use Rattle.cdcl.specs.Assigned.{AreAllSet, HasValue}
 use Rattle.cdcl.specs.State.{pairs_of}
 use Rattle.cdcl.specs.Holding.{IsHolding}
-use Rattle.cdcl.specs.declared.plain.Plain.{Plain}
-use Rattle.cdcl.specs.Plain.{IsPlain, IsPlainQuiet}
 use Rattle.cdcl.specs.Solver.{IsSolver}
 use Rattle.cdcl.specs.Logged.{IsLogged}
 use Rattle.cdcl.proofs.Entries.{held_at}
@@ -118,25 +116,3 @@ pub model : (f : Formula) (s : Search) (lines : List Line) (values : List Bool) 
     → length values ≡ f.variables → ((i : ℕ) → 0 < i → i ≤ f.variables → 2 * i < s.state.trail.size → value_of values i ≡ is_set s.state.trail.steps (2 * i)) → IsModel f values
 model f s lines values v h all g n a = held_model f s.state.clauses s.state.trail lines values (state_holds s.state v.search.state)
     (λ k c q o. safe_satisfied (is_set s.state.trail.steps) c (pairs_of s.state k) o (let safe = v.search.levels.watching.at_head k c q in rw h at safe)) all g n a
-
-true_or_false : (set : ℕ → Bool) (c : List ℕ) → ((l : ℕ) → member l c ≡ true → (set l ≡ true) ⊎ (set (opposite l) ≡ true)) → HasTrue set c ⊎ IsFalse set c
-true_or_false set [] o = inr (λ x m. absurd (cc))
-true_or_false set (y ∷ c) o = at (o y (grind (arith, common_steps))) (true_or_false set c (λ l m. o l (grind (arith, common_steps, m))))
-  where
-    at : (set y ≡ true) ⊎ (set (opposite y) ≡ true) → HasTrue set c ⊎ IsFalse set c → HasTrue set (y ∷ c) ⊎ IsFalse set (y ∷ c)
-    at (inl t) r = inl (y, grind (arith, common_steps), t)
-    at (inr f) (inl w) = inl (w.0, (let s = w.1 in grind (arith, common_steps, s)), w.2)
-    at (inr f) (inr g) = inr (λ x m. one x (eqb x y) refl m)
-      where
-        one : (x : ℕ) (b : Bool) → eqb x y ≡ b → member x (y ∷ c) ≡ true → set (opposite x) ≡ true
-        one x true k s = let xy : x ≡ y = grind (arith, common_steps, k) in ap (λ (n : ℕ). set (opposite n)) xy ∙ f
-        one x false k s = g x (grind (arith, common_steps, k, s))
-
--- the truth values of a plain search where nothing is false or unit
-pub plain_model : (f : Formula) (p : Plain) (lines : List Line) (values : List Bool) → IsPlain p → IsPlainQuiet p → AreAllSet p.trail → IsLogged f p.clauses lines
-    → length values ≡ f.variables → ((i : ℕ) → 0 < i → i ≤ f.variables → 2 * i < p.trail.size → value_of values i ≡ is_set p.trail.steps (2 * i)) → IsModel f values
-plain_model f p lines values v w all g n a = held_model f p.clauses p.trail lines values v.tables (λ k c q o. at k c q (true_or_false (is_set p.trail.steps) c o)) all g n a
-  where
-    at : (k : ℕ) (c : List ℕ) → held_by p.clauses (k + 1) ≡ Some (Clause c) → HasTrue (is_set p.trail.steps) c ⊎ IsFalse (is_set p.trail.steps) c → HasTrue (is_set p.trail.steps) c
-    at k c q (inl t) = t
-    at k c q (inr t) = absurd ((w (k + 1) c q).0 t)

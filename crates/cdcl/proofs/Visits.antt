@@ -1,7 +1,7 @@
 -- The watches of one literal, visited one after another.
 use Rattle.std.proofs.Common.{◌≡◌, ℕ, suc, ◌+◌, ◌-◌, ◌<◌, ◌≤◌, ◌⊎◌, eqb, Bool, true, false, List, [], ◌∷◌, ◌++◌, length, length-set, length-append, get_or, set, refl, arith, ap, sym, subst, ◌∙◌, inl, inr, Some}
 use Rattle.std.proofs.lemmas.Grind.{common_steps}
-use Rattle.std.proofs.lemmas.Bool.{cases_lt}
+use Rattle.std.proofs.lemmas.Bool.{cases_lt, cases_eq}
 use Rattle.std.proofs.lemmas.List.{get_or-set_same, get_or-set_other}
 use Rattle.std.proofs.Math.ListN.{get_or-append}
 use Rattle.std.proofs.Math.Seq.{get_or-append_seam}
@@ -14,14 +14,6 @@ use Rattle.cdcl.specs.Trail.{literal_at, was_set, is_set, HasTrue}
 use Rattle.cdcl.specs.Watch.{Pairs, Lists, no_watch, IsPairOf, IsSafe, StandsBefore, StandsIn, IsWatch, AreWatches, AreListed, WereSafe, IsWatching, IsListed, AreVisited}
 use Rattle.cdcl.proofs.Trails.{was_set_below, below_was_set, was_set-push, all_set_push}
 use Rattle.cdcl.proofs.Watching.{Which, pair_of, safe_elsewhere, safe_moves, safe_moves_before, safe_more}
-
--- two numbers are equal or not
-pub same_or_not : (a b : ℕ) → (a ≡ b) ⊎ (a ≡ b → ⊥)
-same_or_not a b = at (eqb a b) refl
-  where
-    at : (t : Bool) → eqb a b ≡ t → (a ≡ b) ⊎ (a ≡ b → ⊥)
-    at true e = inl (grind (arith, common_steps, e))
-    at false e = inr (λ q. grind (arith, common_steps, e, q))
 
 pub was_set_grows : (trail : List Step) (m n l : ℕ) → m ≤ n → was_set trail m l ≡ true → was_set trail n l ≡ true
 was_set_grows trail m n l h s =
@@ -61,7 +53,7 @@ watches_none held pairs n h = absurd (omega arith)
 
 -- a list in which one watch is replaced
 stands_set : (list : List Watch) (n : ℕ) (w : Watch) (k : ℕ) → n < length list → w.place ≡ (get_or list n no_watch).place → StandsIn list k → StandsIn (set list n w) k
-stands_set list n w k h e s = at (same_or_not s.0 n)
+stands_set list n w k h e s = at (cases_eq s.0 n)
   where
     lt : s.0 < length (set list n w)
     lt = rw length-set (s.1)
@@ -71,7 +63,7 @@ stands_set list n w k h e s = at (same_or_not s.0 n)
     at (inr q) = (s.0, lt, ap (λ (x : Watch). x.place) (get_or-set_other list n s.0 w no_watch q) ∙ s.2)
 
 watches_set : (held : Held) (pairs : Pairs) (list : List Watch) (n : ℕ) (w : Watch) → n < length list → AreWatches held pairs list → IsWatch held pairs w → AreWatches held pairs (set list n w)
-watches_set held pairs list n w h a v i k = at (same_or_not i n)
+watches_set held pairs list n w h a v i k = at (cases_eq i n)
   where
     lt : i < length list
     lt = rw length-set at k
@@ -87,7 +79,7 @@ pub record IsRemoved (list list' : List Watch) (n : ℕ) : Type 0 where
   pub kept : (k : ℕ) → k < length list' → (k ≡ n → ⊥) → get_or list' k no_watch ≡ get_or list k no_watch
 
 stands_removed : (list list' : List Watch) (n k : ℕ) → n < length list → IsRemoved list list' n → (k ≡ (get_or list n no_watch).place → ⊥) → StandsIn list k → StandsIn list' k
-stands_removed list list' n k h r d s = at (same_or_not s.0 n)
+stands_removed list list' n k h r d s = at (cases_eq s.0 n)
   where
     at : (s.0 ≡ n) ⊎ (s.0 ≡ n → ⊥) → StandsIn list' k
     at (inl q) = absurd (d (sym s.2 ∙ ap (λ (i : ℕ). (get_or list i no_watch).place) q))
@@ -103,7 +95,7 @@ stands_removed list list' n k h r d s = at (same_or_not s.0 n)
             (n, omega arith, ap (λ (x : Watch). x.place) (r.moved less) ∙ ap (λ (i : ℕ). (get_or list i no_watch).place) (sym last) ∙ s.2)
 
 watches_removed : (held : Held) (pairs : Pairs) (list list' : List Watch) (n : ℕ) → n < length list → IsRemoved list list' n → AreWatches held pairs list → AreWatches held pairs list'
-watches_removed held pairs list list' n h r a i k = at (same_or_not i n)
+watches_removed held pairs list list' n h r a i k = at (cases_eq i n)
   where
     at : (i ≡ n) ⊎ (i ≡ n → ⊥) → IsWatch held pairs (get_or list' i no_watch)
     at (inr q) = rw (r.kept i k q) (a i (let b = r.len in omega arith))
@@ -122,7 +114,7 @@ one_clause : (held : Held) (id : ℕ) (c d : List ℕ) → held id ≡ Some (Cla
 one_clause held id c d a b = cc
 
 watch_moves : (held : Held) (pairs pairs' : Pairs) (j : ℕ) (c : List ℕ) (w : Watch) → IsMoved held pairs pairs' j c → IsWatch held pairs w → IsWatch held pairs' w
-watch_moves held pairs pairs' j c w m i = record { clause = i.clause; held_as = i.held_as; blocker = i.blocker; pair = at (same_or_not w.place j) }
+watch_moves held pairs pairs' j c w m i = record { clause = i.clause; held_as = i.held_as; blocker = i.blocker; pair = at (cases_eq w.place j) }
   where
     at : (w.place ≡ j) ⊎ (w.place ≡ j → ⊥) → IsPairOf i.clause (pairs' w.place)
     at (inr q) = rw (m.same w.place q) i.pair
@@ -144,7 +136,7 @@ visits_begin held trail head pairs lists lists' f fe o z w = record {
       )))
       (w.at_head k c e);
   listed = λ k c e i. (let l = w.listed k c e i in (one (pairs k).first k l.0, one (pairs k).second k l.1));
-  watches = λ x. all x (same_or_not x f);
+  watches = λ x. all x (cases_eq x f);
   in_list = w.watches f;
 }
   where
@@ -163,8 +155,8 @@ lists_back : (held : Held) (trail : List Step) (head : ℕ) (pairs : Pairs) (lis
     → AreVisited held trail head pairs lists f list n → ((w : ℕ) → (w ≡ f → ⊥) → lists' w ≡ lists w) → lists' f ≡ list
     → AreListed held pairs lists' × ((w : ℕ) → AreWatches held pairs (lists' w))
 lists_back held trail head pairs lists lists' f list n v o z = (
-  (λ k c e i. (let l = v.listed k c e i in (one (pairs k).first k l.0 (same_or_not (pairs k).first f), one (pairs k).second k l.1 (same_or_not (pairs k).second f)))),
-  (λ x. all x (same_or_not x f)),
+  (λ k c e i. (let l = v.listed k c e i in (one (pairs k).first k l.0 (cases_eq (pairs k).first f), one (pairs k).second k l.1 (cases_eq (pairs k).second f)))),
+  (λ x. all x (cases_eq x f)),
 )
   where
     one : (x k : ℕ) → IsListed lists f list x k → (x ≡ f) ⊎ (x ≡ f → ⊥) → StandsIn (lists' x) k
@@ -202,7 +194,7 @@ visits_stop held trail head pairs lists lists' f list n v o z =
 -- what stands before n + 1, but for one clause, stands before n
 before_less : (list list' : List Watch) (n k : ℕ) → ((i : ℕ) → i < n → get_or list' i no_watch ≡ get_or list i no_watch)
     → (k ≡ (get_or list n no_watch).place → ⊥) → (StandsBefore list' n k → ⊥) → StandsBefore list (n + 1) k → ⊥
-before_less list list' n k same d gone s = at (same_or_not s.0 n)
+before_less list list' n k same d gone s = at (cases_eq s.0 n)
   where
     at : (s.0 ≡ n) ⊎ (s.0 ≡ n → ⊥) → ⊥
     at (inl q) = d (sym s.2 ∙ ap (λ (i : ℕ). (get_or list i no_watch).place) q)
@@ -218,7 +210,7 @@ pub visit_kept : (held : Held) (trail : List Step) (head : ℕ) (pairs : Pairs) 
     → AreVisited held trail head pairs lists f list (n + 1) → AreVisited held trail head pairs lists f (set list n w) n
 visit_kept held trail head pairs lists f list n w c h pe he bl t v = record {
   todo = v.todo;
-  done = λ k d e gone. one k d e gone (same_or_not k w.place);
+  done = λ k d e gone. one k d e gone (cases_eq k w.place);
   listed = λ k d e i. (let l = v.listed k d e i in (still (pairs k).first k l.0, still (pairs k).second k l.1));
   watches = v.watches;
   in_list = watches_set held pairs list n w h v.in_list (record {
@@ -252,10 +244,10 @@ pub visit_moved : (held : Held) (trail : List Step) (head : ℕ) (pairs pairs' :
     → IsRemoved list list' n
     → AreVisited held trail head pairs lists f list (n + 1) → AreVisited held trail head pairs' lists' f list' n
 visit_moved held trail head pairs pairs' lists lists' f list list' n c j l other w h pe hd fe he i o u lf of same new ol nl wp wb r v = record {
-  todo = λ k d e. moved_safe (was_set trail head) (is_set trail) k d e (same_or_not k j) (unset head (omega arith)) (v.todo k d e);
-  done = λ k d e gone. finished k d e gone (same_or_not k j);
-  listed = λ k d e p. all_listed k d e p (same_or_not k j);
-  watches = λ x. all x (same_or_not x l);
+  todo = λ k d e. moved_safe (was_set trail head) (is_set trail) k d e (cases_eq k j) (unset head (omega arith)) (v.todo k d e);
+  done = λ k d e gone. finished k d e gone (cases_eq k j);
+  listed = λ k d e p. all_listed k d e p (cases_eq k j);
+  watches = λ x. all x (cases_eq x l);
   in_list = λ q g. watch_moves held pairs pairs' j c (get_or list' q no_watch) moves (watches_removed held pairs list list' n h r v.in_list q g);
 }
   where
@@ -287,7 +279,7 @@ visit_moved held trail head pairs pairs' lists lists' f list list' n c j l other
         c (pairs j) l other i o u (λ z. of (z ∙ sym fe)) (λ x s. was_set_grows trail (head + 1) (length trail) x (omega arith) s) (v.todo j c he))
 
     grown : (x k : ℕ) → StandsIn (lists x) k → StandsIn (lists' x) k
-    grown x k s = at (same_or_not x l)
+    grown x k s = at (cases_eq x l)
       where
         at : (x ≡ l) ⊎ (x ≡ l → ⊥) → StandsIn (lists' x) k
         at (inr q) = subst (λ (y : List Watch). StandsIn y k) (sym (ol x q)) s
@@ -353,7 +345,7 @@ visit_set held trail s head pairs lists f list n h v = record {
 pub start_moved : (held : Held) (trail : List Step) (s : ℕ) (pairs pairs' : Pairs) (c : List ℕ) (j l other : ℕ) → s ≤ length trail
     → held (j + 1) ≡ Some (Clause c) → IsPairOf c (pair_of l other) → Which (pairs j) other → is_set trail (opposite l) ≡ false
     → ((k : ℕ) → (k ≡ j → ⊥) → pairs' k ≡ pairs k) → pairs' j ≡ pair_of l other → WereSafe held trail pairs s → WereSafe held trail pairs' s
-start_moved held trail s pairs pairs' c j l other h he i o u same new v k d e = at (same_or_not k j)
+start_moved held trail s pairs pairs' c j l other h he i o u same new v k d e = at (cases_eq k j)
   where
     unset : was_set trail s (opposite l) ≡ false
     unset = cases (was_set trail s (opposite l)) refl

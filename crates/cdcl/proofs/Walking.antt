@@ -1,6 +1,7 @@
 -- The steps of the walk down the trail.
 use Rattle.std.proofs.Common.{◌≡◌, ℕ, ◌+◌, ◌<◌, ◌⊎◌, ◌||◌, ◌&&◌, not, eqb, Bool, true, false, List, [], ◌∷◌, ◌++◌, length, refl, arith, ap, sym, ◌∙◌, inl, inr, subst, Some}
 use Rattle.std.proofs.lemmas.Grind.{common_steps}
+use Rattle.std.proofs.lemmas.Bool.{false_from_ne_true}
 use Rattle.cnf_base.specs.declared.cnf.Entry.TheVariants.{Clause}
 use Rattle.cnf_base.specs.Literals.{opposite, member}
 use Rattle.lrat_log.specs.Accepted.{also, all_false}
@@ -123,11 +124,6 @@ not_twice held trail q l t h e b = t.once b.0 q b.1 h (b.2 ∙ sym e)
 not_both : (held : Held) (trail : List Step) (q : ℕ) (l : ℕ) → IsTrail held trail → q < length trail → literal_at trail q ≡ l → IsBelow trail q (opposite l) → ⊥
 not_both held trail q l t h e b = t.apart b.0 q b.1 h (ap opposite b.2 ∙ opposite-opposite l ∙ sym e)
 
--- true or false
-decided : (b : Bool) → (b ≡ true → ⊥) → b ≡ false
-decided true n = absurd (n refl)
-decided false n = refl
-
 -- a marked literal is resolved with its reason
 pub walk_resolves : (held : Held) (trail : List Step) (q : ℕ) (marked marked' : ℕ → Bool) (learnt hints : List ℕ) (r : HasReason held trail q)
     → IsTrail held trail → q < length trail → marked (literal_at trail q) ≡ true
@@ -194,8 +190,8 @@ walk_resolves held trail q marked marked' learnt hints r t h n m w = record {
         → ((l : ℕ) → set l ≡ true → IsBelow trail q l ⊎ (member (opposite l) learnt ≡ true)) → IsUnit set r.clause (literal_at trail q)
     unit set a b d = record {
       stands = r.stands;
-      not_true = decided (set (literal_at trail q)) (λ s. untrue (d (literal_at trail q) s));
-      not_false = decided (set (opposite (literal_at trail q))) (λ s. unfalse (d (opposite (literal_at trail q)) s));
+      not_true = false_from_ne_true (set (literal_at trail q)) (λ s. untrue (d (literal_at trail q) s));
+      not_false = false_from_ne_true (set (opposite (literal_at trail q))) (λ s. unfalse (d (opposite (literal_at trail q)) s));
       others_false = λ x s. other x s (eqb x (literal_at trail q)) refl;
     }
       where

@@ -8,9 +8,6 @@ pub mod Growth
 pub mod Visit
 pub mod State
 pub mod Holding
-pub mod Effect
-pub mod Plain
-pub mod PlainTurns
 pub mod Search
 pub mod Assigned
 pub mod Added

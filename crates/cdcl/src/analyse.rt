@@ -280,38 +280,6 @@ pub fn learn(
     Ok(second)
 }
 
-/// Learns the clause of the opposites of the decisions that a conflict above level 0 came from.
-pub fn learn_decisions(
-    alloc: Global,
-    clauses: &Clauses,
-    trail: &Trail,
-    marks: &mut [bool],
-    top: usize,
-    conflict: u32,
-) -> Mem<Learnt>
-    requires tables { IsHolding clauses.now trail.now }
-    requires size { length marks.old ≡ trail.now.size }
-    requires clear { (l : ℕ) → is_marked marks.old l ≡ false }
-    requires conflict { IsConflict (held_by clauses.now) trail.now.steps conflict }
-    requires decisions { (i : ℕ) → top < i → i < length trail.now.steps → reason_at trail.now.steps i ≢ 0 }
-    requires quiet { IsQuiet (held_by clauses.now) (was_set trail.now.steps top) }
-    requires level { top ≤ length trail.now.steps }
-    ensures learnt { IfOk result (λ w. IsLearnt (held_by clauses.now) w.literals.items (reverse w.hints.items)) }
-    ensures one { IfOk result (λ w. HasTops trail.now.steps top w.literals.items 1) }
-    ensures second { IfOk result (λ w. AreBeforeSecond trail.now.steps top w.literals.items w.second) }
-    ensures second_at_most { IfOk result (λ w. w.second ≤ top) }
-    ensures second_stands { IfOk result (λ w. IsSecond trail.now.steps w.literals.items w.second) }
-    ensures clear { OnOk result ((l : ℕ) → is_marked marks.new l ≡ false) }
-{
-    let root = trail.len();
-    let levels = Levels { root, top };
-    let mut order = Order::none(alloc);
-    let found = analyse(
-        alloc, clauses, trail, marks, &mut order, levels, conflict, true,
-    )?;
-    Ok(found)
-}
-
 /// The hints of the empty clause, from the last on, from a conflict at level 0.
 pub fn refute(
     alloc: Global,

@@ -1,5 +1,5 @@
-//! A solver with two watched literals and first-UIP learning, and a plain one that reads all clauses again for each
-//! literal that it sets. Every answer of both carries its evidence.
+//! A solver for clauses with two watched literals and first-UIP learning. Each answer carries its evidence: a model of
+//! the formula, a refutation as a log, or a log of as many learnt clauses as the budget has.
 #![tactic(auto)]
 
 mod analyse;
@@ -7,11 +7,8 @@ mod clauses;
 mod load;
 mod order;
 mod phases;
-mod plain;
-mod plain_solver;
 mod propagate;
 mod restarts;
-mod scan;
 mod search;
 mod solver;
 mod state;
@@ -19,5 +16,4 @@ mod trail;
 mod truth;
 mod watches;
 
-pub use plain_solver::solve_plain;
 pub use solver::{Solved, solve};

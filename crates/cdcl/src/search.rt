@@ -51,7 +51,7 @@ impl Model for Solver {
 }
 
 /// Takes off the starts that are not before a place, at least one; the answer is the lowest of them.
-pub fn pop_starts(starts: &mut Vec<usize>, second: usize) -> usize
+fn pop_starts(starts: &mut Vec<usize>, second: usize) -> usize
     requires some { 0 < length starts.old.items }
     requires last { second ≤ get_or starts.old.items (length starts.old.items - 1) 0 }
     requires rising { AreRising starts.old.items }

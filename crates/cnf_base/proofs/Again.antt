@@ -5,8 +5,8 @@ use Rattle.std.proofs.lemmas.Bool.{ne_eqb, le-ltb, eq-eqb}
 use Rattle.std.proofs.lemmas.List.{append-nil}
 use Rattle.cnf_base.specs.declared.cnf.Entry.{Entry}
 use Rattle.cnf_base.specs.declared.cnf.Entry.TheVariants.{Clause, True}
-use Rattle.cnf_base.specs.declared.text.Mode.{Mode}
-use Rattle.cnf_base.specs.declared.text.Mode.TheVariants.{LineStart, InLine}
+use Rattle.cnf_base.specs.declared.text.LineMode.{LineMode}
+use Rattle.cnf_base.specs.declared.text.LineMode.TheVariants.{LineStart, InLine}
 use Rattle.cnf_base.specs.declared.text.Stage.{Stage}
 use Rattle.cnf_base.specs.declared.text.Stage.TheVariants.{Variables, Clauses, Body}
 use Rattle.cnf_base.specs.Literals.{literal_of, opposite, variable_of, is_positive, IsLiteral, AreLiterals}
@@ -45,7 +45,7 @@ after_zero v c es ls at lt =
     ∙ ap (λ x. cond x (fault 4 at) (Ok (body v c (es ++ entry_of [] ls ∷ []) []))) (ne_eqb (length es) c (λ e. absurd (omega (arith, lt, e))))
 
 -- a line of a clause
-line_again : (ms : List ℕ) (mode : Mode) (v c at end : ℕ) (es : List Entry) (ls : List ℕ) (rest : List ℕ) → IsBetween mode → v ≤ 2147483647 → AreLiterals v ms → length es < c
+line_again : (ms : List ℕ) (mode : LineMode) (v c at end : ℕ) (es : List Entry) (ls : List ℕ) (rest : List ℕ) → IsBetween mode → v ≤ 2147483647 → AreLiterals v ms → length es < c
     → read_words (body v c es ls) (words_from mode at (literals_text ms ++ 48 ∷ 10 ∷ rest)) end
     ≡ read_words (body v c (es ++ entry_of [] (ls ++ ms) ∷ []) []) (words_from LineStart (at + length (literals_text ms) + 2) rest) end
 line_again [] mode v c at end es ls rest o small p lt =

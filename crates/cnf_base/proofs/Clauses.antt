@@ -1,24 +1,18 @@
 -- A clause that grows at its end.
 use Rattle.std.proofs.Common.{◌≡◌, ℕ, ◌||◌, eqb, Bool, true, false, List, [], ◌∷◌, ◌++◌, refl, ◌∙◌, ap, cond}
+use Rattle.std.proofs.lemmas.Bool.{or_parts, or_from}
 use Rattle.cnf_base.specs.declared.cnf.Entry.TheVariants.{True}
 use Rattle.cnf_base.specs.Literals.{opposite, member}
 use Rattle.cnf_base.specs.Clauses.{IsClause, entry_of, with_literal}
 use Rattle.cnf_base.proofs.Literals.{eqb_sym, eqb-opposite, member-push}
 
-or_false : (a b : Bool) → (a || b) ≡ false → (a ≡ false) × (b ≡ false)
-or_false true b h = (h, cc h)
-or_false false b h = (refl, h)
-
-both_false : (a b : Bool) → a ≡ false → b ≡ false → (a || b) ≡ false
-both_false a b p q = cc
-
 pub push_clause : (ls : List ℕ) (l : ℕ) → IsClause ls → member (opposite l) ls ≡ false → member l ls ≡ false → IsClause (ls ++ l ∷ [])
 push_clause [] l h p q = (refl, refl, tt)
 push_clause (k ∷ ls) l h p q =
-    let a = or_false (eqb (opposite l) k) (member (opposite l) ls) p in
-    let b = or_false (eqb l k) (member l ls) q in (
-      member-push k ls l ∙ both_false _ _ h.0 (eqb_sym k l ∙ b.0),
-      member-push (opposite k) ls l ∙ both_false _ _ h.1 (eqb-opposite k l ∙ a.0),
+    let a = or_parts (eqb (opposite l) k) (member (opposite l) ls) p in
+    let b = or_parts (eqb l k) (member l ls) q in (
+      member-push k ls l ∙ or_from _ _ h.0 (eqb_sym k l ∙ b.0),
+      member-push (opposite k) ls l ∙ or_from _ _ h.1 (eqb-opposite k l ∙ a.0),
       push_clause ls l h.2 a.1 b.1,
     )
 

@@ -4,8 +4,9 @@ use Rattle.std.specs.Prelude.{◌==◌, ◌&&◌, not, nat_le, decimal}
 use Rattle.std.specs.List.{prefix_len}
 use Rattle.std.proofs.lemmas.Bool.{ne_eqb, and_parts, leb-true, le-leb, and_from}
 use Rattle.std.proofs.lemmas.Fmt.{decimal_by_steps, decimal_nonempty, length-decimal-le}
-use Rattle.cnf_base.specs.declared.text.Mode.{Mode}
-use Rattle.cnf_base.specs.declared.text.Mode.TheVariants.{LineStart, InLine, InWord, Comment}
+use Rattle.std.proofs.lemmas.List.{take_at}
+use Rattle.cnf_base.specs.declared.text.LineMode.{LineMode}
+use Rattle.cnf_base.specs.declared.text.LineMode.TheVariants.{LineStart, InLine, InWord, Comment}
 use Rattle.cnf_base.specs.declared.text.Numeral.{Numeral}
 use Rattle.cnf_base.specs.Literals.{variable_of, is_positive, IsLiteral}
 use Rattle.cnf_base.specs.Words.{is_blank, behind, next_mode, begins_word, word_of, words_from}
@@ -111,14 +112,10 @@ solid_len [] rest b p q = ap (λ x. cond (not x) (1 + prefix_len (λ x. not (is_
 solid_len (d ∷ ds) rest b p q =
     ap (λ x. cond (not x) (1 + prefix_len (λ x. not (is_blank x)) (ds ++ b ∷ rest)) 0) p.0 ∙ ap (λ k. 1 + k) (solid_len ds rest b p.1 q) ∙ omega arith
 
-take_front : (xs ys : List ℕ) → take (length xs) (xs ++ ys) ≡ xs
-take_front [] ys = refl
-take_front (x ∷ xs) ys = ap (λ l. x ∷ l) (take_front xs ys)
-
 stops : (ds rest : List ℕ) (b : ℕ) → Solid ds → is_blank b ≡ true → word_of (ds ++ b ∷ rest) ≡ ds
-stops ds rest b p q = ap (λ k. take k (ds ++ b ∷ rest)) (solid_len ds rest b p q) ∙ take_front ds (b ∷ rest)
+stops ds rest b p q = ap (λ k. take k (ds ++ b ∷ rest)) (solid_len ds rest b p q) ∙ take_at ds (b ∷ rest) (length ds) refl
 
-pub one_word : (mode : Mode) (d : ℕ) (ds rest : List ℕ) (b at : ℕ) → begins_word mode d ≡ true → next_mode mode d ≡ InWord → Solid (d ∷ ds) → is_blank b ≡ true
+pub one_word : (mode : LineMode) (d : ℕ) (ds rest : List ℕ) (b at : ℕ) → begins_word mode d ≡ true → next_mode mode d ≡ InWord → Solid (d ∷ ds) → is_blank b ≡ true
     → words_from mode at ((d ∷ ds) ++ b ∷ rest) ≡ record { at = at; text = d ∷ ds } ∷ words_from (behind b) (at + length (d ∷ ds) + 1) rest
 one_word mode d ds rest b at starts goes p q =
     ap (λ x. cond x (record { at = at; text = word_of ((d ∷ ds) ++ b ∷ rest) } ∷ words_from (next_mode mode d) (at + 1) (ds ++ b ∷ rest)) (words_from (next_mode mode d) (at + 1) (ds ++ b ∷ rest))) starts
@@ -127,13 +124,13 @@ one_word mode d ds rest b at starts goes p q =
     λ i. record { at = at; text = t i } ∷ w i)
 
 -- a word of digits, with or without a sign, behind a blank or at the start of a line
-pub begins : (mode : Mode) (d : ℕ) → IsBetween mode → is_blank d ≡ false → (d == 99) ≡ false → begins_word mode d ≡ true
+pub begins : (mode : LineMode) (d : ℕ) → IsBetween mode → is_blank d ≡ false → (d == 99) ≡ false → begins_word mode d ≡ true
 begins LineStart d o p q = ap (λ x. cond x false (not (is_blank d))) q ∙ ap not p
 begins InLine d o p q = ap not p
 begins InWord d o p q = absurd o
 begins Comment d o p q = absurd o
 
-goes : (mode : Mode) (d : ℕ) → IsBetween mode → is_blank d ≡ false → (d == 99) ≡ false → next_mode mode d ≡ InWord
+goes : (mode : LineMode) (d : ℕ) → IsBetween mode → is_blank d ≡ false → (d == 99) ≡ false → next_mode mode d ≡ InWord
 goes LineStart d o p q = ap (λ x. cond x Comment (behind d)) q ∙ inside d p
 goes InLine d o p q = inside d p
 goes InWord d o p q = absurd o
@@ -142,25 +139,25 @@ goes Comment d o p q = absurd o
 not_c : (d : ℕ) → is_digit d ≡ true → (d == 99) ≡ false
 not_c d h = let b = digit_bounds d h in ne_eqb d 99 (λ e. absurd (omega (arith, b.1, e)))
 
-pub digits_word : (mode : Mode) (ds rest : List ℕ) (b at : ℕ) → IsBetween mode → Digits ds → 0 < length ds → is_blank b ≡ true
+pub digits_word : (mode : LineMode) (ds rest : List ℕ) (b at : ℕ) → IsBetween mode → Digits ds → 0 < length ds → is_blank b ≡ true
     → words_from mode at (ds ++ b ∷ rest) ≡ record { at = at; text = ds } ∷ words_from (behind b) (at + length ds + 1) rest
 digits_word mode [] rest b at o p l q = absurd (omega arith)
 digits_word mode (d ∷ ds) rest b at o p l q =
     one_word mode d ds rest b at (begins mode d o (no_blank d p.0) (not_c d p.0)) (goes mode d o (no_blank d p.0) (not_c d p.0)) (solid_digits (d ∷ ds) p) q
 
-pub decimal_word : (mode : Mode) (n : ℕ) (rest : List ℕ) (b at : ℕ) → IsBetween mode → n ≤ 2147483647 → is_blank b ≡ true
+pub decimal_word : (mode : LineMode) (n : ℕ) (rest : List ℕ) (b at : ℕ) → IsBetween mode → n ≤ 2147483647 → is_blank b ≡ true
     → words_from mode at (decimal n ++ b ∷ rest) ≡ record { at = at; text = decimal n } ∷ words_from (behind b) (at + length (decimal n) + 1) rest
 decimal_word mode n rest b at o le q =
     let lt : n < 2 ^ 64 = omega arith in
     digits_word mode (decimal n) rest b at o (decimal_is n lt le).digits (decimal_nonempty n lt) q
 
-pub negative_word : (mode : Mode) (n : ℕ) (rest : List ℕ) (b at : ℕ) → IsBetween mode → n ≤ 2147483647 → is_blank b ≡ true
+pub negative_word : (mode : LineMode) (n : ℕ) (rest : List ℕ) (b at : ℕ) → IsBetween mode → n ≤ 2147483647 → is_blank b ≡ true
     → words_from mode at ((45 ∷ decimal n) ++ b ∷ rest) ≡ record { at = at; text = 45 ∷ decimal n } ∷ words_from (behind b) (at + length (45 ∷ decimal n) + 1) rest
 negative_word mode n rest b at o le q =
     let lt : n < 2 ^ 64 = omega arith in
     one_word mode 45 (decimal n) rest b at (begins mode 45 o refl refl) (goes mode 45 o refl refl) (refl, solid_digits (decimal n) (decimal_is n lt le).digits) q
 
-lit_word_by : (s : Bool) (n : ℕ) (mode : Mode) (rest : List ℕ) (at : ℕ) → IsBetween mode → n ≤ 2147483647
+lit_word_by : (s : Bool) (n : ℕ) (mode : LineMode) (rest : List ℕ) (at : ℕ) → IsBetween mode → n ≤ 2147483647
     → words_from mode at ((cond s (decimal n) (45 ∷ decimal n)) ++ 32 ∷ rest) ≡ record { at = at; text = cond s (decimal n) (45 ∷ decimal n) } ∷ words_from InLine (at + length (cond s (decimal n) (45 ∷ decimal n)) + 1) rest
 lit_word_by true n mode rest at o le = decimal_word mode n rest 32 at o le refl
 lit_word_by false n mode rest at o le = negative_word mode n rest 32 at o le refl
@@ -169,7 +166,7 @@ lit_number_by : (s : Bool) (n : ℕ) → 0 < n → n ≤ 2147483647 → number_o
 lit_number_by true n some le = number_of-decimal n le
 lit_number_by false n some le = number_of-negative n some le
 
-pub literal_word : (mode : Mode) (n l : ℕ) (rest : List ℕ) (at : ℕ) → IsBetween mode → n ≤ 2147483647 → IsLiteral n l
+pub literal_word : (mode : LineMode) (n l : ℕ) (rest : List ℕ) (at : ℕ) → IsBetween mode → n ≤ 2147483647 → IsLiteral n l
     → words_from mode at (literal_text l ++ 32 ∷ rest) ≡ record { at = at; text = literal_text l } ∷ words_from InLine (at + length (literal_text l) + 1) rest
 literal_word mode n l rest at o le h = let small : variable_of l ≤ 2147483647 = omega (arith, h.1, le) in lit_word_by (is_positive l) (variable_of l) mode rest at o small
 

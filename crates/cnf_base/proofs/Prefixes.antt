@@ -2,11 +2,11 @@
 use Rattle.std.proofs.Common.{◌≡◌, ℕ, zero, suc, ◌+◌, ◌-◌, ◌*◌, ◌<◌, ◌≤◌, Bool, true, false, List, [], ◌∷◌, Some, None, length, take, drop, get_or, refl, sym, subst, ◌∙◌, ap, cond, arith}
 use Rattle.std.specs.Prelude.{◌==◌, ◌&&◌, not, nat_le}
 use Rattle.std.proofs.lemmas.Bool.{ne_eqb, eqb-true, le-leb, and_from}
-use Rattle.std.proofs.lemmas.List.{length-take-le}
+use Rattle.std.proofs.lemmas.List.{length-take-le, drop-drop}
 use Rattle.std.proofs.Math.Seq.{take-length}
 use Rattle.std.proofs.lemmas.Grind.{common_steps}
-use Rattle.cnf_base.specs.declared.text.Mode.{Mode}
-use Rattle.cnf_base.specs.declared.text.Mode.TheVariants.{LineStart, InLine, InWord}
+use Rattle.cnf_base.specs.declared.text.LineMode.{LineMode}
+use Rattle.cnf_base.specs.declared.text.LineMode.TheVariants.{LineStart, InLine, InWord}
 use Rattle.cnf_base.specs.declared.text.Numeral.{Numeral}
 use Rattle.cnf_base.specs.Words.{is_blank, behind, begins_word, word_of, words_from}
 use Rattle.cnf_base.specs.Starts.{IsBetween, IsAtStart}
@@ -37,13 +37,8 @@ one_digit n d bs h le =
 after_is : (d : ℕ) (bs : List ℕ) → take (length (d ∷ bs) - 1) (drop 1 (d ∷ bs)) ≡ bs
 after_is d bs = let k : length (d ∷ bs) - 1 ≡ length bs = omega arith in ap (λ n. take n bs) k ∙ take-length bs
 
-dropped_more : (k : ℕ) (all : List ℕ) → drop 1 (drop k all) ≡ drop (k + 1) all
-dropped_more zero all = refl
-dropped_more (suc k) [] = grind (arith, common_steps)
-dropped_more (suc k) (x ∷ xs) = grind (arith, common_steps, dropped_more k xs)
-
 one_dropped : (k b : ℕ) (bs all : List ℕ) → b ∷ bs ≡ drop k all → bs ≡ drop (k + 1) all
-one_dropped k b bs all e = ap (drop 1) e ∙ dropped_more k all
+one_dropped k b bs all e = ap (drop 1) e ∙ drop-drop 1 k all
 
 -- how far a walk over digits is
 pub record IsOver (bytes rest : List ℕ) (count value : ℕ) : Type 0 where
@@ -122,7 +117,7 @@ next_is b at bytes n e p v = first_word (behind b) (at + 1) bytes (starts bytes 
 abbrev tail : List ℕ → List ℕ
 tail all = take (length all - 1) (drop 1 all)
 
-pub next_behind : (mode : Mode) (all : List ℕ) (at len : ℕ) (after : List ℕ) (n : Numeral) → mode ≡ InWord → 0 < length all → is_blank (get_or all 0 0) ≡ true
+pub next_behind : (mode : LineMode) (all : List ℕ) (at len : ℕ) (after : List ℕ) (n : Numeral) → mode ≡ InWord → 0 < length all → is_blank (get_or all 0 0) ≡ true
     → after ≡ drop len (tail all) → len ≡ word_len (tail all) → 0 < len → number_of (word_of (tail all)) ≡ Some n
     → words_from mode at all ≡ record { at = at + 1; text = word_of (tail all) } ∷ words_from mode (at + 1 + len) after
 next_behind mode [] at len after n m p e a l s v = absurd (omega arith)
@@ -130,7 +125,7 @@ next_behind mode (b ∷ bs) at len after n m p e a l s v =
     let same : tail (b ∷ bs) ≡ bs = after_is b bs in
     let some : 0 < word_len (tail (b ∷ bs)) = omega (arith, l, s) in
     let next = next_is b at (tail (b ∷ bs)) n e some v in
-    ap (λ (x : Mode). words_from x at (b ∷ bs)) m
+    ap (λ (x : LineMode). words_from x at (b ∷ bs)) m
     ∙ ap (λ (xs : List ℕ). words_from InWord at (b ∷ xs)) (sym same)
     ∙ next
     ∙ (λ i. record { at = at + 1; text = word_of (tail (b ∷ bs)) } ∷ words_from (sym m i) (at + 1 + sym l i) ((ap (λ k. drop k (tail (b ∷ bs))) (sym l) ∙ sym a) i))
@@ -170,7 +165,7 @@ no_digits bytes rest value is z v =
     cc some
 
 -- The word behind a blank, where digits end it.
-pub id_behind : (mode : Mode) (all : List ℕ) (at len value : ℕ) (after : List ℕ) → mode ≡ InWord → 0 < length all → is_blank (get_or all 0 0) ≡ true
+pub id_behind : (mode : LineMode) (all : List ℕ) (at len value : ℕ) (after : List ℕ) → mode ≡ InWord → 0 < length all → is_blank (get_or all 0 0) ≡ true
     → after ≡ drop len (tail all) → len + length after ≡ length (tail all) → len + word_len after ≡ word_len (tail all)
     → with_digits value (word_of after) ≡ with_digits 0 (word_of (tail all)) → word_len after ≡ 0 → len ≤ 10 → (value ≡ 0 → ⊥)
     → (words_from mode at all ≡ record { at = at + 1; text = word_of (tail all) } ∷ words_from mode (at + 1 + len) after)

@@ -4,8 +4,8 @@ use Rattle.std.specs.Prelude.{◌==◌}
 use Rattle.std.specs.List.{prefix_len}
 use Rattle.std.proofs.lemmas.Bool.{or_parts}
 use Rattle.std.proofs.lemmas.Grind.{common_steps}
-use Rattle.cnf_base.specs.declared.text.Mode.{Mode}
-use Rattle.cnf_base.specs.declared.text.Mode.TheVariants.{LineStart, InLine, InWord, Comment}
+use Rattle.cnf_base.specs.declared.text.LineMode.{LineMode}
+use Rattle.cnf_base.specs.declared.text.LineMode.TheVariants.{LineStart, InLine, InWord, Comment}
 use Rattle.cnf_base.specs.Words.{Word, is_blank, behind, next_mode, begins_word, word_of, words_from}
 use Rattle.cnf_base.specs.Starts.{IsAtStart}
 
@@ -14,7 +14,7 @@ inside b h =
     ap (λ x. cond x LineStart (cond (is_blank b) InLine InWord)) (or_parts ((b == 32) || (b == 9) || (b == 13)) (b == 10) h).1 ∙ ap (λ x. cond x InLine InWord) h
 
 -- a byte that begins a word is no blank
-solid_start : (mode : Mode) (b : ℕ) → begins_word mode b ≡ true → (is_blank b ≡ false) × (next_mode mode b ≡ InWord)
+solid_start : (mode : LineMode) (b : ℕ) → begins_word mode b ≡ true → (is_blank b ≡ false) × (next_mode mode b ≡ InWord)
 solid_start LineStart b h = at (b == 99) (is_blank b) refl h (inside b)
   where
     at : (c d : Bool) → is_blank b ≡ d → cond c false (not d) ≡ true → (is_blank b ≡ false → behind b ≡ InWord) → (is_blank b ≡ false) × (cond c Comment (behind b) ≡ InWord)
@@ -47,7 +47,7 @@ through (b ∷ bytes) at = by (is_blank b) refl (through bytes (at + 1))
         ap (λ m. words_from m (at + 1) bytes) (inside b e) ∙ r ∙ (λ i. words_from InWord (place i) (left i))
 
 -- where a word begins it is the first
-pub first_word : (mode : Mode) (at : ℕ) (bytes : List ℕ) → IsAtStart mode bytes → 0 < word_len bytes
+pub first_word : (mode : LineMode) (at : ℕ) (bytes : List ℕ) → IsAtStart mode bytes → 0 < word_len bytes
     → words_from mode at bytes ≡ record { at = at; text = word_of bytes } ∷ words_from InWord (at + word_len bytes) (drop (word_len bytes) bytes)
 first_word mode at [] s h = absurd (omega arith)
 first_word mode at (b ∷ bytes) s h =
@@ -59,7 +59,7 @@ first_word mode at (b ∷ bytes) s h =
     ∙ ap (λ ws. w ∷ ws) (through (b ∷ bytes) at)
 
 -- where none begins, nothing is left
-pub no_word : (mode : Mode) (at : ℕ) (bytes : List ℕ) → IsAtStart mode bytes → word_len bytes ≡ 0 → words_from mode at bytes ≡ []
+pub no_word : (mode : LineMode) (at : ℕ) (bytes : List ℕ) → IsAtStart mode bytes → word_len bytes ≡ 0 → words_from mode at bytes ≡ []
 no_word mode at [] s h = refl
 no_word mode at (b ∷ bytes) s h =
     let f = solid_start mode b s in

@@ -7,8 +7,8 @@ use Rattle.std.proofs.lemmas.Grind.{common_steps}
 use Rattle.base.specs.declared.refused.Refused.{Refused}
 use Rattle.base.specs.declared.refused.Refused.TheVariants.{For, NoMemory}
 use Rattle.base.specs.Because.{Because}
-use Rattle.cnf_base.specs.declared.text.Mode.{Mode}
-use Rattle.cnf_base.specs.declared.text.Mode.TheVariants.{LineStart}
+use Rattle.cnf_base.specs.declared.text.LineMode.{LineMode}
+use Rattle.cnf_base.specs.declared.text.LineMode.TheVariants.{LineStart}
 use Rattle.cnf_base.specs.declared.text.Stage.{Stage}
 use Rattle.cnf_base.specs.declared.text.Stage.TheVariants.{Problem, Format, Variables, Clauses, Body}
 use Rattle.cnf_base.specs.declared.text.Numeral.{Numeral}
@@ -24,7 +24,7 @@ one_more : (n : ℕ) (b : Bool) (w : Word) (ws : List Word) → w.at ≤ n → B
 one_more n true w ws p q = (p, q)
 one_more n false w ws p q = q
 
-pub words_begin : (mode : Mode) (at n : ℕ) (bytes : List ℕ) → at + length bytes ≤ n → BeginBy n (words_from mode at bytes)
+pub words_begin : (mode : LineMode) (at n : ℕ) (bytes : List ℕ) → at + length bytes ≤ n → BeginBy n (words_from mode at bytes)
 words_begin mode at n [] h = tt
 words_begin mode at n (b ∷ bytes) h =
     let here : at ≤ n = omega arith in

@@ -1,25 +1,25 @@
 -- The words of a text. A line whose first byte is `c` is a comment.
 use Rattle.std.specs.Prelude.{ℕ, ◌+◌, Bool, false, ◌||◌, ◌==◌, not, List, [], ◌∷◌, take, if◌then◌else◌}
 use Rattle.std.specs.List.{prefix_len}
-use Rattle.cnf_base.specs.declared.text.Mode.{Mode}
-use Rattle.cnf_base.specs.declared.text.Mode.TheVariants.{LineStart, InLine, InWord, Comment}
+use Rattle.cnf_base.specs.declared.text.LineMode.{LineMode}
+use Rattle.cnf_base.specs.declared.text.LineMode.TheVariants.{LineStart, InLine, InWord, Comment}
 
 -- space, tab, carriage return, line feed
 abbrev pub is_blank : ℕ → Bool
 is_blank b = (b == 32) || (b == 9) || (b == 13) || (b == 10)
 
 -- behind a byte that is no part of a comment
-abbrev pub behind : ℕ → Mode
+abbrev pub behind : ℕ → LineMode
 behind b = if b == 10 then LineStart else if is_blank b then InLine else InWord
 
-abbrev pub next_mode : Mode → ℕ → Mode
+abbrev pub next_mode : LineMode → ℕ → LineMode
 next_mode Comment b = if b == 10 then LineStart else Comment
 next_mode LineStart b = if b == 99 then Comment else behind b
 next_mode InLine b = behind b
 next_mode InWord b = behind b
 
 -- whether a word begins with this byte
-abbrev pub begins_word : Mode → ℕ → Bool
+abbrev pub begins_word : LineMode → ℕ → Bool
 begins_word Comment b = false
 begins_word LineStart b = if b == 99 then false else not (is_blank b)
 begins_word InLine b = not (is_blank b)
@@ -35,7 +35,7 @@ abbrev pub word_of : List ℕ → List ℕ
 word_of bytes = take (prefix_len (λ b. not (is_blank b)) bytes) bytes
 
 -- the words of these bytes, the first of which stands at this place
-abbrev pub words_from : Mode → ℕ → List ℕ → List Word
+abbrev pub words_from : LineMode → ℕ → List ℕ → List Word
 words_from mode at [] = []
 words_from mode at (b ∷ bytes) =
     if begins_word mode b then record { at = at; text = word_of (b ∷ bytes) } ∷ words_from (next_mode mode b) (at + 1) bytes

@@ -9,7 +9,7 @@ use crate::text::Numeral;
 use crate::words::is_blank;
 
 // Up to here a number may get one more digit.
-const MOST: u32 = 214748363;
+const MAX_EXTENDABLE: u32 = 214748363;
 
 /// Goes over digits: what stands behind them, how many they are, and the number that they make. Stops
 /// early where one more digit may make the number too large.
@@ -24,7 +24,7 @@ pub fn front_digits<'a>(bytes: &'a [u8]) -> (&'a [u8], usize, u32)
     let mut count = 0;
     let mut value = 0u32;
     while let [d, after @ ..] = rest {
-        if !is_digit(*d) || value > MOST {
+        if !is_digit(*d) || value > MAX_EXTENDABLE {
             return (rest, count, value);
         }
         value = value * 10 + (*d - b'0') as u32;

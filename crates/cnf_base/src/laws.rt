@@ -4,9 +4,9 @@ ghost use Rattle.cnf_base.specs.Literals.{opposite, variable_of, is_positive, li
 ghost use Rattle.cnf_base.specs.declared.cnf.Entry.TheVariants.{Clause};
 ghost use Rattle.cnf_base.specs.Clauses.{IsClause, IsEntry, entry_of, SatisfiesClause, SatisfiesEntry};
 ghost use Rattle.cnf_base.specs.Formulas.{Formula};
-ghost use Rattle.cnf_base.specs.declared.text.Mode.{Mode};
+ghost use Rattle.cnf_base.specs.declared.text.LineMode.{LineMode};
 ghost use Rattle.cnf_base.specs.declared.text.Numeral.{Numeral};
-ghost use Rattle.cnf_base.specs.declared.text.Mode.TheVariants.{InLine};
+ghost use Rattle.cnf_base.specs.declared.text.LineMode.TheVariants.{InLine};
 ghost use Rattle.cnf_base.specs.Words.{is_blank, behind, words_from, words_of};
 ghost use Rattle.cnf_base.specs.Places.{BeginBy};
 ghost use Rattle.cnf_base.specs.Starts.{IsBetween};
@@ -39,10 +39,10 @@ pub fn round_trip()
 /// A number, or a literal, in front of a blank is one word, which says it. Each word begins in the
 /// text.
 pub fn word_laws()
-    ensures number { (mode : Mode) (n : ℕ) (rest : List ℕ) (b at : ℕ) → IsBetween mode → n ≤ 2147483647 → is_blank b ≡ true
+    ensures number { (mode : LineMode) (n : ℕ) (rest : List ℕ) (b at : ℕ) → IsBetween mode → n ≤ 2147483647 → is_blank b ≡ true
         → words_from mode at (decimal n ++ b ∷ rest) ≡ record { at = at; text = decimal n } ∷ words_from (behind b) (at + length (decimal n) + 1) rest }
     ensures number_value { (n : ℕ) → n ≤ 2147483647 → number_of (decimal n) ≡ Some (record { negative = false; value = n }) }
-    ensures literal { (mode : Mode) (n l : ℕ) (rest : List ℕ) (at : ℕ) → IsBetween mode → n ≤ 2147483647 → IsLiteral n l
+    ensures literal { (mode : LineMode) (n l : ℕ) (rest : List ℕ) (at : ℕ) → IsBetween mode → n ≤ 2147483647 → IsLiteral n l
         → words_from mode at (literal_text l ++ 32 ∷ rest) ≡ record { at = at; text = literal_text l } ∷ words_from InLine (at + length (literal_text l) + 1) rest }
     ensures literal_value { (n l : ℕ) → n ≤ 2147483647 → IsLiteral n l → number_of (literal_text l) ≡ Some (record { negative = not (is_positive l); value = variable_of l }) }
     ensures small { (text : List ℕ) (n : Numeral) → number_of text ≡ Some n → n.value ≤ 2147483647 }

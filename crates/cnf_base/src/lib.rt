@@ -18,6 +18,6 @@ pub use laws::{entry_laws, opposite_laws, round_trip, word_laws};
 pub use lit::Lit;
 pub use number::{literal_of, number_of};
 pub use reader::read_cnf;
-pub use text::{CnfFault, Mode, Numeral, Stage};
+pub use text::{CnfFault, LineMode, Numeral, Stage};
 pub use words::{Word, Words};
 pub use writer::{push_decimal, push_literals, write_cnf};

@@ -5,7 +5,7 @@ ghost use Rattle.cnf_base.specs.Formulas.{Formula, IsFormula};
 ghost use Rattle.cnf_base.specs.Reading.{at_start, body_number, take_word, ended, read_of};
 ghost use Rattle.cnf_base.specs.Answers.{Answers};
 ghost use Rattle.cnf_base.specs.Places.{StandsBy};
-ghost use Rattle.cnf_base.specs.ReaderState.{state_of, is_literal, Takes, Goes};
+ghost use Rattle.cnf_base.specs.ReaderState.{state_of, is_literal, StepsTo, ReadsOn};
 ghost use Rattle.base.specs.Because.{Because};
 ghost use Rattle.base.specs.declared.refused.Refused.{Refused};
 ghost use Rattle.base.specs.declared.refused.Refused.TheVariants.{For};
@@ -54,7 +54,7 @@ impl Reading {
         at: u64,
     ) -> Result<(), Refused<CnfFault>>
         requires { IfSome number (λ n. n.value < 2 ^ 31) }
-        ensures { Takes (body_number (state_of self.old) number at) self.new result }
+        ensures { StepsTo (body_number (state_of self.old) number at) self.new result }
     {
         let Some(number) = number else {
             return Err(fault(2, at));
@@ -102,7 +102,7 @@ impl Reading {
         alloc: Global,
         words: &mut Words<'_>,
     ) -> Result<(), Refused<CnfFault>>
-        ensures taken { Goes (state_of self.old) words.old self.new words.new result }
+        ensures taken { ReadsOn (state_of self.old) words.old self.new words.new result }
         ensures shorter { length words.new ≤ length words.old }
     {
         while let Stage::Body = self.stage {
@@ -125,7 +125,7 @@ impl Reading {
 
     // Takes a word.
     fn take_word(&mut self, alloc: Global, word: &[u8], at: u64) -> Result<(), Refused<CnfFault>>
-        ensures { Takes (take_word (state_of self.old) (record { at = at; text = word.now })) self.new result }
+        ensures { StepsTo (take_word (state_of self.old) (record { at = at; text = word.now })) self.new result }
     {
         match self.stage {
             Stage::Problem => {

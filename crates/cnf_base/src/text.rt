@@ -2,7 +2,7 @@
 
 /// Where a reader stands before a byte.
 #[derive(Clone, Copy)]
-pub enum Mode {
+pub enum LineMode {
     LineStart,
     InLine,
     InWord,

@@ -6,7 +6,7 @@ ghost use Rattle.cnf_base.specs.Starts.{IsAtStart};
 ghost use Rattle.cnf_base.specs.Numerals.{number_of};
 
 use crate::fronts::{ends_word, front_digits, front_number};
-use crate::text::{Mode, Numeral};
+use crate::text::{LineMode, Numeral};
 use std::marker::Model;
 
 /// A word of a text, and the place of its first byte.
@@ -22,7 +22,7 @@ pub struct Word<'a> {
 pub struct Words<'a> {
     rest: &'a [u8],
     at: u64,
-    mode: Mode,
+    mode: LineMode,
 }
 
 impl<'a> Model for Words<'a> {
@@ -42,39 +42,43 @@ pub fn is_blank(b: u8) -> bool
     matches!(b, b' ' | b'\t' | b'\r' | b'\n')
 }
 
-fn behind(b: u8) -> Mode
+fn behind(b: u8) -> LineMode
     ensures { result ≡ behind b }
 {
     if b == b'\n' {
-        Mode::LineStart
+        LineMode::LineStart
     } else if is_blank(b) {
-        Mode::InLine
+        LineMode::InLine
     } else {
-        Mode::InWord
+        LineMode::InWord
     }
 }
 
-fn next_mode(mode: Mode, b: u8) -> Mode
+fn next_mode(mode: LineMode, b: u8) -> LineMode
     ensures { result ≡ next_mode mode b }
 {
     match mode {
-        Mode::Comment => if b == b'\n' {
-            Mode::LineStart
+        LineMode::Comment => if b == b'\n' {
+            LineMode::LineStart
         } else {
-            Mode::Comment
+            LineMode::Comment
         },
-        Mode::LineStart => if b == b'c' { Mode::Comment } else { behind(b) },
-        Mode::InLine | Mode::InWord => behind(b),
+        LineMode::LineStart => if b == b'c' {
+            LineMode::Comment
+        } else {
+            behind(b)
+        },
+        LineMode::InLine | LineMode::InWord => behind(b),
     }
 }
 
-fn begins_word(mode: Mode, b: u8) -> bool
+fn begins_word(mode: LineMode, b: u8) -> bool
     ensures { result ≡ begins_word mode b }
 {
     match mode {
-        Mode::Comment | Mode::InWord => false,
-        Mode::LineStart => if b == b'c' { false } else { !is_blank(b) },
-        Mode::InLine => !is_blank(b),
+        LineMode::Comment | LineMode::InWord => false,
+        LineMode::LineStart => if b == b'c' { false } else { !is_blank(b) },
+        LineMode::InLine => !is_blank(b),
     }
 }
 
@@ -96,7 +100,7 @@ fn word_len(bytes: &[u8]) -> usize
 }
 
 // Goes over blanks and comments, up to the first byte of a word.
-fn at_word<'a>(rest: &'a [u8], at: u64, mode: Mode) -> (&'a [u8], u64, Mode)
+fn at_word<'a>(rest: &'a [u8], at: u64, mode: LineMode) -> (&'a [u8], u64, LineMode)
     requires { at + length rest.now < 2 ^ 63 }
     ensures place { result.1 + length result.0.now ≡ at + length rest.now }
     ensures start { IsAtStart result.2 result.0.now }
@@ -124,7 +128,7 @@ impl<'a> Words<'a> {
         Words {
             rest: text,
             at: 0,
-            mode: Mode::LineStart,
+            mode: LineMode::LineStart,
         }
     }
 
@@ -140,7 +144,7 @@ impl<'a> Words<'a> {
         let (text, after) = rest.split_at(len);
         self.rest = after;
         self.at = at + len as u64;
-        self.mode = Mode::InWord;
+        self.mode = LineMode::InWord;
         Some(Word { at, text })
     }
 
@@ -153,7 +157,7 @@ impl<'a> Words<'a> {
         let [blank, bytes @ ..] = self.rest else {
             return None;
         };
-        let Mode::InWord = self.mode else {
+        let LineMode::InWord = self.mode else {
             return None;
         };
         if !is_blank(*blank) {
@@ -178,7 +182,7 @@ impl<'a> Words<'a> {
         let [blank, bytes @ ..] = self.rest else {
             return 0;
         };
-        let Mode::InWord = self.mode else {
+        let LineMode::InWord = self.mode else {
             return 0;
         };
         if !is_blank(*blank) {

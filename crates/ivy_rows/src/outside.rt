@@ -1,7 +1,7 @@
 // The words, the file, the sinks and the memory.
 use crate::running::{ends, files, reports, run_on, run_over, sink};
 use ivy_run::Written;
-use rml_bytes::{Bytes, MemFiles, MemSink, Name};
+use rml_bytes::{Bytes, FileName, MemFiles, MemSink};
 use std::alloc::Global;
 use std::process::Abort;
 use std::test::Fail;
@@ -86,7 +86,7 @@ fn files_that_cannot_be_read(rt: HostRuntime) -> Result<(), Fail> {
     let alloc = rt.alloc();
     let missing = run_on(alloc, &["check", "other"], BROKEN)?;
     ends(&rt, &missing, 5, "read fault", "", UNREAD);
-    let name = Name::from_slice(alloc, b"model")?;
+    let name = FileName::from_slice(alloc, b"model")?;
     let held = vec![in alloc; (name, Bytes::new(alloc))]?;
     let failing = MemFiles::new(held, vec![in alloc; 1]?);
     let left = run_over(

@@ -3,7 +3,7 @@ ghost use Rattle.rml_bytes.specs.Memory.{IncreaseAbove};
 
 use crate::running::{Left, ends, run_over, sink};
 use ivy_run::Written;
-use rml_bytes::{Bytes, MemFiles, Name};
+use rml_bytes::{Bytes, FileName, MemFiles};
 use std::alloc::Global;
 use std::process::Abort;
 use std::test::Fail;
@@ -22,8 +22,8 @@ fn two_files(alloc: Global, formula: &[u8], log: &[u8], failing: Vec<u64>) -> Re
 {
     let formula = Bytes::from_vec(formula.to_vec(alloc)?);
     let log = Bytes::from_vec(log.to_vec(alloc)?);
-    let first = Name::from_slice(alloc, b"cnf")?;
-    let second = Name::from_slice(alloc, b"log")?;
+    let first = FileName::from_slice(alloc, b"cnf")?;
+    let second = FileName::from_slice(alloc, b"log")?;
     let files = vec![in alloc; (first, formula), (second, log)]?;
     Ok(MemFiles::new(files, failing))
 }

@@ -1,6 +1,6 @@
 // A run of the whole program over memory, and what it leaves.
 use ivy_run::{Outcome, Written, run};
-use rml_bytes::{Bytes, MemFiles, MemSink, Name};
+use rml_bytes::{Bytes, FileName, MemFiles, MemSink};
 use std::alloc::Global;
 use std::process::Abort;
 use std::test::Fail;
@@ -27,7 +27,7 @@ fn words_of(alloc: Global, words: &[&str]) -> Result<Vec<String>, Fail> {
 
 /// Files that hold one, `model`.
 pub fn files(alloc: Global, text: &[u8]) -> Result<MemFiles, Fail> {
-    let name = Name::from_slice(alloc, b"model")?;
+    let name = FileName::from_slice(alloc, b"model")?;
     let bytes = Bytes::from_vec(text.to_vec(alloc)?);
     let files = vec![in alloc; (name, bytes)]?;
     Ok(MemFiles::new(files, Vec::new(alloc)))

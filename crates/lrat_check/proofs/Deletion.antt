@@ -2,7 +2,7 @@
 use Rattle.std.proofs.Common.{◌≡◌, ℕ, zero, suc, ◌+◌, ◌<◌, ◌||◌, ◌⊎◌, eqb, Bool, true, false, cond, List, [], ◌∷◌, ◌++◌, length, get_or, set, take, drop, refl, arith, ap, sym, ◌∙◌, inl, inr, Some, None, is_some}
 use mathlib.Core.Path.{fun_ext}
 use Rattle.std.proofs.lemmas.Grind.{common_steps}
-use Rattle.std.proofs.lemmas.List.{get_or_default, take_more, length-set}
+use Rattle.std.proofs.lemmas.List.{get_or_default, take_more, length-set, drop_more}
 use Rattle.lrat_log.specs.declared.outcome.Outcome.TheVariants.{Refused}
 use Rattle.cnf_base.specs.Literals.{member}
 use Rattle.lrat_log.specs.Held.{Held, without}
@@ -10,7 +10,6 @@ use Rattle.lrat_log.specs.Accepted.{outcome_of_deletion}
 use Rattle.lrat_check.proofs.Literals.{member-append}
 use Rattle.lrat_check.specs.declared.spans.Span.{Span}
 use Rattle.lrat_check.specs.Spans.{marked, held_in, entry_of_span, AreSorted, AreWithin}
-use Rattle.lrat_check.proofs.Steps.{drop_step}
 use Rattle.lrat_check.proofs.Marks.{marked-set}
 use Rattle.lrat_check.proofs.Search.{held_at, held_nowhere}
 
@@ -34,7 +33,7 @@ pub deletion_step : (held : Held) (ids : List ℕ) (i : ℕ) → i < length ids
     → outcome_of_deletion (without held (take i ids)) (drop i ids)
     ≡ cond (is_some (without held (take i ids) (get_or ids i 0))) (outcome_of_deletion (without held (take (i + 1) ids)) (drop (i + 1) ids)) (Refused 1)
 deletion_step held ids i h =
-    ap (outcome_of_deletion (without held (take i ids))) (drop_step ids i h)
+    ap (outcome_of_deletion (without held (take i ids))) (drop_more ids i 0 h)
     ∙ ap (λ (w : Held). cond (is_some (without held (take i ids) (get_or ids i 0))) (outcome_of_deletion w (drop (i + 1) ids)) (Refused 1)) (without_more held ids i h)
 
 pub deletion_refused : (held : Held) (ids : List ℕ) (i : ℕ) → i < length ids

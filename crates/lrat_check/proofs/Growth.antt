@@ -7,19 +7,11 @@ use Rattle.std.proofs.lemmas.List.{take-append-le, drop-append-le}
 use Rattle.std.proofs.Math.Seq.{drop-append_seam}
 use Rattle.std.specs.List.{slice_range}
 use Rattle.std.proofs.lemmas.List.Elements.{All-push, All-weaker}
+use Rattle.base.proofs.Lists.{slice_range-append, slice_range-seam}
 use Rattle.cnf_base.specs.declared.cnf.Entry.TheVariants.{Clause, True}
 use Rattle.lrat_log.specs.Held.{with_entry}
 use Rattle.lrat_check.specs.declared.spans.Span.{Span}
 use Rattle.lrat_check.specs.Spans.{held_in, entry_of_span, AreSorted, AreWithin, AreUpTo}
-
-pub slice_range-append : (xs ys : List ℕ) (i j : ℕ) → i ≤ j → j ≤ length xs → slice_range (xs ++ ys) i j ≡ slice_range xs i j
-slice_range-append xs ys i j h g =
-    let a : i ≤ length xs = omega arith in
-    let b : j - i ≤ length (drop i xs) = grind (arith, common_steps, h, g) in
-    rw (drop-append-le i xs ys a) (take-append-le (j - i) (drop i xs) ys b)
-
-pub slice_range-seam : (xs ys : List ℕ) (n : ℕ) → n ≡ length xs + length ys → slice_range (xs ++ ys) (length xs) n ≡ ys
-slice_range-seam xs ys n e = rw (drop-append_seam xs ys) (grind (arith, common_steps, e))
 
 pub entry_of_span-append : (xs ys : List ℕ) (r : Span) → r.start ≤ r.end → r.end ≤ length xs → entry_of_span (xs ++ ys) r ≡ entry_of_span xs r
 entry_of_span-append xs ys r h g =

@@ -2,12 +2,12 @@
 use Rattle.std.proofs.Common.{◌≡◌, ℕ, zero, suc, ◌+◌, ◌<◌, ◌||◌, true, false, List, [], ◌∷◌, length, get_or, set, drop, arith, ap}
 use mathlib.Core.Path.{fun_ext}
 use Rattle.std.proofs.lemmas.Grind.{common_steps}
+use Rattle.std.proofs.lemmas.List.{drop_more}
 use Rattle.cnf_base.specs.Literals.{opposite, member}
 use Rattle.cnf_base.specs.Clauses.{has_opposites}
 use Rattle.lrat_log.specs.Accepted.{also, all_false}
 use Rattle.lrat_check.proofs.Literals.{opposite-opposite}
 use Rattle.lrat_check.specs.Spans.{marked, AreUpTo}
-use Rattle.lrat_check.proofs.Steps.{drop_step}
 
 pub marked-set : (stamps : List ℕ) (epoch l : ℕ) → l < length stamps → (x : ℕ)
     → marked (set stamps l epoch) epoch x ≡ also (marked stamps epoch) l x
@@ -18,7 +18,7 @@ marked_also stamps epoch l h = fun_ext (marked-set stamps epoch l h)
 
 pub has_opposites_step : (ls : List ℕ) (i : ℕ) → i < length ls
     → has_opposites (drop i ls) ≡ (member (opposite (get_or ls i 0)) (drop (i + 1) ls) || has_opposites (drop (i + 1) ls))
-has_opposites_step ls i h = ap has_opposites (drop_step ls i h)
+has_opposites_step ls i h = ap has_opposites (drop_more ls i 0 h)
 
 pub has_opposites-from_drop : (i : ℕ) (ls : List ℕ) → has_opposites (drop i ls) ≡ true → has_opposites ls ≡ true
 has_opposites-from_drop zero ls h = h
@@ -33,7 +33,7 @@ pub mark_step : (stamps ls : List ℕ) (epoch i : ℕ) → i < length ls → opp
     → (x : ℕ) → marked (set stamps (opposite (get_or ls i 0)) epoch) epoch x ≡ all_false (drop i ls) x
 mark_step stamps ls epoch i h g m x =
     let a = marked-set stamps epoch (opposite (get_or ls i 0)) g x in
-    let b = ap (λ (zs : List ℕ). member (opposite x) zs) (drop_step ls i h) in
+    let b = ap (λ (zs : List ℕ). member (opposite x) zs) (drop_more ls i 0 h) in
     let o = opposite-opposite x in
     let p = opposite-opposite (get_or ls i 0) in
     let mx = m x in

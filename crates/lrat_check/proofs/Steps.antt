@@ -1,6 +1,7 @@
 -- The steps of the loops over a clause and over hints.
 use Rattle.std.proofs.Common.{◌≡◌, ℕ, ◌+◌, ◌<◌, ◌||◌, ◌&&◌, eqb, Bool, false, cond, List, ◌∷◌, length, get_or, drop, refl, ap, sym, ◌∙◌, add-one}
 use Rattle.std.proofs.Math.Seq.{drop-cons}
+use Rattle.std.proofs.lemmas.List.{drop_more}
 use Rattle.lrat_log.specs.declared.outcome.Effect.{Effect}
 use Rattle.lrat_log.specs.declared.outcome.Effect.TheVariants.{Sets}
 use Rattle.cnf_base.specs.Literals.{opposite}
@@ -10,22 +11,19 @@ use Rattle.lrat_log.specs.declared.outcome.Outcome.{Outcome}
 use Rattle.lrat_log.specs.Held.{Held}
 use Rattle.lrat_log.specs.Accepted.{all_false, outcome_of_addition, all_but, effect_of_clause, effect_at, outcome_of_hints, by_effect, effect_of_entry, also}
 
-pub drop_step : (xs : List ℕ) (i : ℕ) → i < length xs → drop i xs ≡ get_or xs i 0 ∷ drop (i + 1) xs
-drop_step xs i h = rw (add-one, drop-cons xs i 0) refl
-
 pub all_but_step : (set : ℕ → Bool) (l : ℕ) (c : List ℕ) (i : ℕ) → i < length c
     → all_but set l (drop i c) ≡ ((eqb (get_or c i 0) l || set (opposite (get_or c i 0))) && all_but set l (drop (i + 1) c))
-all_but_step set l c i h = ap (all_but set l) (drop_step c i h)
+all_but_step set l c i h = ap (all_but set l) (drop_more c i 0 h)
 
 pub effect_step : (set : ℕ → Bool) (c : List ℕ) (i : ℕ) → i < length c
     → effect_of_clause set (drop i c)
     ≡ cond (set (opposite (get_or c i 0))) (effect_of_clause set (drop (i + 1) c)) (effect_at set (get_or c i 0) (drop (i + 1) c))
-effect_step set c i h = ap (effect_of_clause set) (drop_step c i h)
+effect_step set c i h = ap (effect_of_clause set) (drop_more c i 0 h)
 
 pub outcome_step : (held : Held) (hs : List ℕ) (set : ℕ → Bool) (i : ℕ) → i < length hs
     → outcome_of_hints held (drop i hs) set
     ≡ by_effect (effect_of_entry set (held (get_or hs i 0))) (λ l. outcome_of_hints held (drop (i + 1) hs) (also set l))
-outcome_step held hs set i h = ap (λ (ks : List ℕ). outcome_of_hints held ks set) (drop_step hs i h)
+outcome_step held hs set i h = ap (λ (ks : List ℕ). outcome_of_hints held ks set) (drop_more hs i 0 h)
 
 pub hint_sets : (held : Held) (hs : List ℕ) (set : ℕ → Bool) (i l : ℕ) → i < length hs → Sets l ≡ effect_of_entry set (held (get_or hs i 0))
     → outcome_of_hints held (drop i hs) set ≡ outcome_of_hints held (drop (i + 1) hs) (also set l)

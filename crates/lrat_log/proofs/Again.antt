@@ -5,8 +5,8 @@ use Rattle.std.specs.Str.{bytes_eq}
 use Rattle.std.proofs.lemmas.Bool.{ne_eqb, le-ltb, lt-leb}
 use Rattle.std.proofs.lemmas.List.{append-nil}
 use Rattle.std.proofs.lemmas.Slice.Eq.{bytes_eq-Decides}
-use Rattle.cnf_base.specs.declared.text.Mode.{Mode}
-use Rattle.cnf_base.specs.declared.text.Mode.TheVariants.{LineStart, InLine}
+use Rattle.cnf_base.specs.declared.text.LineMode.{LineMode}
+use Rattle.cnf_base.specs.declared.text.LineMode.TheVariants.{LineStart, InLine}
 use Rattle.cnf_base.specs.declared.text.Numeral.{Numeral}
 use Rattle.cnf_base.specs.Literals.{literal_of, variable_of, is_positive, IsLiteral, AreLiterals}
 use Rattle.cnf_base.specs.Words.{Word, is_blank, behind, words_from}
@@ -23,10 +23,10 @@ use Rattle.lrat_log.specs.Writing.{ids_text, text_of}
 
 -- what is known of words, from the crate of the words
 pub record AreWords : Type 0 where
-  pub number : (mode : Mode) (n : ℕ) (rest : List ℕ) (b at : ℕ) → IsBetween mode → n ≤ 2147483647 → is_blank b ≡ true
+  pub number : (mode : LineMode) (n : ℕ) (rest : List ℕ) (b at : ℕ) → IsBetween mode → n ≤ 2147483647 → is_blank b ≡ true
       → words_from mode at (decimal n ++ b ∷ rest) ≡ record { at = at; text = decimal n } ∷ words_from (behind b) (at + length (decimal n) + 1) rest
   pub number_value : (n : ℕ) → n ≤ 2147483647 → number_of (decimal n) ≡ Some (record { negative = false; value = n })
-  pub literal : (mode : Mode) (n l : ℕ) (rest : List ℕ) (at : ℕ) → IsBetween mode → n ≤ 2147483647 → IsLiteral n l
+  pub literal : (mode : LineMode) (n l : ℕ) (rest : List ℕ) (at : ℕ) → IsBetween mode → n ≤ 2147483647 → IsLiteral n l
       → words_from mode at (literal_text l ++ 32 ∷ rest) ≡ record { at = at; text = literal_text l } ∷ words_from InLine (at + length (literal_text l) + 1) rest
   pub literal_value : (n l : ℕ) → n ≤ 2147483647 → IsLiteral n l → number_of (literal_text l) ≡ Some (record { negative = not (is_positive l); value = variable_of l })
   pub same : (l : ℕ) → literal_of (not (not (is_positive l))) (variable_of l) ≡ l

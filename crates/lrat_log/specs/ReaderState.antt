@@ -21,14 +21,14 @@ state_of r = record {
   ids = r.ids.items;
 }
 
-abbrev pub Takes : Result State LogFault → Reading → Result (Unit {0}) (Refused LogFault) → Type 0
-Takes said new (Ok u) = said ≡ Ok (state_of new)
-Takes said new (Err e) = Fails said e
+abbrev pub StepsTo : Result State LogFault → Reading → Result (Unit {0}) (Refused LogFault) → Type 0
+StepsTo said new (Ok u) = said ≡ Ok (state_of new)
+StepsTo said new (Err e) = Fails said e
 
 -- Some words are taken: what is left says what the whole says, or the whole has the fault.
-abbrev pub Goes : State → List Word → Reading → List Word → Result (Unit {0}) (Refused LogFault) → Type 0
-Goes s words new left (Ok u) = (end : ℕ) → read_words (state_of new) left end ≡ read_words s words end
-Goes s words new left (Err e) = (end : ℕ) → Fails (read_words s words end) e
+abbrev pub ReadsOn : State → List Word → Reading → List Word → Result (Unit {0}) (Refused LogFault) → Type 0
+ReadsOn s words new left (Ok u) = (end : ℕ) → read_words (state_of new) left end ≡ read_words s words end
+ReadsOn s words new left (Err e) = (end : ℕ) → Fails (read_words s words end) e
 
 -- whether the next word is a hint, or an id to delete
 abbrev pub is_for_ids : Stage → Bool

@@ -6,7 +6,7 @@ ghost use Rattle.lrat_log.specs.declared.line.Line.{Line};
 ghost use Rattle.lrat_log.specs.Logs.{IsLog, IsLogOver};
 ghost use Rattle.lrat_log.specs.Places.{StandsBy};
 ghost use Rattle.lrat_log.specs.Reading.{at_start, take_id, take_literal, take_second, take_hint, take_deleted, take_word, with_addition, with_deletion, ended, read_words, read_of};
-ghost use Rattle.lrat_log.specs.ReaderState.{state_of, is_for_ids, Takes, Goes};
+ghost use Rattle.lrat_log.specs.ReaderState.{state_of, is_for_ids, StepsTo, ReadsOn};
 ghost use Rattle.base.specs.Because.{Because};
 ghost use Rattle.base.specs.declared.refused.Refused.{Refused};
 ghost use Rattle.base.specs.declared.refused.Refused.TheVariants.{For};
@@ -53,7 +53,7 @@ impl Reading {
     }
 
     fn take_id(&mut self, number: Option<Numeral>, at: u64) -> Result<(), Refused<LogFault>>
-        ensures { Takes (take_id (state_of self.old) number at) self.new result }
+        ensures { StepsTo (take_id (state_of self.old) number at) self.new result }
     {
         let Some(number) = number else {
             return Err(fault(1, at));
@@ -72,7 +72,7 @@ impl Reading {
 
     fn take_literal(&mut self, number: Option<Numeral>, at: u64) -> Result<(), Refused<LogFault>>
         requires { IfSome number (λ n. n.value < 2 ^ 31) }
-        ensures { Takes (take_literal (state_of self.old) number at) self.new result }
+        ensures { StepsTo (take_literal (state_of self.old) number at) self.new result }
     {
         let Some(number) = number else {
             return Err(fault(1, at));
@@ -94,7 +94,7 @@ impl Reading {
     }
 
     fn take_second(&mut self, word: &[u8], at: u64) -> Result<(), Refused<LogFault>>
-        ensures { Takes (take_second (state_of self.old) (record { at = at; text = word.now })) self.new result }
+        ensures { StepsTo (take_second (state_of self.old) (record { at = at; text = word.now })) self.new result }
     {
         if word == b"d".as_slice() {
             self.stage = Stage::Deleted;
@@ -112,7 +112,7 @@ impl Reading {
         number: Option<Numeral>,
         at: u64,
     ) -> Result<(), Refused<LogFault>>
-        ensures { Takes (take_hint (state_of self.old) number at) self.new result }
+        ensures { StepsTo (take_hint (state_of self.old) number at) self.new result }
     {
         let Some(number) = number else {
             return Err(fault(1, at));
@@ -135,7 +135,7 @@ impl Reading {
         number: Option<Numeral>,
         at: u64,
     ) -> Result<(), Refused<LogFault>>
-        ensures { Takes (take_deleted (state_of self.old) number at) self.new result }
+        ensures { StepsTo (take_deleted (state_of self.old) number at) self.new result }
     {
         let Some(number) = number else {
             return Err(fault(1, at));
@@ -153,7 +153,7 @@ impl Reading {
     }
 
     fn push_id(&mut self, id: u64) -> Result<(), Refused<LogFault>>
-        ensures { Takes (Ok (record (state_of self.old) { ids = self.old.ids.items ++ id ∷ [] })) self.new result }
+        ensures { StepsTo (Ok (record (state_of self.old) { ids = self.old.ids.items ++ id ∷ [] })) self.new result }
     {
         match self.ids.push(id) {
             Ok(()) => Ok(()),
@@ -199,7 +199,7 @@ impl Reading {
         at: u64,
     ) -> Result<(), Refused<LogFault>>
         requires { number.value < 2 ^ 31 }
-        ensures { (text : List ℕ) → number_of text ≡ Some number → Takes (take_word (state_of self.old) (record { at = at; text = text })) self.new result }
+        ensures { (text : List ℕ) → number_of text ≡ Some number → StepsTo (take_word (state_of self.old) (record { at = at; text = text })) self.new result }
     {
         match self.stage {
             Stage::Id => self.take_id(Some(number), at),
@@ -243,7 +243,7 @@ impl Reading {
         alloc: Global,
         words: &mut Words<'_>,
     ) -> Result<(), Refused<LogFault>>
-        ensures taken { Goes (state_of self.old) words.old self.new words.new result }
+        ensures taken { ReadsOn (state_of self.old) words.old self.new words.new result }
         ensures shorter { length words.new ≤ length words.old }
     {
         while let Some((at, number)) = words.next_number() {
@@ -259,7 +259,7 @@ impl Reading {
     }
 
     fn take_word(&mut self, alloc: Global, word: &[u8], at: u64) -> Result<(), Refused<LogFault>>
-        ensures { Takes (take_word (state_of self.old) (record { at = at; text = word.now })) self.new result }
+        ensures { StepsTo (take_word (state_of self.old) (record { at = at; text = word.now })) self.new result }
     {
         match self.stage {
             Stage::Id => self.take_id(number_of(word), at),

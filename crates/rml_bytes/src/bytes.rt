@@ -60,25 +60,25 @@ impl Bytes {
     }
 }
 
-/// The name of a file, or one that a model declares.
+/// The name of a file: any bytes.
 #[derive(Drop)]
-pub struct Name {
+pub struct FileName {
     letters: Vec<u8>,
 }
 
-impl Model for Name {
+impl Model for FileName {
     ghost Value = { List ℕ };
 
     ghost view = { λ n. n.letters.items };
 }
 
-impl Name {
+impl FileName {
     /// A copy of these letters.
-    pub fn from_slice(alloc: Global, letters: &[u8]) -> Mem<Name>
+    pub fn from_slice(alloc: Global, letters: &[u8]) -> Mem<FileName>
         ensures { IfOk result (λ n. n ≡ letters.now) }
     {
         let letters = letters.to_vec(alloc)?;
-        Ok(Name { letters })
+        Ok(FileName { letters })
     }
 
     pub fn as_slice(&self) -> &[u8]

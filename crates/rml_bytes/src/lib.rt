@@ -10,7 +10,7 @@ mod memory;
 mod outside;
 mod system;
 
-pub use bytes::{Bytes, Name};
+pub use bytes::{Bytes, FileName};
 pub use memory::{MemFiles, MemSink};
 pub use outside::{Failed, Files, LoadError, Sink};
 pub use system::{DiskFiles, StdSink};

@@ -3,7 +3,7 @@ ghost use Rattle.std.specs.Prelude.{◌≡◌, ◌⊎◌, List, [], ℕ, IfOk, I
 ghost use Rattle.rml_bytes.specs.Memory.{NamesDiffer, IncreaseAbove, new_shelf, told_by, fails_next, called, new_slot, fault_at, after_put, put_fails, firsts};
 ghost use Rattle.rml_bytes.specs.Outside.{Told, Loads, Takes, HasCause, absent, whole};
 
-use crate::{Bytes, Failed, Files, LoadError, Name, Sink};
+use crate::{Bytes, Failed, FileName, Files, LoadError, Sink};
 use base::Mem;
 use std::alloc::Global;
 use std::marker::Model;
@@ -11,7 +11,7 @@ use std::marker::Model;
 /// Files that stand in memory, and tell their names and bytes.
 #[derive(Drop)]
 pub struct MemFiles {
-    files: Vec<(Name, Bytes)>,
+    files: Vec<(FileName, Bytes)>,
     failing: Vec<u64>,
     calls: u64,
     faults: u64,
@@ -27,7 +27,7 @@ impl Model for MemFiles {
 
 impl MemFiles {
     /// `failing` has the numbers of the loads that are to fail, from 1.
-    pub fn new(files: Vec<(Name, Bytes)>, failing: Vec<u64>) -> Self
+    pub fn new(files: Vec<(FileName, Bytes)>, failing: Vec<u64>) -> Self
         requires names { NamesDiffer files.items }
         requires calls { IncreaseAbove 0 failing.items }
         ensures { result ≡ new_shelf files.items failing.items }
@@ -42,7 +42,7 @@ impl MemFiles {
 }
 
 // The bytes under a name, where it is held.
-fn find<'a>(files: &'a [(Name, Bytes)], name: &[u8]) -> Option<&'a Bytes>
+fn find<'a>(files: &'a [(FileName, Bytes)], name: &[u8]) -> Option<&'a Bytes>
     ensures { MatchOption result (told_by files.now name.now ≡ absent) (λ b. told_by files.now name.now ≡ whole b.now) }
 {
     let mut rest = files;

@@ -3,13 +3,11 @@ use Rattle.std.proofs.Common.{◌≡◌, ◌⊎◌, inl, inr, ℕ, zero, suc, �
 use Rattle.std.proofs.Math.Nat.{mul-le-mul_left, mul-le-mul_right}
 use Rattle.std.proofs.lemmas.Bool.{cases_lt}
 use Rattle.std.specs.List.{flat_map}
+use Rattle.std.proofs.lemmas.List.{map-append}
+use Rattle.base.proofs.Lists.{flat_map-append}
 use Rattle.rml_command.specs.Trees.{PrimitiveTree}
 use Rattle.rml_command.specs.Paths.{is_abort, has_abort, continued}
 use Rattle.rml_command.specs.Counts.{open_count, stopped_count, capped}
-
-flat_map-append : {A B : Type 0} (f : A → List B) (xs ys : List A) → flat_map f (xs ++ ys) ≡ flat_map f xs ++ flat_map f ys
-flat_map-append f [] ys = refl
-flat_map-append f (x ∷ xs) ys = ap (λ z. f x ++ z) (flat_map-append f xs ys) ∙ sym (append_assoc (f x) (flat_map f xs) (flat_map f ys))
 
 -- a path of two parts has the aborts of both
 pub has_abort-append : (p q : List PrimitiveTree) → has_abort (p ++ q) ≡ (has_abort p || has_abort q)
@@ -27,10 +25,6 @@ map-append-append : (p a : List PrimitiveTree) (bs : List (List PrimitiveTree)) 
 map-append-append p a [] = refl
 map-append-append p a (b ∷ bs) = let e = append_assoc p a b in let f = map-append-append p a bs in cc (e, f)
 
-map-two : {A B : Type 0} (f : A → B) (xs ys : List A) → map f (xs ++ ys) ≡ map f xs ++ map f ys
-map-two f [] ys = refl
-map-two f (x ∷ xs) ys = ap (λ z. f x ∷ z) (map-two f xs ys)
-
 -- going on under a first part
 under : (p a : List PrimitiveTree) (bs : List (List PrimitiveTree)) → has_abort p ≡ false → continued bs (p ++ a) ≡ map (λ q. p ++ q) (continued bs a)
 under p a bs e = ap (λ b. cond b ((p ++ a) ∷ []) (map (λ q. (p ++ a) ++ q) bs)) (open-append p a e) ∙ cases (has_abort a)
@@ -44,7 +38,7 @@ all_under p [] bs e = refl
 all_under p (a ∷ xs) bs e =
     let one = under p a bs e in
     let rest = all_under p xs bs e in
-    ap (λ z. z ++ flat_map (continued bs) (map (λ q. p ++ q) xs)) one ∙ ap (λ z. map (λ q. p ++ q) (continued bs a) ++ z) rest ∙ sym (map-two (λ q. p ++ q) (continued bs a) (flat_map (continued bs) xs))
+    ap (λ z. z ++ flat_map (continued bs) (map (λ q. p ++ q) xs)) one ∙ ap (λ z. map (λ q. p ++ q) (continued bs a) ++ z) rest ∙ sym (map-append (λ q. p ++ q) (continued bs a) (flat_map (continued bs) xs))
 
 twice : (b : Bool) (p : List PrimitiveTree) (xs bs : List (List PrimitiveTree)) → has_abort p ≡ b → flat_map (continued bs) (cond b (p ∷ []) (map (λ q. p ++ q) xs)) ≡ cond b (p ∷ []) (map (λ q. p ++ q) (flat_map (continued bs) xs))
 twice true p xs bs e = append-nil (continued bs p) ∙ ap (λ b. cond b (p ∷ []) (map (λ q. p ++ q) bs)) e

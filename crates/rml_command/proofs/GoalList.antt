@@ -4,6 +4,7 @@ use Rattle.std.specs.Prelude.{slice_get}
 use Rattle.std.specs.List.{AllByRecursion, flat_map}
 use Rattle.std.proofs.lemmas.Bool.{cases_lt}
 use Rattle.std.proofs.lemmas.Option.{slice_get_past}
+use Rattle.base.proofs.Lists.{all_append}
 use Rattle.rml_command.specs.Trees.{PrimitiveTree}
 use Rattle.rml_command.specs.Models.{ModelTree}
 use Rattle.rml_command.specs.Goals.{Group, stage_groups, groups_of, paths_of_block, stage_paths, is_for, goals_among, group_goals, goals_of, HasAbout, IsGoal}
@@ -52,18 +53,13 @@ put group n (q ∷ ps) (suc i) j p P e at kind h = later (is_for group.about q) 
     later true t = inr t
     later false t = t
 
--- all and some of counted groups
-all_two : {X : Type 0} (P : X → Type 0) (xs ys : List X) → AllByRecursion P xs → AllByRecursion P ys → AllByRecursion P (xs ++ ys)
-all_two P [] ys h g = g
-all_two P (x ∷ xs) ys h g = (h.0, all_two P xs ys h.1 g)
-
 all_map : {X : Type 0} (P : X → Type 0) (f : ℕ → X) (from n : ℕ) → ((k : ℕ) → k < from + n → P (f k)) → AllByRecursion P (map f (count_from from n))
 all_map P f from zero each = tt
 all_map P f from (suc n) each = (each from (omega arith), all_map P f (suc from) n (λ k lt. each k (omega arith)))
 
 all_join : {X : Type 0} (P : X → Type 0) (F : ℕ → List X) (from n : ℕ) → ((k : ℕ) → k < from + n → AllByRecursion P (F k)) → AllByRecursion P (flat_map F (count_from from n))
 all_join P F from zero each = tt
-all_join P F from (suc n) each = all_two P (F from) _ (each from (omega arith)) (all_join P F (suc from) n (λ k lt. each k (omega arith)))
+all_join P F from (suc n) each = all_append P (F from) _ (each from (omega arith)) (all_join P F (suc from) n (λ k lt. each k (omega arith)))
 
 some_map : {X : Type 0} (P : X → Type 0) (f : ℕ → X) (from n k : ℕ) → k < n → P (f (from + k)) → SomeOf P (map f (count_from from n))
 some_map P f from zero k lt h = absurd (omega arith)
@@ -86,9 +82,9 @@ module _ (m : ModelTree) where
 
   groups_sound : AllByRecursion Sound (groups_of m)
   groups_sound =
-      all_two Sound (stage_groups m stage.Init) _
+      all_append Sound (stage_groups m stage.Init) _
       (tt, all_map Sound (λ k. record { stage = stage.Init; about = about.Conjecture k }) 0 (length m.conjectures) (λ k lt. omega arith))
-      (all_two Sound (flat_map (λ a. stage_groups m (stage.Action a)) (count_from 0 (length m.actions))) _
+      (all_append Sound (flat_map (λ a. stage_groups m (stage.Action a)) (count_from 0 (length m.actions))) _
       (all_join Sound (λ a. stage_groups m (stage.Action a)) 0 (length m.actions) (λ a lt. (tt, all_map Sound (λ k. record { stage = stage.Action a; about = about.Conjecture k }) 0 (length m.conjectures) (λ k lk. omega arith))))
       (tt, tt))
 

@@ -2,6 +2,8 @@
 use Rattle.std.proofs.Common.{◌≡◌, inl, inr, ℕ, zero, suc, ◌+◌, ◌<◌, Bool, true, false, not, ◌&&◌, cond, List, [], ◌∷◌, ◌++◌, length, map, Option, Some, None, refl, sym, ap, ◌∙◌, subst, arith, zero-add}
 use Rattle.std.specs.Prelude.{slice_get}
 use Rattle.std.specs.List.{AllByRecursion, flat_map}
+use Rattle.std.proofs.lemmas.Bool.{true_from_ne_false}
+use Rattle.base.proofs.Lists.{all_front, all_back, all_at, at-below}
 use Rattle.fol_sig.specs.Tables.{Tables, reading}
 use Rattle.fol_sig.specs.Symbols.{FitsStructure, symbols}
 use Rattle.fol_formula.specs.Syntax.{FormTree, forms_of}
@@ -25,15 +27,6 @@ use Rattle.rml_command.proofs.Following.{followed}
 use Rattle.rml_command.proofs.Structures.{IsLawful, kept, step_lawful}
 use Rattle.rml_command.proofs.Values.{falsified}
 
--- what is so of all of a list
-all_front : {X : Type 0} (P : X → Type 0) (xs ys : List X) → AllByRecursion P (xs ++ ys) → AllByRecursion P xs
-all_front P [] ys all = tt
-all_front P (x ∷ xs) ys all = (all.0, all_front P xs ys all.1)
-
-all_back : {X : Type 0} (P : X → Type 0) (xs ys : List X) → AllByRecursion P (xs ++ ys) → AllByRecursion P ys
-all_back P [] ys all = all
-all_back P (x ∷ xs) ys all = all_back P xs ys all.1
-
 all_counted : {X : Type 0} (P : X → Type 0) (f : ℕ → X) (from n : ℕ) → AllByRecursion P (map f (count_from from n)) → (k : ℕ) → k < n → P (f (from + k))
 all_counted P f from zero all k lt = absurd (omega arith)
 all_counted P f from (suc n) all zero lt = let e : from ≡ from + 0 = omega arith in subst (λ (i : ℕ). P (f i)) e all.0
@@ -47,16 +40,6 @@ all_flat P F from (suc n) all zero lt = let e : from ≡ from + 0 = omega arith 
 all_flat P F from (suc n) all (suc k) lt =
     let e : suc from + k ≡ from + suc k = omega arith in
     subst (λ (i : ℕ). AllByRecursion P (F i)) e (all_flat P F (suc from) n (all_back P (F from) _ all) k (omega arith))
-
-below : {X : Type 0} (xs : List X) (k : ℕ) (x : X) → slice_get xs k ≡ Some x → k < length xs
-below [] k x is = cc is
-below (y ∷ ys) zero x is = omega arith
-below (y ∷ ys) (suc k) x is = let l = below ys k x is in omega arith
-
-all_at : {X : Type 0} (P : X → Type 0) (xs : List X) (k : ℕ) (x : X) → slice_get xs k ≡ Some x → AllByRecursion P xs → P x
-all_at P [] k x is all = absurd (cc is)
-all_at P (y ∷ ys) zero x is all = let e : y ≡ x = cc is in subst P e all.0
-all_at P (y ∷ ys) (suc k) x is all = all_at P ys k x is all.1
 
 -- a path of the right kind is a goal
 all_but_first : (Q : Goal → Type 0) (b : Bool) (g : Goal) (rest : List Goal) → AllByRecursion Q (cond b (g ∷ rest) rest) → AllByRecursion Q rest
@@ -72,10 +55,6 @@ goal_among Q group (x ∷ ps) zero n j p e at is all =
     subst (λ (i : ℕ). Q (record { stage = group.stage; path = i; about = group.about })) number here.0
 goal_among Q group (x ∷ ps) (suc i) n j p e at is all =
     goal_among Q group ps i (suc n) j p (omega arith) at is (all_but_first Q (is_for group.about x) (record { stage = group.stage; path = n; about = group.about }) (goals_among group (suc n) ps) all)
-
-true_from : (b : Bool) → (b ≡ false → ⊥) → b ≡ true
-true_from true refuted = refl
-true_from false refuted = absurd (refuted refl)
 
 module _ (keep : UpdatesKeepSymbols) (m : ModelTree) where
   abbrev the_group : Stage → About → Group
@@ -102,7 +81,7 @@ module _ (keep : UpdatesKeepSymbols) (m : ModelTree) where
 
   keeps_conjecture : (st : Stage) (c : CommandTree) (s new : Tables) (k : ℕ) (q : FormTree) → block_of m st ≡ Some c → Holds m (the_group st (about.Conjecture k)) → FitsStructure (symbols m.signature) s → is_allowed m st s ≡ true → slice_get m.conjectures k ≡ Some q → HasOutcome m.axioms c s (ended new) → is_true new q ≡ true
   keeps_conjecture st c s new k q block holds fits allowed at h =
-      true_from (is_true new q) (λ broken.
+      true_from_ne_false (is_true new q) (λ broken.
       let v = falsified new q [] broken in
       no_such_end st (about.Conjecture k) c s (ended new) v.values block holds fits allowed h
       (λ p e. ap not (path_ends m.axioms p s new e))
@@ -141,7 +120,7 @@ module _ (keep : UpdatesKeepSymbols) (m : ModelTree) where
   ends_well : (st : Stage) (c : CommandTree) (s new : Tables) → block_of m st ≡ Some c → FitsCommand (symbols m.signature) c → Clear st → IsLawful m.axioms (symbols m.signature) s → is_allowed m st s ≡ true → HasOutcome m.axioms c s (ended new) → IsGood new
   ends_well st c s new block fits clear law allowed h = record {
     lawful = kept m.axioms (symbols m.signature) (IsLawful m.axioms (symbols m.signature)) (step_lawful keep m.axioms (symbols m.signature)) c s new fits law h;
-    conjectures = all_hold new m.conjectures (λ k q at. keeps_conjecture st c s new k q block (clear_at st clear k (below m.conjectures k q at)) law.structure allowed at h);
+    conjectures = all_hold new m.conjectures (λ k q at. keeps_conjecture st c s new k q block (clear_at st clear k (at-below m.conjectures k q at)) law.structure allowed at h);
   }
 
   allowed_if : (b c : Bool) → b ≡ true → c ≡ true → (b && c) ≡ true
@@ -165,10 +144,10 @@ module _ (keep : UpdatesKeepSymbols) (m : ModelTree) where
 
     step_well : (from : Tables) (good : IsGood from) (step : Step) (steps : List Step) (to : Outcome) → ((s : Tables) → IsGood s → Leads m (ended s) steps to → GoesWell steps to) → Leads m (ended from) (step ∷ steps) to → (e : Outcome) → step.outcome ≡ e → GoesWell (step ∷ steps) to
     step_well from good step steps to go leads aborted is =
-        absurd (no_abort (stage.Action step.action) leads.0 from leads.1 (actions step.action (below m.actions step.action leads.0 leads.1)).0 good.lawful.structure (good_allowed from good) (subst (λ (e : Outcome). From m leads.0 (ended from) e) is leads.2))
+        absurd (no_abort (stage.Action step.action) leads.0 from leads.1 (actions step.action (at-below m.actions step.action leads.0 leads.1)).0 good.lawful.structure (good_allowed from good) (subst (λ (e : Outcome). From m leads.0 (ended from) e) is leads.2))
     step_well from good step steps to go leads (ended s) is =
         let out = subst (λ (e : Outcome). From m leads.0 (ended from) e) is leads.2 in
-        let well = ends_well (stage.Action step.action) leads.0 from s leads.1 (all_at (FitsCommand (symbols m.signature)) m.actions step.action leads.0 leads.1 fits.blocks.actions) (actions step.action (below m.actions step.action leads.0 leads.1)) good.lawful (good_allowed from good) out in
+        let well = ends_well (stage.Action step.action) leads.0 from s leads.1 (all_at (FitsCommand (symbols m.signature)) m.actions step.action leads.0 leads.1 fits.blocks.actions) (actions step.action (at-below m.actions step.action leads.0 leads.1)) good.lawful (good_allowed from good) out in
         let rest = go s well (subst (λ (e : Outcome). Leads m e steps to) is leads.3) in
         record {
           end = rest.end;

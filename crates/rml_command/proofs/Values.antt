@@ -1,6 +1,6 @@
 -- A sentence is false exactly where some values for its leading quantifiers make its body false.
 use Rattle.std.proofs.Common.{◌≡◌, ◌⊎◌, inl, inr, ℕ, zero, suc, ◌<◌, Bool, true, false, ◌&&◌, List, [], ◌∷◌, refl, ap, ◌∙◌, ⊎_elim, arith}
-use Rattle.std.proofs.lemmas.Bool.{cases_lt}
+use Rattle.std.proofs.lemmas.Bool.{cases_lt, and_cases}
 use mathlib.Core.List.{reverse_aux}
 use Rattle.fol_sig.specs.Tables.{Tables, InRange, reading, size_at}
 use Rattle.fol_formula.specs.Syntax.{FormTree, top, bottom, rel, equal, negation, conjunction, disjunction, implication, equivalence, for_all, for_some}
@@ -8,15 +8,10 @@ use Rattle.fol_formula.specs.Truth.{truth, all_below}
 use Rattle.rml_command.specs.Goals.{leading_sorts, body_of}
 use Rattle.rml_command.specs.Laws.{FalsehoodHasValues}
 
--- a false sentence has values that make its body false
-pub and_parts : (a b : Bool) → (a && b) ≡ false → (a ≡ false) ⊎ (b ≡ false)
-and_parts true b e = inr e
-and_parts false b e = inl refl
-
 pub some_below : (n : ℕ) (p : ℕ → Bool) → all_below n p ≡ false → (x : ℕ) × (x < n) × (p x ≡ false)
 some_below zero p e = absurd (cc e)
 some_below (suc n) p e =
-    elim (and_parts (all_below n p) (p n) e) [
+    elim (and_cases (all_below n p) (p n) e) [
       | inl a ↦ (let r = some_below n p a in (r.0, omega (arith, r.1), r.2))
       | inr b ↦ (n, omega arith, b)
     ]

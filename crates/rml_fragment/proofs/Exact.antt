@@ -1,8 +1,9 @@
 -- A model has at most one fault, and none exactly where it can be checked.
 use Rattle.std.proofs.Common.{◌≡◌, ◌⊎◌, ℕ, zero, suc, ◌+◌, ◌<◌, ◌≤◌, nat_lt, Bool, true, false, List, [], ◌∷◌, length, get_or, refl, sym, ◌∙◌, ap, subst, inl, inr, arith}
 use Rattle.std.specs.List.{AllByRecursion}
-use Rattle.std.proofs.lemmas.Bool.{ltb-true, ltb-false}
+use Rattle.std.proofs.lemmas.Bool.{ltb-true, ltb-false, cases_lt}
 use Rattle.std.proofs.lemmas.Option.{slice_get-get_or}
+use Rattle.base.proofs.Lists.{all_more, all_both}
 use Rattle.fol_sig.specs.Symbols.{Symbols, symbols}
 use Rattle.fol_sig.specs.Strata.{IsWalk, IsOnCycle, with_functions}
 use Rattle.fol_sig.specs.Cycles.{CycleHasFirst}
@@ -46,14 +47,6 @@ one m f g (inr a) (inr b) = first_is_one (HasLongBlock m) f g a.1 b.1
 
 -- Lists.
 
-all_map : {A : Type 0} (P Q : A → Type 0) (xs : List A) → ((x : A) → P x → Q x) → AllByRecursion P xs → AllByRecursion Q xs
-all_map P Q [] h all = tt
-all_map P Q (x ∷ xs) h all = (h x all.0, all_map P Q xs h all.1)
-
-all_both : {A : Type 0} (P Q R : A → Type 0) (xs : List A) → ((x : A) → P x → Q x → R x) → AllByRecursion P xs → AllByRecursion Q xs → AllByRecursion R xs
-all_both P Q R [] h ps qs = tt
-all_both P Q R (x ∷ xs) h ps qs = (h x ps.0 qs.0, all_both P Q R xs h ps.1 qs.1)
-
 none_placed : {A : Type 0} (B : A → ℕ → Type 0) (xs : List A) (places : List ℕ) (f : Fault) → AllByRecursion (λ x. (code : ℕ) → B x code → ⊥) xs → SomePlaced B xs places f → ⊥
 none_placed B [] places f all h = h
 none_placed B (x ∷ xs) [] f all h = h
@@ -94,11 +87,11 @@ decidable_meets word.If p h = (h.0.0, h.1.0)
 stays : (m : ModelTree) (f : Fault) → IsInModelFragment m → m.places.quantifiers ≡ [] → Breaks m f → ⊥
 stays m f h none = elim [
   | inl cycle ↦ no_cycle m f h.functions cycle
-  | inr (inl ax) ↦ none_placed (Misses demand.ExistsForall) m.axioms m.places.axioms f (all_map IsEa _ m.axioms (λ p ea code miss. miss.1 ea.0) h.axioms) ax
+  | inr (inl ax) ↦ none_placed (Misses demand.ExistsForall) m.axioms m.places.axioms f (all_more IsEa _ (λ p ea code miss. miss.1 ea.0) m.axioms h.axioms) ax
   | inr (inr (inl cj)) ↦
-      none_placed (Misses demand.Universal) m.conjectures m.places.conjectures f (all_map IsPlainUniversal _ m.conjectures (λ p u code miss. miss.1 u.0) h.conjectures) cj
+      none_placed (Misses demand.Universal) m.conjectures m.places.conjectures f (all_more IsPlainUniversal _ (λ p u code miss. miss.1 u.0) m.conjectures h.conjectures) cj
   | inr (inr (inr (inl condition))) ↦
-      none_some _ m.places.conditions (all_map (λ c. IsDecidable c.word c.sentence) _ m.places.conditions (λ c d miss. miss.1.1 (decidable_meets c.word c.sentence d)) h.conditions) condition
+      none_some _ m.places.conditions (all_more (λ c. IsDecidable c.word c.sentence) _ (λ c d miss. miss.1.1 (decidable_meets c.word c.sentence d)) m.places.conditions h.conditions) condition
   | inr (inr (inr (inr quantifier))) ↦ none_some _ m.places.quantifiers (subst (AllByRecursion (λ at. (f.at ≡ at) × (f.code ≡ 18) → ⊥)) (sym none) tt) quantifier
 ]
 
@@ -108,7 +101,7 @@ is_short c code few many = omega (arith, few, many.1)
 short : (m : ModelTree) (f : Fault) → EachBlock HasFewPaths m → HasLongBlock m f → ⊥
 short m f h = elim [
   | inl init ↦ is_short m.init f.code h.init init.1
-  | inr (inl action) ↦ none_placed HasManyPaths m.actions m.places.actions f (all_map HasFewPaths _ m.actions (λ c few code many. is_short c code few many) h.actions) action
+  | inr (inl action) ↦ none_placed HasManyPaths m.actions m.places.actions f (all_more HasFewPaths _ (λ c few code many. is_short c code few many) m.actions h.actions) action
   | inr (inr last) ↦ is_short m.last f.code h.last last.1
 ]
 
@@ -118,24 +111,17 @@ checked m f h none (inr a) = short m f h.few_paths a.1.is_one
 
 -- A model without a fault can be checked.
 
-compared : (a b : ℕ) → (a < b) ⊎ (b ≤ a)
-compared a b = by (nat_lt a b) refl
-  where
-    by : (x : Bool) → nat_lt a b ≡ x → (a < b) ⊎ (b ≤ a)
-    by true e = inl (ltb-true a b e)
-    by false e = inr (ltb-false a b e)
-
 module _ (P : Fault → Type 0) (never : (f : Fault) → IsFirst P f → ⊥) where
   -- where no fault of P has a lesser place, none stands at this place
   none_at : (n : ℕ) → ((f : Fault) → P f → f.at < n → ⊥) → (k : ℕ) (f : Fault) → P f → f.at ≡ n → f.code < k → ⊥
   none_at n before zero f p e lt = omega (arith, lt)
   none_at n before (suc k) f p e lt = never f (record {
     is_one = p;
-    least = λ o q. elim (compared f.at o.at) [
+    least = λ o q. elim (cases_lt f.at o.at) [
       | inl less ↦ inl less
-      | inr more ↦ elim (compared o.at f.at) [
+      | inr more ↦ elim (cases_lt o.at f.at) [
         | inl less ↦ absurd (before o q (omega (arith, less, e)))
-        | inr back ↦ elim (compared o.code f.code) [
+        | inr back ↦ elim (cases_lt o.code f.code) [
           | inl less ↦ absurd (none_at n before k o q (omega (arith, more, back, e)) (omega (arith, less, lt)))
           | inr le ↦ inr (omega (arith, more, back), le)
         ]
@@ -145,7 +131,7 @@ module _ (P : Fault → Type 0) (never : (f : Fault) → IsFirst P f → ⊥) wh
 
   none_before : (n : ℕ) (f : Fault) → P f → f.at < n → ⊥
   none_before zero f p lt = omega (arith, lt)
-  none_before (suc n) f p lt = elim (compared f.at n) [
+  none_before (suc n) f p lt = elim (cases_lt f.at n) [
     | inl less ↦ none_before n f p less
     | inr more ↦ none_at n (none_before n) (suc f.code) f p (omega (arith, more, lt)) (omega arith)
   ]
@@ -213,28 +199,28 @@ fragment first decided m h never =
     let conjectures = all_placed (Misses demand.Universal) m.conjectures m.places.conjectures h.placed.conjectures (λ f c. never f (inr (inr (inl c)))) in
     let missed = all_conditions m.places.conditions (λ f c. never f (inr (inr (inr (inl c))))) in
     let conditions : AllByRecursion (λ c. IsDecidable c.word c.sentence) m.places.conditions =
-    all_both (λ c. (code : ℕ) → Misses (demand_of c.word) c.sentence code → ⊥) (λ c. HasPlainTerms c.sentence) _ m.places.conditions (λ c none plain. decidable c.word c.sentence (met decided (demand_of c.word) c.sentence none) plain) missed plain.conditions in
+    all_both (λ c. (code : ℕ) → Misses (demand_of c.word) c.sentence code → ⊥) (λ c. HasPlainTerms c.sentence) _ (λ c none plain. decidable c.word c.sentence (met decided (demand_of c.word) c.sentence none) plain) m.places.conditions missed plain.conditions in
     record {
       functions = first (symbols m.signature) (λ g is.
           let lt : g < length m.places.functions = omega (arith, is.known, h.placed.functions) in
           never (record { code = 15; at = get_or m.places.functions g 0 }) (inl (record { code = refl; function = g; first = is; at = slice_get-get_or m.places.functions g 0 lt })));
-      axioms = all_both _ HasPlainTerms IsEa m.axioms (λ p none plain. (met decided demand.ExistsForall p none, plain)) axioms plain.axioms;
-      conjectures = all_both _ HasPlainTerms IsPlainUniversal m.conjectures (λ p none plain. (met decided demand.Universal p none, plain)) conjectures plain.conjectures;
+      axioms = all_both _ HasPlainTerms IsEa (λ p none plain. (met decided demand.ExistsForall p none, plain)) m.axioms axioms plain.axioms;
+      conjectures = all_both _ HasPlainTerms IsPlainUniversal (λ p none plain. (met decided demand.Universal p none, plain)) m.conjectures conjectures plain.conjectures;
       conditions = conditions;
       blocks = record {
         init = command_in_fragment m.places.conditions conditions m.init h.written.init plain.blocks.init;
-        actions = all_both _ _ _ m.actions (command_in_fragment m.places.conditions conditions) h.written.actions plain.blocks.actions;
+        actions = all_both _ _ _ (command_in_fragment m.places.conditions conditions) m.actions h.written.actions plain.blocks.actions;
         last = command_in_fragment m.places.conditions conditions m.last h.written.last plain.blocks.last;
       };
     }
 
 few : (c : CommandTree) → ((code : ℕ) → HasManyPaths c code → ⊥) → HasFewPaths c
-few c never = elim (compared 4096 (length (paths_of c))) [ inl more ↦ absurd (never 20 (refl, more)) | inr le ↦ le ]
+few c never = elim (cases_lt 4096 (length (paths_of c))) [ inl more ↦ absurd (never 20 (refl, more)) | inr le ↦ le ]
 
 blocks_few : (m : ModelTree) → IsModel m → ((f : Fault) → HasLongBlock m f → ⊥) → EachBlock HasFewPaths m
 blocks_few m h never = record {
   init = few m.init (λ code many. never (record { code = code; at = m.places.init }) (inl (refl, many)));
-  actions = all_map _ HasFewPaths m.actions few (all_placed HasManyPaths m.actions m.places.actions h.placed.actions (λ f a. never f (inr (inl a))));
+  actions = all_more _ HasFewPaths few m.actions (all_placed HasManyPaths m.actions m.places.actions h.placed.actions (λ f a. never f (inr (inl a))));
   last = few m.last (λ code many. never (record { code = code; at = m.places.last }) (inr (inr (refl, many))));
 }
 

@@ -99,10 +99,3 @@ unless-first false code at R so = record { is_one = (refl, (refl, λ r. let e : 
 -- one fault is the first of itself
 pub alone-first : (code at : ℕ) → IsFirstOf (λ f. (f.at ≡ at) × (f.code ≡ code)) (Some (record { code = code; at = at }))
 alone-first code at = record { is_one = (refl, refl); least = λ o h. inr (sym h.0, omega (arith, h.1)) }
-
--- the next element of a list, and those behind it
-pub next : {A : Type 0} (xs : List A) (i : ℕ) (x : A) → i < length xs → x ≡ get_or xs i x → drop i xs ≡ x ∷ drop (i + 1) xs
-next xs i x lt e = rw add-one (drop-cons xs i x lt ∙ ap (λ y. y ∷ drop (suc i) xs) (sym e))
-
-pub next_number : (xs : List ℕ) (i : ℕ) → i < length xs → drop i xs ≡ get_or xs i 0 ∷ drop (i + 1) xs
-next_number xs i lt = rw add-one (drop-cons xs i 0 lt)

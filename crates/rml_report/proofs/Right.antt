@@ -1,6 +1,7 @@
 -- What follows from a right report.
 use Rattle.std.proofs.Common.{◌≡◌, Bool, true, false, if◌then◌else◌, ◌&&◌, List, [], ◌∷◌, map, sym, ◌∙◌, subst, refl}
 use Rattle.std.specs.List.{AllByRecursion, list_all, list_any}
+use Rattle.std.proofs.lemmas.Bool.{and_parts}
 use Rattle.rml_command.specs.Models.{ModelTree}
 use Rattle.rml_command.specs.Goals as goals
 use Rattle.rml_command.specs.Laws.{InductionIsSound}
@@ -16,14 +17,10 @@ holds m group answer.Holds e h = h
 holds m group (answer.Fails paths l shown) e h = cc e
 holds m group (answer.Undecided path cause) e h = cc e
 
-both : (a b : Bool) → (a && b) ≡ true → (a ≡ true) × (b ≡ true)
-both true b e = (refl, e)
-both false b e = cc e
-
 all_hold : (m : ModelTree) (gs : List Group) → list_all (λ g. says_holds g.answer) gs ≡ true → AllByRecursion (IsRight m) gs → AllByRecursion (goals.Holds m) (map head_of gs)
 all_hold m [] e h = tt
 all_hold m (g ∷ gs) e h =
-    let p = both (says_holds g.answer) (list_all (λ g. says_holds g.answer) gs) e in
+    let p = and_parts (says_holds g.answer) (list_all (λ g. says_holds g.answer) gs) e in
     (holds m (head_of g) g.answer p.0 h.0, all_hold m gs p.1 h.1)
 
 inductive : (a b : Bool) → (if a then verdict.Inductive else (if b then verdict.NotInductive else verdict.Undecided)) ≡ verdict.Inductive → a ≡ true

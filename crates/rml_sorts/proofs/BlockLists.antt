@@ -2,6 +2,7 @@
 use Rattle.std.proofs.Common.{◌≡◌, ◌++◌, ◌+◌, ◌<◌, ◌≤◌, ℕ, zero, suc, List, [], ◌∷◌, length, map, drop, get_or, None, refl, sym, ap, subst, ◌∙◌, append_assoc, arith}
 use Rattle.std.specs.Global.{Vec}
 use Rattle.std.proofs.lemmas.List.{drop_all, append-nil, map-append}
+use Rattle.base.proofs.Lists.{drop_read}
 use Rattle.rml_syntax.specs.declared.tree.Command.{Command}
 use Rattle.rml_syntax.specs.declared.tree.Command.TheVariants as variants
 use Rattle.rml_syntax.specs.Tree as syntax
@@ -21,7 +22,6 @@ use Rattle.rml_lex.specs.declared.token.Fault.{Fault}
 use Rattle.rml_sorts.proofs.Firsts.{first_right}
 use Rattle.rml_sorts.proofs.Answered.{Refuses, refuses_as, refuses_left}
 use Rattle.rml_sorts.proofs.Branches.{tree-choice}
-use Rattle.rml_sorts.proofs.Turns.{drop-next}
 use Rattle.rml_syntax.specs.declared.tree.Expr.{Expr}
 use Rattle.rml_syntax.specs.declared.tree.Command.TheViews.{rolls-If}
 use Rattle.rml_syntax.specs.declared.tree.Command.TheOpen as opened
@@ -32,7 +32,7 @@ use Rattle.rml_command.specs.Trees.{CommandTrees}
 -- what holds of the list from a place on holds of the element there and of those behind it
 front_of : {A : Type 0} (P : List A → Type 0) (Q R : Type 0) (xs : List A) (i : ℕ) (x : A) → i < length xs → x ≡ get_or xs i x
     → (P (x ∷ drop (i + 1) xs) → Q) → P (drop i xs) → Q
-front_of P Q R xs i x lt is so h = so (subst P (drop-next xs i x lt is) h)
+front_of P Q R xs i x lt is so h = so (subst P (drop_read xs i x lt is) h)
 
 abbrev pub tree_of : List Command → Block
 tree_of cs = block_of (command_trees cs)
@@ -109,17 +109,6 @@ module _ (text : List ℕ) (m : ModelTree) where
   branches_are no_block = refl
   branches_are (and_block b bs) = ap (λ ds. command_then (seq (commands_of text m b)) ds) (branches_are bs)
 
--- one turn of a loop that adds to a list what the element at a place gives; F is what the rest gives
-pub list_turn : {A B : Type 0} (F : List A → List B) (G : A → List B) (xs : List A) (i : ℕ) (x : A) (old new whole : List B)
-    → F (x ∷ drop (i + 1) xs) ≡ G x ++ F (drop (i + 1) xs) → i < length xs → x ≡ get_or xs i x → new ≡ old ++ G x → old ++ F (drop i xs) ≡ whole → new ++ F (drop (i + 1) xs) ≡ whole
-list_turn F G xs i x old new whole by lt is more before =
-    let rest = drop (i + 1) xs in
-    ap (λ z. z ++ F rest) more ∙ append_assoc old (G x) (F rest) ∙ ap (λ z. old ++ z) (sym by) ∙ ap (λ z. old ++ F z) (sym (drop-next xs i x lt is)) ∙ before
-
--- behind the last turn
-pub list_end : {A B : Type 0} (F : List A → List B) (xs : List A) (i : ℕ) (new whole : List B) → F [] ≡ [] → length xs ≤ i → new ++ F (drop i xs) ≡ whole → new ≡ whole
-list_end F xs i new whole none over made = sym (append-nil new) ∙ ap (λ z. new ++ z) (sym none ∙ ap F (sym (drop_all i xs over))) ∙ made
-
 -- ---- turns of the loop over the commands of a block
 
 pub rest_nests : (n : ℕ) (xs : List Command) (i : ℕ) (x : Command) → i < length xs → x ≡ get_or xs i x → BlockNests n (tree_of (drop i xs)) → BlockNests n (tree_of (drop (i + 1) xs))
@@ -137,7 +126,7 @@ rest_blocks_within n xs i x lt is h = front_of (λ l. BlocksWithin n (trees_of l
 -- D gives the demands of a list, E those of its first element
 module _ {A : Type 0} (D : List A → List Demand) (E : A → List Demand) (by : (x : A) (xs : List A) → D (x ∷ xs) ≡ E x ++ D xs) where
   first_at : (xs : List A) (i : ℕ) (x : A) → i < length xs → x ≡ get_or xs i x → first_fault (D (drop i xs)) ≡ first_fault (E x ++ D (drop (i + 1) xs))
-  first_at xs i x lt is = ap (λ l. first_fault (D l)) (drop-next xs i x lt is) ∙ ap first_fault (by x (drop (i + 1) xs))
+  first_at xs i x lt is = ap (λ l. first_fault (D l)) (drop_read xs i x lt is) ∙ ap first_fault (by x (drop (i + 1) xs))
 
   -- the element at a place is refused, and so is the whole
   pub element_refused : (xs : List A) (i : ℕ) (x : A) (e : Refused Fault) → i < length xs → x ≡ get_or xs i x → first_fault (D (drop i xs)) ≡ first_fault (D xs) → Refuses (E x) e → Refuses (D xs) e

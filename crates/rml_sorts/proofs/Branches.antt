@@ -1,16 +1,13 @@
 -- The tree of a choice.
 use Rattle.std.proofs.Common.{◌≡◌, ℕ, List, [], ◌∷◌, refl, sym, ap, ◌∙◌, map}
 use Rattle.std.specs.Global.{Vec}
+use Rattle.base.proofs.Lists.{map-map}
 use Rattle.rml_syntax.specs.declared.tree.Command.{Command}
 use Rattle.rml_syntax.specs.declared.tree.Command.TheVariants as variants
 use Rattle.rml_syntax.specs.declared.tree.Command.TheViews.{rolls-Choose}
 use Rattle.rml_syntax.specs.declared.tree.Command.TheOpen as opened
 use Rattle.rml_syntax.specs.declared.tree.Command.TheFolds.{fold-roll-Command}
 use Rattle.rml_syntax.specs.Tree.{CommandTree, command_tree, command_step, Choose, blocks_of, block_trees}
-
-map-map : {A B C : Type 0} (g : B → C) (h : A → B) (xs : List A) → map g (map h xs) ≡ map (λ x. g (h x)) xs
-map-map g h [] = refl
-map-map g h (x ∷ xs) = ap (λ (l : List _). g (h x) ∷ l) (map-map g h xs)
 
 pub tree-choice : (command : Command) (at : ℕ) (bs : Vec (Vec Command)) → command ≡ variants.Choose at bs → command_tree command ≡ Choose at (blocks_of (block_trees bs.items))
 tree-choice command at bs is =

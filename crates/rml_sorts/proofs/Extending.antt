@@ -2,6 +2,7 @@
 use Rattle.std.proofs.Common.{◌≡◌, ◌<◌, ◌≤◌, ℕ, List, [], ◌∷◌, ◌++◌, length, reverse, length-append, sym, subst, ◌∙◌, arith}
 use Rattle.std.specs.List.{AllByRecursion}
 use Rattle.std.proofs.lemmas.List.{get_or_append_left, append-nil}
+use Rattle.base.proofs.Lists.{all_append}
 use Rattle.fol_sig.specs.Symbols.{Symbols}
 use Rattle.fol_formula.specs.Syntax.{FormTree, FormTrees, TermTree, TermTrees, top, bottom, rel, equal, negation, conjunction, disjunction, implication, equivalence, for_all, for_some, no_forms, form_then, bound, app, ite, no_terms, term_then}
 use Rattle.fol_formula.specs.Fits.{FitsForm, FitsForms, FitsTerm, FitsTerms}
@@ -62,18 +63,6 @@ mutual
   pub each_of_more : (P Q : PrimitiveTree → Type 0) → ((q : PrimitiveTree) → P q → Q q) → (cs : CommandTrees) → EachPrimitiveOf P cs → EachPrimitiveOf Q cs
   each_of_more P Q so no_commands h = tt
   each_of_more P Q so (command_then c cs) h = (each_more P Q so c h.0, each_of_more P Q so cs h.1)
-
-pub all_more : {A : Type 0} (P Q : A → Type 0) → ((x : A) → P x → Q x) → (xs : List A) → AllByRecursion P xs → AllByRecursion Q xs
-all_more P Q so [] h = tt
-all_more P Q so (x ∷ xs) h = (so x h.0, all_more P Q so xs h.1)
-
-pub all_append : {A : Type 0} (P : A → Type 0) (xs ys : List A) → AllByRecursion P xs → AllByRecursion P ys → AllByRecursion P (xs ++ ys)
-all_append P [] ys h k = k
-all_append P (x ∷ xs) ys h k = (h.0, all_append P xs ys h.1 k)
-
--- one more behind others
-pub all_push : {A : Type 0} (P : A → Type 0) (xs : List A) (x : A) → AllByRecursion P xs → P x → AllByRecursion P (xs ++ x ∷ [])
-all_push P xs x h k = all_append P xs (x ∷ []) h (k, tt)
 
 module _ (old new : Symbols) (x : Extends old new) where
   -- a sentence

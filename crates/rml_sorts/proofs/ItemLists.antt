@@ -2,6 +2,7 @@
 use Rattle.std.proofs.Common.{◌≡◌, ◌+◌, ◌<◌, ◌≤◌, ◌++◌, ℕ, List, length, drop, get_or, None, sym, subst, ap, ◌∙◌}
 use Rattle.std.specs.List.{AllByRecursion}
 use Rattle.std.proofs.lemmas.List.{drop_all}
+use Rattle.base.proofs.Lists.{drop_read}
 use Rattle.base.specs.declared.refused.Refused.{Refused}
 use Rattle.rml_lex.specs.declared.token.Fault.{Fault}
 use Rattle.rml_syntax.specs.declared.tree.Item.{Item}
@@ -13,13 +14,12 @@ use Rattle.rml_sorts.specs.Items.{Draft, no_items, item_demands, with_item, with
 use Rattle.rml_sorts.specs.Sound.{IsSound}
 use Rattle.rml_sorts.proofs.Firsts.{first_right}
 use Rattle.rml_sorts.proofs.Answered.{Refuses, refuses_as, refuses_left}
-use Rattle.rml_sorts.proofs.Turns.{drop-next}
 use Rattle.rml_sorts.proofs.Whole.{step}
 
 -- what is so of all from a place on is so of the item there, and of those behind it
 all_next : (P : ItemTree → Type 0) (xs : List Item) (i : ℕ) (x : Item) → i < length xs → x ≡ get_or xs i x → AllByRecursion P (item_trees (drop i xs))
     → P (item_tree x) × AllByRecursion P (item_trees (drop (i + 1) xs))
-all_next P xs i x lt is h = subst (λ l. AllByRecursion P (item_trees l)) (drop-next xs i x lt is) h
+all_next P xs i x lt is h = subst (λ l. AllByRecursion P (item_trees l)) (drop_read xs i x lt is) h
 
 pub item_nests : (xs : List Item) (i : ℕ) (x : Item) → i < length xs → x ≡ get_or xs i x → IsShaped (item_trees (drop i xs)) → ItemNests 100 (item_tree x)
 item_nests xs i x lt is h = let both = all_next (ItemNests 100) xs i x lt is h in both.0
@@ -37,7 +37,7 @@ module _ (text : List ℕ) (xs : List Item) (i : ℕ) (x : Item) (lt : i < lengt
     (so : first_fault (items_demands text d (item_trees (drop i xs))) ≡ first_fault (items_demands text no_items (item_trees xs))) where
   at_place : first_fault (items_demands text d (item_trees (drop i xs)))
       ≡ first_fault (item_demands text d (item_tree x) ++ items_demands text (with_item text d (item_tree x)) (item_trees (drop (i + 1) xs)))
-  at_place = ap (λ l. first_fault (items_demands text d (item_trees l))) (drop-next xs i x lt is)
+  at_place = ap (λ l. first_fault (items_demands text d (item_trees l))) (drop_read xs i x lt is)
 
   pub item_refused : (e : Refused Fault) → Refuses (item_demands text d (item_tree x)) e → Refuses (items_demands text no_items (item_trees xs)) e
   item_refused e h =
@@ -56,7 +56,7 @@ module _ (text : List ℕ) (xs : List Item) (i : ℕ) (x : Item) (lt : i < lengt
 pub item_built : (text : List ℕ) (xs : List Item) (i : ℕ) (x : Item) (d next : Draft) → i < length xs → x ≡ get_or xs i x → next ≡ with_item text d (item_tree x)
     → with_items text d (item_trees (drop i xs)) ≡ with_items text no_items (item_trees xs) → with_items text next (item_trees (drop (i + 1) xs)) ≡ with_items text no_items (item_trees xs)
 item_built text xs i x d next lt is same so =
-    ap (λ (e : Draft). with_items text e (item_trees (drop (i + 1) xs))) same ∙ sym (ap (λ l. with_items text d (item_trees l)) (drop-next xs i x lt is)) ∙ so
+    ap (λ (e : Draft). with_items text e (item_trees (drop (i + 1) xs))) same ∙ sym (ap (λ l. with_items text d (item_trees l)) (drop_read xs i x lt is)) ∙ so
 
 pub item_sound : (text : List ℕ) (d next : Draft) (item : ItemTree) → IsSound d.model → ItemNests 100 item → first_fault (item_demands text d item) ≡ None → next ≡ with_item text d item → IsSound next.model
 item_sound text d next item sound nests met same = subst (λ (e : Draft). IsSound e.model) (sym same) (step text d item sound nests met)

@@ -5,6 +5,7 @@ use Rattle.rml_lex.specs.declared.token.Fault.{Fault}
 use Rattle.fol_sig.specs.declared.Sort.{Sort}
 use Rattle.fol_sig.specs.Tables.{AreSorts, numbers}
 use Rattle.std.proofs.lemmas.List.{length-map}
+use Rattle.base.proofs.Lists.{drop_read}
 use Rattle.rml_syntax.specs.declared.tree.Name.{Name}
 use Rattle.rml_syntax.specs.Within.{NamesWithin}
 use Rattle.rml_command.specs.Models.{ModelTree}
@@ -12,13 +13,12 @@ use Rattle.rml_sorts.specs.Demands.{asks, first_fault}
 use Rattle.rml_sorts.specs.Items.{sort_known, sort_demands}
 use Rattle.rml_sorts.proofs.Firsts.{first_right}
 use Rattle.rml_sorts.proofs.Answered.{Refuses, refuses_as, refuses_left}
-use Rattle.rml_sorts.proofs.Turns.{drop-next}
 
 module _ (text : List ℕ) (m : ModelTree) where
   -- the demands from a place on
   at_place : (k : ℕ) (xs : List Name) (i : ℕ) (x : Name) → i < length xs → x ≡ get_or xs i x
       → sort_demands text m k (drop i xs) ≡ (sort_known text m x ∷ []) ++ (asks x.start 8 (nat_lt k 8) ∷ sort_demands text m (suc k) (drop (i + 1) xs))
-  at_place k xs i x lt is = ap (sort_demands text m k) (drop-next xs i x lt is)
+  at_place k xs i x lt is = ap (sort_demands text m k) (drop_read xs i x lt is)
 
   pub sort_refused : (k : ℕ) (xs : List Name) (i : ℕ) (x : Name) (e : Refused Fault) → i < length xs → x ≡ get_or xs i x
       → first_fault (sort_demands text m k (drop i xs)) ≡ first_fault (sort_demands text m 0 xs) → Refuses (sort_known text m x ∷ []) e → Refuses (sort_demands text m 0 xs) e
@@ -52,7 +52,7 @@ module _ (text : List ℕ) (m : ModelTree) where
       ∙ behind_known k xs i x lt is so known
 
 pub names_left : (n : ℕ) (xs : List Name) (i : ℕ) (x : Name) → i < length xs → x ≡ get_or xs i x → NamesWithin n (drop i xs) → NamesWithin n (drop (i + 1) xs)
-names_left n xs i x lt is h = let both : NamesWithin n (x ∷ drop (i + 1) xs) = subst (λ l. NamesWithin n l) (drop-next xs i x lt is) h in both.1
+names_left n xs i x lt is h = let both : NamesWithin n (x ∷ drop (i + 1) xs) = subst (λ l. NamesWithin n l) (drop_read xs i x lt is) h in both.1
 
 -- sorts and their numbers are as many
 pub as_many : (ks : List Sort) (ns : List ℕ) → numbers ks ≡ ns → length ks ≡ length ns

@@ -1,6 +1,7 @@
 -- The places of a model stand in its text.
 use Rattle.std.proofs.Common.{◌≤◌, ℕ, Bool, true, false, if◌then◌else◌, List, [], ◌∷◌, ◌++◌, Option, Some, None, arith}
 use Rattle.std.specs.List.{AllByRecursion}
+use Rattle.base.proofs.Lists.{all_append, all_push}
 use Rattle.rml_syntax.specs.declared.tree.Name.{Name}
 use Rattle.rml_syntax.specs.Tree as syntax
 use Rattle.rml_syntax.specs.Tree.{ExprTree, ExprTrees, True, False, Apply, Ite, Equal, Not, And, Or, Implies, Iff, Quantified, no_expr, and_expr, Block, Blocks, Skip, Abort, Assume, Assert, If, Choose, Insert, Remove, Put, Assign, no_command, and_command, no_block, and_block, ItemTree, Relation, Function, Variable, Axiom, Conjecture, Init, Action, Final, block_of}
@@ -11,7 +12,6 @@ use Rattle.rml_sorts.specs.Laws.{PlacesStandInText}
 use Rattle.rml_sorts.specs.Formulas.{quantifiers_in, quantifiers_in_each}
 use Rattle.rml_sorts.specs.Commands.{conditions_of, conditions_of_block, conditions_of_blocks, quantifiers_of_side, quantifiers_of, quantifiers_of_block, quantifiers_of_blocks}
 use Rattle.rml_sorts.specs.Items.{Draft, no_items, model_with, with_item, with_items}
-use Rattle.rml_sorts.proofs.Extending.{all_append, all_push}
 
 module _ (n : ℕ) where
   abbrev In : ℕ → Type 0

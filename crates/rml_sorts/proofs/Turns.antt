@@ -1,6 +1,7 @@
 -- One turn of a loop that makes something of each element of a list.
 use Rattle.std.proofs.Common.{◌≡◌, ℕ, ◌+◌, ◌<◌, List, [], ◌∷◌, ◌++◌, ◌≤◌, length, get_or, drop, sym, ap, ◌∙◌, map, append_assoc}
 use Rattle.std.proofs.lemmas.List.{drop_more, drop_all, append-nil}
+use Rattle.base.proofs.Lists.{drop_read}
 use Rattle.fol_formula.specs.Syntax.{FormTree, FormTrees, TermTree, TermTrees, form_then, term_then, forms_then, terms_then}
 use Rattle.fol_formula.specs.View.{form, term}
 use Rattle.fol_formula.specs.declared.Formula.{Formula}
@@ -9,26 +10,16 @@ use Rattle.rml_syntax.specs.declared.tree.Expr.{Expr}
 use Rattle.rml_syntax.specs.Tree.{expr_tree, expr_trees, exprs_of, and_expr}
 use Rattle.fol_formula.proofs.Loops.{forms_then-push, terms_then-push}
 
--- the list from a place on
-pub drop-next : {A : Type 0} (xs : List A) (i : ℕ) (x : A) → i < length xs → x ≡ get_or xs i x → drop i xs ≡ x ∷ drop (i + 1) xs
-drop-next xs i x lt is = drop_more xs i x lt ∙ ap (λ y. y ∷ drop (i + 1) xs) (sym is)
-
 -- the expressions from a place on
 pub exprs-drop : (es : List Expr) (i : ℕ) (e : Expr) → i < length es → e ≡ get_or es i e
     → exprs_of (expr_trees (drop i es)) ≡ and_expr (expr_tree e) (exprs_of (expr_trees (drop (i + 1) es)))
-exprs-drop es i e lt is = ap (λ (es : List Expr). exprs_of (expr_trees es)) (drop-next es i e lt is)
+exprs-drop es i e lt is = ap (λ (es : List Expr). exprs_of (expr_trees es)) (drop_read es i e lt is)
 
 -- F makes a list of places of a list, G that of its first element
 pub places_turn : {A : Type 0} (F : List A → List ℕ) (G : A → List ℕ) (xs : List A) (i : ℕ) (x : A) (old new whole : List ℕ)
     → ((y : A) (ys : List A) → F (y ∷ ys) ≡ G y ++ F ys) → i < length xs → x ≡ get_or xs i x
     → new ≡ old ++ G x → old ++ F (drop i xs) ≡ whole → new ++ F (drop (i + 1) xs) ≡ whole
-places_turn F G xs i x old new whole by lt is more before =
-    let rest = drop (i + 1) xs in
-    ap (λ z. z ++ F rest) more
-    ∙ append_assoc old (G x) (F rest)
-    ∙ ap (λ z. old ++ z) (sym (by x rest))
-    ∙ ap (λ z. old ++ F z) (sym (drop-next xs i x lt is))
-    ∙ before
+places_turn F G xs i x old new whole by = list_turn F G xs i x old new whole (by x (drop (i + 1) xs))
 
 -- F makes the formulas of a list
 pub forms_turn : {A : Type 0} (F : List A → FormTrees) (xs : List A) (i : ℕ) (x : A) (first : FormTree) (all more : List Formula) (p : Formula) (whole : FormTrees)
@@ -40,7 +31,7 @@ forms_turn F xs i x first all more p whole by lt is pushed made before =
     ∙ forms_then-push all p rest
     ∙ ap (λ z. forms_then (map form all) (form_then z rest)) made
     ∙ ap (forms_then (map form all)) (sym by)
-    ∙ ap (λ z. forms_then (map form all) (F z)) (sym (drop-next xs i x lt is))
+    ∙ ap (λ z. forms_then (map form all) (F z)) (sym (drop_read xs i x lt is))
     ∙ before
 
 -- F makes the terms of a list
@@ -53,9 +44,5 @@ terms_turn F xs i x first all more t whole by lt is pushed made before =
     ∙ terms_then-push all t rest
     ∙ ap (λ z. terms_then (map term all) (term_then z rest)) made
     ∙ ap (terms_then (map term all)) (sym by)
-    ∙ ap (λ z. terms_then (map term all) (F z)) (sym (drop-next xs i x lt is))
+    ∙ ap (λ z. terms_then (map term all) (F z)) (sym (drop_read xs i x lt is))
     ∙ before
-
--- and behind the last turn
-pub places_all : {A : Type 0} (F : List A → List ℕ) (xs : List A) (i : ℕ) (new whole : List ℕ) → F [] ≡ [] → length xs ≤ i → new ++ F (drop i xs) ≡ whole → new ≡ whole
-places_all F xs i new whole none over made = sym (append-nil new) ∙ ap (λ z. new ++ z) (sym none ∙ ap F (sym (drop_all i xs over))) ∙ made

@@ -1,9 +1,10 @@
 -- The model of a tree without a fault is whole.
 use Rattle.std.proofs.Common.{◌≡◌, ◌<◌, ◌≤◌, ◌+◌, ℕ, zero, suc, Bool, true, false, not, nat_lt, List, [], ◌∷◌, ◌++◌, length, map, None, slice_index_or, refl, sym, subst, ap, arith, length-append}
 use Rattle.std.specs.List.{AllByRecursion}
-use Rattle.std.proofs.lemmas.List.{get_or_append_left, length-map}
+use Rattle.std.proofs.lemmas.List.{get_or_append_left, length-map, length_push}
 use Rattle.std.proofs.Math.Seq.{get_or-append_seam}
 use Rattle.std.proofs.lemmas.Bool.Decides.{nat_tests}
+use Rattle.base.proofs.Lists.{all_more, all_append, all_push}
 use Rattle.fol_sig.specs.declared.Sort.{Sort}
 use Rattle.fol_sig.specs.Tables.{Declared, AreSorts}
 use Rattle.fol_sig.specs.Symbols.{symbols, AreSorted, no_function}
@@ -26,7 +27,7 @@ use Rattle.rml_sorts.specs.Formulas.{formula_of, quantifiers_in}
 use Rattle.rml_sorts.specs.Commands.{conditions_of_block, quantifiers_of_block}
 use Rattle.rml_sorts.specs.Items.{Draft, no_items, declares, stands_once, sort_known, sort_demands, declares_symbol, is_sentence, item_demands, model_with, with_item, with_items, items_demands, model_of, with_function, block_command}
 use Rattle.rml_sorts.proofs.Firsts.{met, met_left, met_right}
-use Rattle.rml_sorts.proofs.Extending.{Extends, sentence_grows, command_grows, each_more, all_more, all_append, all_push}
+use Rattle.rml_sorts.proofs.Extending.{Extends, sentence_grows, command_grows, each_more}
 use Rattle.rml_sorts.proofs.Fitting.{formula_fits, sort_known_below}
 use Rattle.rml_sorts.proofs.Plain.{nil_left, nil_right, formula_plain}
 use Rattle.rml_sorts.proofs.WholeBlocks.{block_fits, block_conditions_fit, block_branches, written_left, written_right, block_written, block_plain, block_conditions_plain}
@@ -148,10 +149,6 @@ resigned m sig names functions s x sorted named few placed = record {
 pushed : {A B : Type 0} (xs : List A) (ys : List B) (x : A) (y : B) → length xs ≡ length ys → length (xs ++ x ∷ []) ≡ length (ys ++ y ∷ [])
 pushed xs ys x y e = omega (arith, e, length-append xs (x ∷ []), length-append ys (y ∷ []))
 
--- a name of a list of names more
-name_more : (xs : List (List ℕ)) (x : List ℕ) → length (xs ++ x ∷ []) ≡ length xs + 1
-name_more xs x = omega (arith, length-append xs (x ∷ []))
-
 module _ (text : List ℕ) (m : ModelTree) (s : IsSound m) where
   -- a declared name leaves room for one
   declared_few : (taken : Bool) (name : Name) (more : List Demand) → first_fault (declares m taken name ++ more) ≡ None → name_count m.names + 1 ≤ 1000
@@ -183,8 +180,8 @@ module _ (text : List ℕ) (m : ModelTree) (s : IsSound m) where
       let n = bytes_of text name in
       let few = declared_few (is_among m.names.sorts n) name [] d in
       resigned m (record m.signature { sorts = m.signature.sorts + 1 }) (record m.names { sorts = m.names.sorts ++ n ∷ [] }) m.places.functions s (grown_sorts m.signature) (sorted_sorts m.signature s.sorted)
-      (record { sorts = omega (arith, name_more m.names.sorts n, s.named.sorts); relations = s.named.relations; functions = s.named.functions; axioms = s.named.axioms; conjectures = s.named.conjectures; actions = s.named.actions })
-      (omega (arith, few, name_more m.names.sorts n)) s.placed.functions
+      (record { sorts = omega (arith, length_push m.names.sorts n, s.named.sorts); relations = s.named.relations; functions = s.named.functions; axioms = s.named.axioms; conjectures = s.named.conjectures; actions = s.named.actions })
+      (omega (arith, few, length_push m.names.sorts n)) s.placed.functions
 
   with_relation : (name : Name) (sorts : List Name) → first_fault (declares_symbol text m name ++ sort_demands text m 0 sorts) ≡ None → IsSound (model_with text m (Relation name sorts))
   with_relation name sorts d =
@@ -195,7 +192,7 @@ module _ (text : List ℕ) (m : ModelTree) (s : IsSound m) where
       resigned m (record m.signature { relations = m.signature.relations ++ ks ∷ [] }) (record m.names { relations = m.names.relations ++ n ∷ [] }) m.places.functions s (grown_relations m.signature ks)
       (sorted_relations m.signature ks s.sorted (sorts_known 0 sorts ds) (omega (arith, length-map sorts (sort_number text m), sorts_few 0 sorts (omega arith) ds)))
       (record { sorts = s.named.sorts; relations = pushed m.names.relations m.signature.relations n ks s.named.relations; functions = s.named.functions; axioms = s.named.axioms; conjectures = s.named.conjectures; actions = s.named.actions })
-      (omega (arith, few, name_more m.names.relations n)) s.placed.functions
+      (omega (arith, few, length_push m.names.relations n)) s.placed.functions
 
   function_more : (name : Name) (ks : List ℕ) (k : ℕ) → name_count m.names + 1 ≤ 1000 → AreSorts m.signature.sorts ks → k < m.signature.sorts → length ks ≤ 8 → IsSound (with_function text m name ks k)
   function_more name ks k few known into short =
@@ -204,7 +201,7 @@ module _ (text : List ℕ) (m : ModelTree) (s : IsSound m) where
       resigned m (record m.signature { functions = m.signature.functions ++ (ks, record { 0 = k }) ∷ [] }) (record m.names { functions = m.names.functions ++ n ∷ [] }) (m.places.functions ++ name.start ∷ []) s (grown_functions m.signature (ks, record { 0 = k }))
       (sorted_functions m.signature (ks, record { 0 = k }) s.sorted known into short)
       (record { sorts = s.named.sorts; relations = s.named.relations; functions = pushed m.names.functions m.signature.functions n f s.named.functions; axioms = s.named.axioms; conjectures = s.named.conjectures; actions = s.named.actions })
-      (omega (arith, few, name_more m.names.functions n)) (pushed m.places.functions m.signature.functions name.start f s.placed.functions)
+      (omega (arith, few, length_push m.names.functions n)) (pushed m.places.functions m.signature.functions name.start f s.placed.functions)
 
   with_function_item : (name : Name) (sorts : List Name) (sort : Name) → first_fault (declares_symbol text m name ++ (sort_demands text m 0 sorts ++ (sort_known text m sort ∷ []))) ≡ None
       → IsSound (model_with text m (Function name sorts sort))
@@ -237,7 +234,7 @@ module _ (text : List ℕ) (m : ModelTree) (s : IsSound m) where
         branches = record { init = s.branches.init; actions = s.branches.actions; last = s.branches.last };
         named = record { sorts = s.named.sorts; relations = s.named.relations; functions = s.named.functions; axioms = pushed m.names.axioms m.axioms n p s.named.axioms; conjectures = s.named.conjectures; actions = s.named.actions };
         placed = record { functions = s.placed.functions; axioms = pushed m.places.axioms m.axioms name.start p s.placed.axioms; conjectures = s.placed.conjectures; actions = s.placed.actions };
-        few = omega (arith, few, name_more m.names.axioms n);
+        few = omega (arith, few, length_push m.names.axioms n);
         written = record { init = s.written.init; actions = s.written.actions; last = s.written.last };
         plain = λ none.
             let q = s.plain (nil_left m.places.quantifiers (quantifiers_in false e) none) in
@@ -262,7 +259,7 @@ module _ (text : List ℕ) (m : ModelTree) (s : IsSound m) where
         branches = record { init = s.branches.init; actions = s.branches.actions; last = s.branches.last };
         named = record { sorts = s.named.sorts; relations = s.named.relations; functions = s.named.functions; axioms = s.named.axioms; conjectures = pushed m.names.conjectures m.conjectures n p s.named.conjectures; actions = s.named.actions };
         placed = record { functions = s.placed.functions; axioms = s.placed.axioms; conjectures = pushed m.places.conjectures m.conjectures name.start p s.placed.conjectures; actions = s.placed.actions };
-        few = omega (arith, few, name_more m.names.conjectures n);
+        few = omega (arith, few, length_push m.names.conjectures n);
         written = record { init = s.written.init; actions = s.written.actions; last = s.written.last };
         plain = λ none.
             let q = s.plain (nil_left m.places.quantifiers (quantifiers_in false e) none) in
@@ -355,7 +352,7 @@ module _ (text : List ℕ) (m : ModelTree) (s : IsSound m) where
         branches = record { init = s.branches.init; actions = all_push _ m.actions c s.branches.actions a.branches; last = s.branches.last };
         named = record { sorts = s.named.sorts; relations = s.named.relations; functions = s.named.functions; axioms = s.named.axioms; conjectures = s.named.conjectures; actions = pushed m.names.actions m.actions n c s.named.actions };
         placed = record { functions = s.placed.functions; axioms = s.placed.axioms; conjectures = s.placed.conjectures; actions = pushed m.places.actions m.actions name.start c s.placed.actions };
-        few = omega (arith, few, name_more m.names.actions n);
+        few = omega (arith, few, length_push m.names.actions n);
         written = record { init = a.others m.init s.written.init; actions = all_push _ m.actions c (all_more _ _ a.others m.actions s.written.actions) a.written; last = a.others m.last s.written.last };
         plain = λ none. let q = a.model_plain none in record {
           axioms = q.axioms;

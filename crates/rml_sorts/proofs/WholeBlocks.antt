@@ -2,6 +2,7 @@
 -- branch, and where no quantifier stands where none may, their sides are plain.
 use Rattle.std.proofs.Common.{◌≡◌, ℕ, zero, suc, true, false, inl, inr, List, [], ◌∷◌, ◌++◌, Option, Some, None, refl}
 use Rattle.std.specs.List.{AllByRecursion}
+use Rattle.base.proofs.Lists.{all_append}
 use Rattle.fol_sig.specs.Symbols.{symbols, AreSorted}
 use Rattle.fol_formula.specs.Syntax.{TermTree, TermTrees, no_terms, term_then}
 use Rattle.fol_formula.specs.Fits.{FitsForm}
@@ -23,7 +24,7 @@ use Rattle.rml_sorts.specs.Demands.{first_fault, demands, command_demands, block
 use Rattle.rml_sorts.specs.Formulas.{formula_of, term_of, terms_of, quantifiers_in, quantifiers_in_each}
 use Rattle.rml_sorts.specs.Commands.{term_count, parameters, equations, insertion, removal, placement, assignment, command_of, commands_of, branches_of, conditions_of, conditions_of_block, conditions_of_blocks, quantifiers_of_side, quantifiers_of, quantifiers_of_block, quantifiers_of_blocks}
 use Rattle.rml_sorts.proofs.Firsts.{met_left, met_right}
-use Rattle.rml_sorts.proofs.Extending.{each_more, each_of_more, all_append}
+use Rattle.rml_sorts.proofs.Extending.{each_more, each_of_more}
 use Rattle.rml_sorts.proofs.Fitting.{IsThere, symbol_is_there, formula_fits}
 use Rattle.rml_sorts.proofs.Sides.{insert_fits, remove_fits, put_fits, assign_fits}
 use Rattle.rml_sorts.proofs.Plain.{nil_left, nil_right, formula_free, formula_plain, term_free, terms_free}

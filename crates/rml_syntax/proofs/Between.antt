@@ -77,7 +77,3 @@ module _ {A : Type 0} (f : List Kind) (k : Kind) (q : Reader A) where
       turn front tokens g.turns rest x h.token behind g.enough g.same on (e ∙ ap (λ (r : Tokens). Ok (x, r)) h.parts) h.kind (subst (λ (r : Tokens). length r < length rest) h.parts lt)
 
 -- ---- a list of lists
-
-pub map-map : {A B C : Type 0} (g : B → C) (h : A → B) (xs : List A) → map g (map h xs) ≡ map (λ x. g (h x)) xs
-map-map g h [] = refl
-map-map g h (x ∷ xs) = ap (λ (l : List _). g (h x) ∷ l) (map-map g h xs)

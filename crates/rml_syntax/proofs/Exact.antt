@@ -2,7 +2,7 @@
 use Rattle.std.proofs.Common.{◌≡◌, ℕ, zero, suc, ◌<◌, ◌≤◌, Bool, true, false, cond, ◌||◌, ◌&&◌, ◌⊎◌, inl, inr, List, [], ◌∷◌, ◌++◌, length, get_or, Option, Some, None, Result, Ok, Err, refl, sym, ap, subst, ◌∙◌, append_assoc, eq-eqb, arith}
 use Rattle.std.proofs.Math.Bool.{or_assoc, or-true}
 use Rattle.std.specs.Prelude.{◌==◌}
-use Rattle.std.proofs.lemmas.Bool.{eqb-true}
+use Rattle.std.proofs.lemmas.Bool.{eqb-true, or_parts, or_cases}
 use Rattle.std.proofs.lemmas.List.{length-append}
 use Rattle.rml_lex.specs.declared.token.Kind.{Kind}
 use Rattle.rml_lex.specs.declared.token.Kind.TheVariants.{Word, Sign}
@@ -193,17 +193,9 @@ pub has-append : (js ks : List Kind) (k : Kind) → has (js ++ ks) k ≡ (has js
 has-append [] ks k = refl
 has-append (j ∷ js) ks k = rw (has-append js ks k) (sym (or_assoc (number j == number k) (has js k) (has ks k)))
 
-or_false : (a b : Bool) → (a || b) ≡ false → (a ≡ false) × (b ≡ false)
-or_false true b e = absurd cc
-or_false false b e = (refl, e)
-
-or_true : (a b : Bool) → (a || b) ≡ true → (a ≡ true) ⊎ (b ≡ true)
-or_true true b e = inl refl
-or_true false b e = inr e
-
 pub begins_neither : (js ks : List Kind) (us : Tokens) → begins (js ++ ks) us ≡ false → (begins js us ≡ false) × (begins ks us ≡ false)
 begins_neither js ks [] e = (refl, refl)
-begins_neither js ks (u ∷ us) e = or_false (has js u.kind) (has ks u.kind) (sym (has-append js ks u.kind) ∙ e)
+begins_neither js ks (u ∷ us) e = or_parts (has js u.kind) (has ks u.kind) (sym (has-append js ks u.kind) ∙ e)
 
 pub begins_left : (js ks : List Kind) (us : Tokens) → begins js us ≡ true → begins (js ++ ks) us ≡ true
 begins_left js ks [] e = absurd cc
@@ -231,7 +223,7 @@ apart_has [] m k h e = absurd cc
 apart_has (j ∷ js) m k h e =
     elim (chosen (has m j) false (apart js m) true h) [
       | inl g ↦ absurd cc
-      | inr g ↦ elim (or_true (number j == number k) (has js k) e) [
+      | inr g ↦ elim (or_cases (number j == number k) (has js k) e) [
         | inl same ↦ subst (λ i. has m i ≡ false) (same_kind j k same) g.0
         | inr more ↦ apart_has js m k g.1 more
       ]

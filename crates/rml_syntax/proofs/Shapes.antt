@@ -1,6 +1,7 @@
 -- A tree's binders nest no deeper than its levels, and each choice has a branch.
 use Rattle.std.proofs.Common.{◌≡◌, ℕ, zero, suc, Bool, true, false, inl, inr, List, [], ◌∷◌, Option, Some, None}
 use Rattle.std.specs.List.{AllByRecursion}
+use Rattle.base.proofs.Lists.{all_more}
 use Rattle.rml_lex.specs.declared.token.Token.{Token}
 use Rattle.rml_lex.specs.declared.token.Kind.{Kind}
 use Rattle.rml_lex.specs.Tokens.{EndsBy}
@@ -62,10 +63,6 @@ mutual
   blocks_more : (n : ℕ) (bs : Blocks) → BlocksNest n bs → BlocksNest (suc n) bs
   blocks_more n no_block h = tt
   blocks_more n (and_block b bs) h = (block_more n b h.0, blocks_more n bs h.1)
-
-all_more : {A : Type 0} (P Q : A → Type 0) → ((x : A) → P x → Q x) → (xs : List A) → AllByRecursion P xs → AllByRecursion Q xs
-all_more P Q f [] h = tt
-all_more P Q f (x ∷ xs) h = (f x h.0, all_more P Q f xs h.1)
 
 -- ---- the nodes
 

@@ -3,6 +3,7 @@ use Rattle.std.proofs.Common.{◌≡◌, ℕ, ◌≤◌, Bool, true, false, cond
 use Rattle.std.specs.Prelude.{◌&&◌, not}
 use Rattle.std.specs.List.{AllByRecursion}
 use Rattle.std.proofs.lemmas.List.{append-nil, append_cancel_left}
+use Rattle.std.proofs.lemmas.Bool.{and_parts}
 use Rattle.base.specs.declared.refused.Refused.TheVariants as refused
 use Rattle.rml_lex.specs.declared.token.Token.{Token}
 use Rattle.rml_lex.specs.declared.token.Kind.TheVariants.{Word, Number}
@@ -33,11 +34,6 @@ less_format text [] v h = tt
 less_format text (t ∷ []) v h = tt
 less_format text (t ∷ w ∷ u) v h = h
 
--- a test that is known to hold, or not to
-and_true : (a b : Bool) → (a && b) ≡ true → (a ≡ true) × (b ≡ true)
-and_true true b e = (refl, e)
-and_true false b e = absurd cc
-
 not_true : (a : Bool) → not a ≡ true → a ≡ true → ⊥
 not_true true n e = absurd cc
 not_true false n e = absurd cc
@@ -67,8 +63,8 @@ other : (text : List ℕ) (ts : Tokens) → is_other_format text ts ≡ true →
 other text [] e = absurd cc
 other text (t ∷ []) e = absurd cc
 other text (t ∷ u ∷ ts) e =
-    let a = and_true _ _ e in
-    let b = and_true _ _ a.1 in
+    let a = and_parts _ _ e in
+    let b = and_parts _ _ a.1 in
     record { rml = t; digits = u; more = ts; parts = refl; is_rml = same_kind (Word Rml) t.kind a.0; is_number = same_kind Number u.kind b.0; wrong = not_true _ b.1 }
 
 -- ---- what is read

@@ -3,6 +3,7 @@ use Rattle.std.proofs.Common.{◌≡◌, ◌⊎◌, ◌<◌, ◌≤◌, ◌+◌,
 use Rattle.std.specs.List.{AllByRecursion, list_all}
 use Rattle.std.proofs.lemmas.List.{nil_from_length}
 use Rattle.std.proofs.lemmas.Bool.{eqb-true}
+use Rattle.base.proofs.Lists.{all_at}
 use Rattle.fol_sig.specs.Tables.{Tables, InRange, reading}
 use Rattle.fol_sig.specs.Symbols.{Symbols, symbols, FitsStructure}
 use Rattle.fol_formula.specs.Syntax.{FormTree, top, bottom, rel, equal, negation, conjunction, disjunction, implication, equivalence, for_all, for_some}
@@ -222,14 +223,9 @@ no_smaller (n ∷ ns) (k ∷ ks) e h = cc
 pub is_least : (m : ModelTree) (goal : Goal) (s : Tables) → m.signature.sorts ≡ 0 → FitsStructure (symbols m.signature) s → IsLeast m goal s
 is_least m goal s e f = λ t elements values x smaller. no_smaller t.sizes s.sizes (nil_from_length s.sizes (sym f.sorts ∙ e)) smaller
 
-at_all : {A : Type 0} (P : A → Type 0) (xs : List A) (k : ℕ) (x : A) → AllByRecursion P xs → slice_get xs k ≡ Some x → P x
-at_all P [] k x h e = absurd (cc)
-at_all P (y ∷ xs) zero x h e = let same : y ≡ x = some_same (Some y) y x refl e in subst P same h.0
-at_all P (y ∷ xs) (suc k) x h e = at_all P xs k x h.1 e
-
 -- a conjecture of a checked model
 pub fits_conjecture : (m : ModelTree) (k : ℕ) (c : FormTree) → IsChecked m → slice_get m.conjectures k ≡ Some c → FitsForm (symbols m.signature) [] c
-fits_conjecture m k c h e = at_all (FitsForm (symbols m.signature) []) m.conjectures k c h.model.fits.conjectures e
+fits_conjecture m k c h e = all_at (FitsForm (symbols m.signature) []) m.conjectures k c e h.model.fits.conjectures
 
 -- the answer that shows what was found
 pub shown_answer : (m : ModelTree) (s : Stage) (k : ℕ) (p : List PrimitiveTree) (c : FormTree) → OnePath m s → HasAbout m s (about.Conjecture k) → Seeks m s k p c → (t : Tables) → FitsStructure (symbols m.signature) t

@@ -2,12 +2,9 @@
 use Rattle.std.proofs.Common.{◌≡◌, ◌<◌, ◌≤◌, ◌+◌, ◌-◌, ℕ, List, [], ◌∷◌, ◌++◌, map, refl, sym, ap, ap₂, subst, ◌∙◌, append_assoc}
 use Rattle.std.specs.List.{AllByRecursion, flat_map}
 use Rattle.std.proofs.lemmas.List.{map-append}
+use Rattle.base.proofs.Lists.{all_push}
 use Rattle.rml_command.specs.Lists.{count_from}
 use Rattle.truth_tables.proofs.Counting.{count-step, count-none}
-
-all_push : {A : Type 0} (P : A → Type 0) (xs : List A) (x : A) → AllByRecursion P xs → P x → AllByRecursion P (xs ++ x ∷ [])
-all_push P [] x h k = (k, tt)
-all_push P (y ∷ xs) x h k = (h.0, all_push P xs x h.1 k)
 
 -- with one more at the end, each is so
 pub pushed_all : {A : Type 0} (P : A → Type 0) (old new : List A) (x : A) → new ≡ old ++ x ∷ [] → AllByRecursion P old → P x → AllByRecursion P new

@@ -1,4 +1,5 @@
 use Rattle.std.proofs.Common.{arith, ◌≡◌, ◌++◌, ◌∷◌, [], None, length, map, refl, sym, subst, ap, ◌∙◌}
+use Rattle.base.proofs.Lists.{list_turn, list_end}
 use Rattle.rml_syntax.specs.Tree.{expr_tree, command_tree}
 use Rattle.rml_syntax.specs.Shape.{CommandNests, BlockNests}
 use Rattle.rml_syntax.specs.Within.{CommandWithin, BlockWithin}
@@ -11,7 +12,7 @@ use Rattle.rml_sorts.specs.Formulas.{formula_of}
 use Rattle.rml_sorts.specs.Commands.{command_of, commands_of, branches_of, conditions_of, conditions_of_block, conditions_of_blocks}
 use Rattle.rml_sorts.specs.Drafts.{model_in}
 use Rattle.rml_sorts.proofs.Answered.{Refuses, at_err, refuses_left, refuses_right, both_met}
-use Rattle.rml_sorts.proofs.BlockLists.{tree_of, trees_of, block_list, branch_list, block_is, branches_are, list_turn, list_end, rest_nests, rest_within, rest_blocks_nest, rest_blocks_within, front_block_nests, front_block_within, if_given, of_if, of_choice, all_noted, branching_is, element_refused, element_met, all_met, pushed_command, front_nests, front_within, first_smaller, second_smaller, element_smaller, choice_smaller}
+use Rattle.rml_sorts.proofs.BlockLists.{tree_of, trees_of, block_list, branch_list, block_is, branches_are, rest_nests, rest_within, rest_blocks_nest, rest_blocks_within, front_block_nests, front_block_within, if_given, of_if, of_choice, all_noted, branching_is, element_refused, element_met, all_met, pushed_command, front_nests, front_within, first_smaller, second_smaller, element_smaller, choice_smaller}
 use Rattle.rml_sorts.proofs.blocks.+blocks.Goals as goal
 
 pub block-returns-in_err-command-clause-command : goal.block-returns-in_err-command-clause-command

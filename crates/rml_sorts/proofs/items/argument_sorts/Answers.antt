@@ -1,9 +1,9 @@
 use Rattle.std.proofs.Common.{◌≡◌, ℕ, ◌+◌, ◌<◌, ◌++◌, ◌∷◌, [], true, suc, nat_lt, length, map, get_or, refl, ap, ◌∙◌, arith, length-append}
 use Rattle.std.proofs.lemmas.Bool.Decides.{nat_tests}
+use Rattle.base.proofs.Lists.{list_turn}
 use Rattle.rml_syntax.specs.declared.tree.Name.{Name}
 use Rattle.rml_sorts.specs.Meanings.{sort_number}
 use Rattle.rml_sorts.specs.Drafts.{model_in}
-use Rattle.rml_sorts.proofs.BlockLists.{list_turn}
 use Rattle.rml_sorts.proofs.SortLists.{read_again, names_left, sort_turn, sort_more, as_many}
 use Rattle.rml_sorts.proofs.items.argument_sorts.Goals as goal
 

@@ -1,8 +1,9 @@
 use Rattle.std.proofs.Common.{refl, ap, sym, ◌∙◌, ◌++◌}
+use Rattle.base.proofs.Lists.{list_end}
 use Rattle.rml_syntax.specs.Tree.{command_tree, command_trees, block_trees, block_of, blocks_of}
 use Rattle.rml_sorts.specs.Commands.{quantifiers_of, quantifiers_of_block, quantifiers_of_blocks}
 use Rattle.rml_sorts.proofs.Branches.{tree-choice}
-use Rattle.rml_sorts.proofs.Turns.{places_turn, places_all}
+use Rattle.rml_sorts.proofs.Turns.{places_turn}
 use Rattle.rml_sorts.proofs.quantifiers.+blocks.Goals as goal
 
 pub add_block_quantifiers-loop-command-preserved : goal.add_block_quantifiers-loop-command-preserved
@@ -21,6 +22,6 @@ add_command_quantifiers-loop-branch-preserved t c =
 
 pub add_command_quantifiers-returns-after-loop-branch : goal.add_command_quantifiers-returns-after-loop-branch
 add_command_quantifiers-returns-after-loop-branch t c =
-    places_all (λ bs. quantifiers_of_blocks (blocks_of (block_trees bs))) c.deref-branch-items.result.now c.loop-branch.branch-index c.loop-branch.places.items _ refl c.loop-branch-test.false c.loop-branch.invariant
+    list_end (λ bs. quantifiers_of_blocks (blocks_of (block_trees bs))) c.deref-branch-items.result.now c.loop-branch.branch-index c.loop-branch.places.items _ refl c.loop-branch-test.false c.loop-branch.invariant
     ∙ ap (λ bs. c.args.places.now.items ++ quantifiers_of_blocks (blocks_of (block_trees bs))) c.deref-branch-items.ensures.value
     ∙ ap (λ x. c.args.places.now.items ++ quantifiers_of x) (sym (tree-choice c.args.command.now c.in-Choose.field-0 c.in-Choose.branches c.in-Choose.is))

@@ -1,9 +1,9 @@
 use Rattle.std.proofs.Common.{List, ap, sym, ◌∙◌}
+use Rattle.base.proofs.Lists.{map-map}
 use Rattle.rml_syntax.specs.declared.tree.Command.TheViews.{rolls-Choose}
 use Rattle.rml_syntax.specs.declared.tree.Command.TheOpen.{Choose}
 use Rattle.rml_syntax.specs.declared.tree.Command.TheFolds.{fold-roll-Command}
 use Rattle.rml_syntax.specs.Tree.{CommandTree, command_tree, command_step, Choose as Chosen, blocks_of}
-use Rattle.rml_syntax.proofs.Between.{map-map}
 use Rattle.rml_syntax.proofs.commands.choice_of.Goals as goal
 
 pub returns : goal.returns
