@@ -105,9 +105,7 @@ fn guarded(sentence: Sentence, mut block: Vec<Command>) -> Mem<Command>
 fn choice(alloc: Global, first: Command, second: Command) -> Mem<Command>
     ensures { IfOk result (λ c. command_view c ≡ choose (command_then (command_view first) (command_then (command_view second) no_commands))) }
 {
-    let mut branches = Vec::with_capacity(alloc, 2)?;
-    branches.push(first)?;
-    branches.push(second)?;
+    let branches = vec![in alloc; first, second]?;
     Ok(Command::Choose(branches))
 }
 
@@ -123,6 +121,22 @@ pub fn assertion(alloc: Global, sentence: Sentence) -> Mem<Command>
     Ok(command)
 }
 
+// A choice whose second branch begins with the assumption that the sentence is false.
+fn or_otherwise(
+    alloc: Global,
+    first: Command,
+    sentence: Sentence,
+    second: Vec<Command>,
+) -> Mem<Command>
+    ensures { IfOk result (λ c. command_view c ≡ choose (command_then (command_view first) (command_then
+        (seq (command_then (prim (assume (negation sentence))) (commands_view second.items))) no_commands))) }
+{
+    let sentence = negated(alloc, sentence)?;
+    let second = guarded(sentence, second)?;
+    let command = choice(alloc, first, second)?;
+    Ok(command)
+}
+
 // `if p` chooses between its two blocks, behind `assume p` and `assume ~p`.
 pub fn branching(
     alloc: Global,
@@ -134,8 +148,6 @@ pub fn branching(
 {
     let copy = sentence.copy(alloc)?;
     let first = guarded(copy, first)?;
-    let sentence = negated(alloc, sentence)?;
-    let second = guarded(sentence, second)?;
-    let command = choice(alloc, first, second)?;
+    let command = or_otherwise(alloc, first, sentence, second)?;
     Ok(command)
 }
