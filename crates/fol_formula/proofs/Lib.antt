@@ -7,3 +7,5 @@ mod Deciding
 mod Decisions
 pub mod Inclusions
 mod NormalForms
+pub mod Alike
+pub mod Growing

@@ -11,3 +11,4 @@ pub mod Deciding
 pub mod Agree
 pub mod Closed
 pub mod Decisions
+pub mod Growing

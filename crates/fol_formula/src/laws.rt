@@ -3,6 +3,7 @@ ghost use Rattle.fol_formula.specs.Agree.{TruthAgrees, ValuesAgree, ValuesAreInR
 ghost use Rattle.fol_formula.specs.Closed.{FitsIsBound, FitsIsBoundTerm, TruthReadsNoMore, ValueReadsNoMore, FitsUnderMore, FitsUnderMoreTerm};
 ghost use Rattle.fol_formula.specs.NormalForms.{UniversalByNormalForm, ExistsForallByNormalForm, NormalFormKeepsTruth};
 ghost use Rattle.fol_formula.specs.Decisions.{FragmentsAreDecided};
+ghost use Rattle.fol_formula.specs.Growing.{FittingIsKept, TruthReadsItsOwn};
 ghost use Rattle.fol_formula.specs.Inclusions.{NegationExchanges, UniversalIsEa, NormalIsEa, QuantifierFreeIsUniversal};
 
 /// Structures that agree wherever a formula looks give it one truth, and the value of a term is an
@@ -41,4 +42,11 @@ pub fn inclusion()
 /// A formula is universal, or exists-forall, or it is not; and so is its negation.
 pub fn decision()
     ensures { FragmentsAreDecided }
+{}
+
+/// What fits a signature fits one that grew from it, and truth reads no relation and no function that the
+/// signature does not have.
+pub fn growth()
+    ensures fitting { FittingIsKept }
+    ensures truth { TruthReadsItsOwn }
 {}

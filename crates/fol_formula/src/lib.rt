@@ -16,7 +16,7 @@ pub use ae::Ae;
 pub use classes::PrefixClasses;
 pub use ea::Ea;
 use fol_sig::{FunId, RelId, Sort};
-pub use laws::{agreement, classification, decision, inclusion, indices};
+pub use laws::{agreement, classification, decision, growth, inclusion, indices};
 pub use normal::Normal;
 pub use sentence::Sentence;
 pub use universal::Universal;
