@@ -9,3 +9,5 @@ mod NormalForms
 mod Witnessed
 mod WitnessesExist
 mod NumberOf
+mod Alike
+mod Growing

@@ -15,3 +15,4 @@ pub mod Existentials
 pub mod Agree
 pub mod Closed
 pub mod Decisions
+pub mod Growing

@@ -3,6 +3,7 @@ ghost use Rattle.fol_formula.specs.Agree.{TruthAgrees, ValuesAgree, ValuesAreInR
 ghost use Rattle.fol_formula.specs.Closed.{FitsIsBound, FitsIsBoundTerm, TruthReadsNoMore, ValueReadsNoMore, FitsUnderMore, FitsUnderMoreTerm};
 ghost use Rattle.fol_formula.specs.NormalForms.{UniversalByNormalForm, ExistsForallByNormalForm, NormalFormKeepsTruth, NormalFormStays};
 ghost use Rattle.fol_formula.specs.Decisions.{FragmentsAreDecided};
+ghost use Rattle.fol_formula.specs.Growing.{FittingIsKept, TruthReadsItsOwn};
 ghost use Rattle.fol_formula.specs.Inclusions.{NegationExchanges, UniversalIsExistsForall, UniversalIsEa, UniversalIsAe, NormalIsEa, NormalHasPlainTerms, QuantifierFreeIsUniversal};
 ghost use Rattle.fol_formula.specs.Lists.{FormLists, TermLists, FormTurns, TermTurns, RowsAreLists};
 ghost use Rattle.fol_formula.specs.Quantified.{AllBelow, AnyBelow};
@@ -73,4 +74,11 @@ pub fn witnesses()
     ensures exist { WitnessesExist }
     ensures none { WithoutExistentials }
     ensures universal { UniversalNeedsNoWitness }
+{}
+
+/// What fits a signature fits one that grew from it, and truth reads no relation and no function that the
+/// signature does not have.
+pub fn growth()
+    ensures fitting { FittingIsKept }
+    ensures truth { TruthReadsItsOwn }
 {}

@@ -19,7 +19,7 @@ pub use fragment::{
     SentenceIn, Universal,
 };
 pub use laws::{
-    agreement, classification, decision, inclusion, indices, lists, quantified, witnesses,
+    agreement, classification, decision, growth, inclusion, indices, lists, quantified, witnesses,
 };
 pub use sentence::Sentence;
 
