@@ -33,10 +33,6 @@ abbrev mutual
   RoomTerms depth no_terms = Unit {0}
   RoomTerms depth (term_then t ts) = RoomTerm depth t × RoomTerms depth ts
 
-abbrev pub size_of : TermTrees → ℕ
-size_of no_terms = 0
-size_of (term_then t ts) = suc (size_of ts)
-
 -- with so many arguments
 abbrev pub RelReady : Change → ℕ → ℕ → Type 0
 RelReady (change_rel r by) q count = q ≡ r → BoundForm count by
