@@ -21,7 +21,7 @@ pub record Updates : Type 0 where
   pub agree : TruthAgrees
   pub in_range : ValuesAreInRange
 
-module _ (known : Updates) (sig : Symbols) (s : Tables) (fits : FitsStructure sig s) where
+module _ (laws : Updates) (sig : Symbols) (s : Tables) (fits : FitsStructure sig s) where
   agree_relation : (r : ℕ) (f : List ℕ → Bool) → r < sig.relations → Agree sig s.sizes (with_rel (reading s) r (λ xs. f (reverse xs))) (reading (with_relation s r f))
   agree_relation r f known = record {
     size = λ k lt. refl;
@@ -29,14 +29,14 @@ module _ (known : Updates) (sig : Symbols) (s : Tables) (fits : FitsStructure si
     rel = λ q xs lt h. which q xs (q == r) refl (subst (λ ks. InRange s.sizes ks xs) (fits.sorts_of q lt) h);
     fun = λ g xs lt h. refl;
     within = λ g xs lt h.
-        subst (λ m. fun_at s g xs < size_at s m) (sym (fits.into_of g lt)) (known.elements s g xs fits.whole (subst (λ n. g < n) fits.functions lt) (subst (λ ks. InRange s.sizes ks xs) (fits.from_of g lt) h));
+        subst (λ m. fun_at s g xs < size_at s m) (sym (fits.into_of g lt)) (laws.elements s g xs fits.whole (subst (λ n. g < n) fits.functions lt) (subst (λ ks. InRange s.sizes ks xs) (fits.from_of g lt) h));
   }
     where
       which : (q : ℕ) (xs : List ℕ) (b : Bool) → (q == r) ≡ b → InRange s.sizes (relation_at s q).sorts xs → cond b (f (reverse xs)) (rel_at s q xs) ≡ rel_at (with_relation s r f) q xs
       which q xs true e h =
           let same = eqb-true q r e in
-          sym ((known.relations s r f).here xs (subst (λ n. r < n) fits.relations known) (subst (λ m. InRange s.sizes (relation_at s m).sorts xs) same h)) ∙ ap (λ m. rel_at (with_relation s r f) m xs) (sym same)
-      which q xs false e h = sym ((known.relations s r f).others q xs (eqb-false q r e))
+          sym ((laws.relations s r f).here xs (subst (λ n. r < n) fits.relations known) (subst (λ m. InRange s.sizes (relation_at s m).sorts xs) same h)) ∙ ap (λ m. rel_at (with_relation s r f) m xs) (sym same)
+      which q xs false e h = sym ((laws.relations s r f).others q xs (eqb-false q r e))
 
   agree_function : (g : ℕ) (f : List ℕ → ℕ) → g < sig.functions → FitsStructure sig (with_function s g f) → Agree sig s.sizes (with_fun (reading s) g (λ xs. f (reverse xs))) (reading (with_function s g f))
   agree_function g f known new_fits = record {
@@ -46,14 +46,14 @@ module _ (known : Updates) (sig : Symbols) (s : Tables) (fits : FitsStructure si
     fun = λ q xs lt h. same q xs lt h;
     within = λ q xs lt h.
         subst (λ y. y < get_or s.sizes (sig.into_of q) 0) (sym (same q xs lt h))
-        (subst (λ m. fun_at (with_function s g f) q xs < size_at (with_function s g f) m) (sym (new_fits.into_of q lt)) (known.elements (with_function s g f) q xs new_fits.whole (subst (λ n. q < n) new_fits.functions lt) (subst (λ ks. InRange s.sizes ks xs) (new_fits.from_of q lt) h)));
+        (subst (λ m. fun_at (with_function s g f) q xs < size_at (with_function s g f) m) (sym (new_fits.into_of q lt)) (laws.elements (with_function s g f) q xs new_fits.whole (subst (λ n. q < n) new_fits.functions lt) (subst (λ ks. InRange s.sizes ks xs) (new_fits.from_of q lt) h)));
   }
     where
       which : (q : ℕ) (xs : List ℕ) (b : Bool) → (q == g) ≡ b → InRange s.sizes (function_at s q).sorts xs → cond b (f (reverse xs)) (fun_at s q xs) ≡ fun_at (with_function s g f) q xs
       which q xs true e h =
           let same = eqb-true q g e in
-          sym ((known.functions s g f).here xs (subst (λ n. g < n) fits.functions known) (subst (λ m. InRange s.sizes (function_at s m).sorts xs) same h)) ∙ ap (λ m. fun_at (with_function s g f) m xs) (sym same)
-      which q xs false e h = sym ((known.functions s g f).others q xs (eqb-false q g e))
+          sym ((laws.functions s g f).here xs (subst (λ n. g < n) fits.functions known) (subst (λ m. InRange s.sizes (function_at s m).sorts xs) same h)) ∙ ap (λ m. fun_at (with_function s g f) m xs) (sym same)
+      which q xs false e h = sym ((laws.functions s g f).others q xs (eqb-false q g e))
 
       same : (q : ℕ) (xs : List ℕ) → q < sig.functions → InRange s.sizes (sig.from_of q) xs → cond (q == g) (f (reverse xs)) (fun_at s q xs) ≡ fun_at (with_function s g f) q xs
       same q xs lt h = which q xs (q == g) refl (subst (λ ks. InRange s.sizes ks xs) (fits.from_of q lt) h)
@@ -61,14 +61,14 @@ module _ (known : Updates) (sig : Symbols) (s : Tables) (fits : FitsStructure si
   -- the values of a term that fits a function, and of an index that fits a variable, are elements of its sort
   term-fits : (g : ℕ) (by : TermTree) (sorts env : List ℕ) → CanChange sig sorts (change_fun g by) → FitsStructure sig (with_function s g (λ tuple. value (reading s) by tuple))
   term-fits g by sorts env can =
-      (known.functions s g (λ tuple. value (reading s) by tuple)).fits sig can.0
+      (laws.functions s g (λ tuple. value (reading s) by tuple)).fits sig can.0
       (λ xs h.
-      subst (λ m. value (reading s) by xs < size_at s m) (fits.into_of g can.0) (known.in_range sig s by (reverse (sig.from_of g)) xs (sig.into_of g) fits can.1 (subst (λ ks. InRange s.sizes (reverse ks) xs) (sym (fits.from_of g can.0)) h)))
+      subst (λ m. value (reading s) by xs < size_at s m) (fits.into_of g can.0) (laws.in_range sig s by (reverse (sig.from_of g)) xs (sig.into_of g) fits can.1 (subst (λ ks. InRange s.sizes (reverse ks) xs) (sym (fits.from_of g can.0)) h)))
       fits
 
   index-fits : (g index : ℕ) (sorts env : List ℕ) → CanChange sig sorts (change_const g index) → InRange s.sizes sorts env → FitsStructure sig (with_function s g (λ tuple. get_or env index 0))
   index-fits g index sorts env can inside =
-      (known.functions s g (λ tuple. get_or env index 0)).fits sig can.0
+      (laws.functions s g (λ tuple. get_or env index 0)).fits sig can.0
       (λ xs h. subst (λ m. get_or env index 0 < size_at s m) (can.3 ∙ fits.into_of g can.0) (InRange-at s.sizes sorts env index inside can.2))
       fits
 
