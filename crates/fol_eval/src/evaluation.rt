@@ -2,11 +2,11 @@
 ghost use Rattle.std.specs.Prelude.{◌≡◌, ◌<◌, ◌≤◌, length, slice_index, take};
 ghost use Rattle.fol_sig.specs.Tables.{reading};
 ghost use Rattle.fol_formula.specs.View.{form, term as term_view, forms, terms as terms_view};
-ghost use Rattle.fol_formula.specs.Syntax.{for_all, for_some};
+ghost use Rattle.fol_formula.specs.Syntax.{for_all, for_some, size_of};
 ghost use Rattle.fol_formula.specs.Truth.{truth, all_true, any_true, value as value_of, values};
 ghost use Rattle.fol_formula.specs.Fits.{HasTruth, HasValue};
 ghost use Rattle.fol_eval.specs.Elements.{elements};
-ghost use Rattle.fol_eval.specs.Safe.{size_of, SafeForm, SafeForms, SafeTerm, SafeTerms};
+ghost use Rattle.fol_eval.specs.Safe.{SafeForm, SafeForms, SafeTerm, SafeTerms};
 
 use crate::Env;
 use fol_formula::{Formula, Term};

@@ -1,26 +1,13 @@
 -- A formula that fits has one truth in structures that agree.
-use Rattle.std.proofs.Common.{◌≡◌, ℕ, zero, suc, ◌<◌, Bool, true, false, not, ◌&&◌, ◌||◌, cond, List, [], ◌∷◌, get_or, refl, sym, ap, ◌∙◌, subst, arith}
+use Rattle.std.proofs.Common.{◌≡◌, ℕ, ◌<◌, Bool, true, false, not, cond, List, [], ◌∷◌, get_or, refl, sym, ap, ◌∙◌, subst, arith}
 use Rattle.fol_sig.specs.Tables.{Reading, InRange, Tables, reading, fun_at, size_at}
 use Rattle.fol_sig.proofs.Places.{InRange-at, fun_at-within}
 use Rattle.fol_formula.specs.Syntax.{FormTree, FormTrees, TermTree, TermTrees, top, bottom, rel, equal, negation, conjunction, disjunction, implication, equivalence, for_all, for_some, no_forms, form_then, bound, app, ite, no_terms, term_then}
-use Rattle.fol_formula.specs.Truth.{all_below, any_below, truth, all_true, any_true, value, values}
+use Rattle.fol_formula.specs.Truth.{truth, all_true, any_true, value, values}
 use Rattle.fol_formula.specs.Fits.{FitsForm, FitsForms, FitsTerm, FitsTerms}
 use Rattle.fol_sig.specs.Symbols.{Symbols, FitsStructure}
+use Rattle.fol_formula.proofs.Below.{all_below-within, any_below-within}
 use Rattle.fol_formula.specs.Agree.{Agree, TruthAgrees, ValuesAgree, ValuesAreInRange}
-
-all_below-within : (n m : ℕ) (p q : ℕ → Bool) → n ≡ m → ((x : ℕ) → x < n → p x ≡ q x) → all_below n p ≡ all_below m q
-all_below-within n m p q e h = below n (λ x lt. h x lt) ∙ ap (λ k. all_below k q) e
-  where
-    below : (k : ℕ) → ((x : ℕ) → x < k → p x ≡ q x) → all_below k p ≡ all_below k q
-    below zero h = refl
-    below (suc k) h = ap (λ b. b && p k) (below k (λ x lt. h x (omega arith))) ∙ ap (λ b. all_below k q && b) (h k (omega arith))
-
-any_below-within : (n m : ℕ) (p q : ℕ → Bool) → n ≡ m → ((x : ℕ) → x < n → p x ≡ q x) → any_below n p ≡ any_below m q
-any_below-within n m p q e h = below n (λ x lt. h x lt) ∙ ap (λ k. any_below k q) e
-  where
-    below : (k : ℕ) → ((x : ℕ) → x < k → p x ≡ q x) → any_below k p ≡ any_below k q
-    below zero h = refl
-    below (suc k) h = ap (λ b. b || p k) (below k (λ x lt. h x (omega arith))) ∙ ap (λ b. any_below k q || b) (h k (omega arith))
 
 either_below : (c : Bool) (x y n : ℕ) → x < n → y < n → cond c x y < n
 either_below true x y n p q = p

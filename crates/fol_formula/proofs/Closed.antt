@@ -7,7 +7,7 @@ use Rattle.fol_formula.specs.Syntax.{FormTree, FormTrees, TermTree, TermTrees, t
 use Rattle.fol_formula.specs.Truth.{truth, all_true, any_true, value, values}
 use Rattle.fol_formula.specs.Fits.{FitsForm, FitsForms, FitsTerm, FitsTerms, BoundForm, BoundForms, BoundTerm, BoundTerms}
 use Rattle.fol_formula.specs.Closed.{FitsIsBound, FitsIsBoundTerm, TruthReadsNoMore, ValueReadsNoMore, FitsUnderMore, FitsUnderMoreTerm}
-use Rattle.fol_formula.proofs.Quantified.{all_below-same, any_below-same}
+use Rattle.fol_formula.proofs.Below.{all_below-same, any_below-same}
 
 module _ (sig : Symbols) where
   mutual
@@ -50,8 +50,8 @@ module _ (s : Reading) (more : List ℕ) where
     truth-more (disjunction ps) env h = any_true-more ps env h
     truth-more (implication p q) env h = let e1 = truth-more p env h.0 in let e2 = truth-more q env h.1 in cc (e1, e2)
     truth-more (equivalence p q) env h = let e1 = truth-more p env h.0 in let e2 = truth-more q env h.1 in cc (e1, e2)
-    truth-more (for_all k p) env h = all_below-same (s.size k) _ _ (λ x. truth-more p (x ∷ env) h)
-    truth-more (for_some k p) env h = any_below-same (s.size k) _ _ (λ x. truth-more p (x ∷ env) h)
+    truth-more (for_all k p) env h = all_below-same (s.size k) _ _ (λ x lt. truth-more p (x ∷ env) h)
+    truth-more (for_some k p) env h = any_below-same (s.size k) _ _ (λ x lt. truth-more p (x ∷ env) h)
 
     all_true-more : (ps : FormTrees) (env : List ℕ) → BoundForms (length env) ps → all_true s ps (env ++ more) ≡ all_true s ps env
     all_true-more no_forms env h = refl

@@ -2,7 +2,7 @@
 use Rattle.std.proofs.Common.{Bool, true, false, not}
 use Rattle.fol_formula.specs.Syntax.{FormTree, FormTrees, TermTree, TermTrees, top, bottom, rel, equal, negation, conjunction, disjunction, implication, equivalence, for_all, for_some, no_forms, form_then, bound, app, ite, no_terms, term_then}
 use Rattle.fol_formula.specs.Fragments.{IsUniversal, AreUniversal, IsExistsForall, AreExistsForall, IsQuantifierFree, AreQuantifierFree, IsQuantifierFreeTerm, AreQuantifierFreeTerms, HasPlainTerms, HavePlainTerms, IsIteFree, AreIteFree, IsPlainAtom, IsNormalForm, AreNormalForms}
-use Rattle.fol_formula.specs.Inclusions.{NegationExchanges, UniversalIsEa, NormalIsEa, QuantifierFreeIsUniversal}
+use Rattle.fol_formula.specs.Inclusions.{NegationExchanges, UniversalIsExistsForall, UniversalIsEa, UniversalIsAe, NormalHasPlainTerms, NormalIsEa, QuantifierFreeIsUniversal}
 
 pub negation_exchanges : NegationExchanges
 negation_exchanges = record { of_ae = λ p. (λ h. h, λ h. h); of_ea = λ p. (λ h. h, λ h. h) }
@@ -116,3 +116,38 @@ quantifier_free_is_universal p h = record {
   exists_forall = λ positive. universal-ea positive p (free-universal positive p h);
   plain = free-plain p h;
 }
+
+mutual
+  universal-opposed : (positive : Bool) (p : FormTree) → IsUniversal positive p → IsExistsForall (not positive) p
+  universal-opposed positive top h = tt
+  universal-opposed positive bottom h = tt
+  universal-opposed positive (rel r args) h = tt
+  universal-opposed positive (equal a b) h = tt
+  universal-opposed true (negation p) h = universal-opposed false p h
+  universal-opposed false (negation p) h = universal-opposed true p h
+  universal-opposed positive (conjunction ps) h = universals-opposed positive ps h
+  universal-opposed positive (disjunction ps) h = universals-opposed positive ps h
+  universal-opposed true (implication p q) h = (universal-opposed false p h.0, universal-opposed true q h.1)
+  universal-opposed false (implication p q) h = (universal-opposed true p h.0, universal-opposed false q h.1)
+  universal-opposed positive (equivalence p q) h =
+      (universal-opposed false p h.1, universal-opposed true p h.0, universal-opposed false q h.3, universal-opposed true q h.2)
+  universal-opposed true (for_all k p) h = universal-opposed true p h
+  universal-opposed false (for_all k p) h = absurd h
+  universal-opposed true (for_some k p) h = absurd h
+  universal-opposed false (for_some k p) h = universal-opposed false p h
+
+  universals-opposed : (positive : Bool) (ps : FormTrees) → AreUniversal positive ps → AreExistsForall (not positive) ps
+  universals-opposed positive no_forms h = tt
+  universals-opposed positive (form_then p ps) h = (universal-opposed positive p h.0, universals-opposed positive ps h.1)
+
+pub universal_is_exists_forall : UniversalIsExistsForall
+universal_is_exists_forall true true p h = universal-ea true p h
+universal_is_exists_forall true false p h = universal-opposed true p h
+universal_is_exists_forall false true p h = universal-opposed false p h
+universal_is_exists_forall false false p h = universal-ea false p h
+
+pub universal_is_ae : UniversalIsAe
+universal_is_ae p h = (universal-opposed true p h.0, h.1)
+
+pub normal_has_plain_terms : NormalHasPlainTerms
+normal_has_plain_terms p h = normal-plain p h

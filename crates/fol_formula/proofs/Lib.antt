@@ -1,9 +1,13 @@
-pub mod Lists
-pub mod Loops
-pub mod Quantified
-pub mod AgreeTruth
-pub mod Closed
+mod Rows
+mod Below
+mod AgreeTruth
+mod Closed
 mod Deciding
 mod Decisions
-pub mod Inclusions
+mod Inclusions
 mod NormalForms
+mod Witnessed
+mod WitnessesExist
+mod NumberOf
+mod Alike
+mod Growing

@@ -3,9 +3,9 @@ use Rattle.std.proofs.Common.{◌≡◌, ◌↔◌, ℕ, zero, suc, Bool, true, 
 use Rattle.fol_sig.specs.Tables.{Reading}
 use Rattle.fol_formula.specs.Syntax.{FormTree, FormTrees, top, bottom, rel, equal, negation, conjunction, disjunction, implication, equivalence, for_all, for_some, no_forms, form_then}
 use Rattle.fol_formula.specs.Truth.{truth, all_true, any_true, all_below, any_below, same_truth}
-use Rattle.fol_formula.specs.Fragments.{IsUniversal, AreUniversal, IsExistsForall, AreExistsForall}
-use Rattle.fol_formula.proofs.Quantified.{all_below-same, any_below-same}
-use Rattle.fol_formula.specs.NormalForms.{normal_form, normal_forms, HasNoExistential, HaveNoExistential, HasNoExistentialUnderUniversal, HaveNoExistentialUnderUniversal, UniversalByNormalForm, ExistsForallByNormalForm, NormalFormKeepsTruth, signed}
+use Rattle.fol_formula.specs.Fragments.{IsUniversal, AreUniversal, IsExistsForall, AreExistsForall, IsPlainAtom, IsNormalForm, AreNormalForms}
+use Rattle.fol_formula.proofs.Below.{all_below-same, any_below-same, all_below-opposite, any_below-opposite}
+use Rattle.fol_formula.specs.NormalForms.{normal_form, normal_forms, HasNoExistential, HaveNoExistential, HasNoExistentialUnderUniversal, HaveNoExistentialUnderUniversal, UniversalByNormalForm, ExistsForallByNormalForm, NormalFormKeepsTruth, NormalFormStays, signed}
 
 always : Unit {0} ↔ Unit {0}
 always = (λ h. tt, λ h. tt)
@@ -134,14 +134,6 @@ other true false = refl
 other false true = refl
 other false false = refl
 
-not-all_below : (n : ℕ) (p q : ℕ → Bool) → ((x : ℕ) → p x ≡ not (q x)) → any_below n p ≡ not (all_below n q)
-not-all_below zero p q h = refl
-not-all_below (suc n) p q h = ap (λ b. b || p n) (not-all_below n p q h) ∙ ap (λ b. not (all_below n q) || b) (h n) ∙ sym (not-and (all_below n q) (q n))
-
-not-any_below : (n : ℕ) (p q : ℕ → Bool) → ((x : ℕ) → p x ≡ not (q x)) → all_below n p ≡ not (any_below n q)
-not-any_below zero p q h = refl
-not-any_below (suc n) p q h = ap (λ b. b && p n) (not-any_below n p q h) ∙ ap (λ b. not (any_below n q) && b) (h n) ∙ sym (not-or (any_below n q) (q n))
-
 module _ (s : Reading) where
   mutual
     keeps-truth : (positive : Bool) (p : FormTree) (env : List ℕ) → truth s (normal_form positive p) env ≡ signed positive (truth s p env)
@@ -177,10 +169,12 @@ module _ (s : Reading) where
         let e4 = keeps-truth false q env in
         let e5 = other (truth s p env) (truth s q env) in
         cc (e1, e2, e3, e4, e5)
-    keeps-truth true (for_all k p) env = all_below-same (s.size k) _ _ (λ x. keeps-truth true p (x ∷ env))
-    keeps-truth false (for_all k p) env = not-all_below (s.size k) _ _ (λ x. keeps-truth false p (x ∷ env))
-    keeps-truth true (for_some k p) env = any_below-same (s.size k) _ _ (λ x. keeps-truth true p (x ∷ env))
-    keeps-truth false (for_some k p) env = not-any_below (s.size k) _ _ (λ x. keeps-truth false p (x ∷ env))
+    keeps-truth true (for_all k p) env = all_below-same (s.size k) _ _ (λ x lt. keeps-truth true p (x ∷ env))
+    keeps-truth false (for_all k p) env =
+        any_below-same (s.size k) _ _ (λ x lt. keeps-truth false p (x ∷ env)) ∙ any_below-opposite (s.size k) (λ x. truth s p (x ∷ env))
+    keeps-truth true (for_some k p) env = any_below-same (s.size k) _ _ (λ x lt. keeps-truth true p (x ∷ env))
+    keeps-truth false (for_some k p) env =
+        all_below-same (s.size k) _ _ (λ x lt. keeps-truth false p (x ∷ env)) ∙ all_below-opposite (s.size k) (λ x. truth s p (x ∷ env))
 
     all-keep : (ps : FormTrees) (env : List ℕ) → all_true s (normal_forms true ps) env ≡ all_true s ps env
     all-keep no_forms env = refl
@@ -202,3 +196,37 @@ module _ (s : Reading) where
 
 pub normal_form_keeps_truth : NormalFormKeepsTruth
 normal_form_keeps_truth s positive p env = keeps-truth s positive p env
+
+atom-stays : (p : FormTree) → IsPlainAtom p → normal_form false p ≡ negation p
+atom-stays (rel r args) h = refl
+atom-stays (equal a b) h = refl
+atom-stays top h = absurd h
+atom-stays bottom h = absurd h
+atom-stays (negation p) h = absurd h
+atom-stays (conjunction ps) h = absurd h
+atom-stays (disjunction ps) h = absurd h
+atom-stays (implication p q) h = absurd h
+atom-stays (equivalence p q) h = absurd h
+atom-stays (for_all k p) h = absurd h
+atom-stays (for_some k p) h = absurd h
+
+mutual
+  stays : (p : FormTree) → IsNormalForm p → normal_form true p ≡ p
+  stays top h = refl
+  stays bottom h = refl
+  stays (rel r args) h = refl
+  stays (equal a b) h = refl
+  stays (negation p) h = atom-stays p h
+  stays (conjunction ps) h = ap conjunction (stay ps h)
+  stays (disjunction ps) h = ap disjunction (stay ps h)
+  stays (implication p q) h = absurd h
+  stays (equivalence p q) h = absurd h
+  stays (for_all k p) h = ap (for_all k) (stays p h)
+  stays (for_some k p) h = ap (for_some k) (stays p h)
+
+  stay : (ps : FormTrees) → AreNormalForms ps → normal_forms true ps ≡ ps
+  stay no_forms h = refl
+  stay (form_then p ps) h = ap (λ q. form_then q (normal_forms true ps)) (stays p h.0) ∙ ap (form_then p) (stay ps h.1)
+
+pub normal_form_stays : NormalFormStays
+normal_form_stays p h = stays p h

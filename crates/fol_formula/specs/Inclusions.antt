@@ -1,7 +1,7 @@
 -- How the fragments lie in one another.
 use Rattle.std.specs.Prelude.{Bool, ◌↔◌}
 use Rattle.fol_formula.specs.Syntax.{FormTree, negation}
-use Rattle.fol_formula.specs.Fragments.{IsUniversal, IsExistsForall, IsQuantifierFree, HasPlainTerms, IsEa, IsAe, IsPlainUniversal, IsNormal}
+use Rattle.fol_formula.specs.Fragments.{IsUniversal, IsExistsForall, IsQuantifierFree, HasPlainTerms, IsNormalForm, IsEa, IsAe, IsPlainUniversal, IsNormal}
 
 -- the negation of an Ae is an Ea, and that of an Ea an Ae
 pub record NegationExchanges : Type 0 where
@@ -22,3 +22,14 @@ pub record QuantifierFree (p : FormTree) : Type 0 where
 
 abbrev pub QuantifierFreeIsUniversal : Type 0
 QuantifierFreeIsUniversal = (p : FormTree) → IsQuantifierFree p → QuantifierFree p
+
+-- a universal formula is exists-forall, as it stands and negated
+abbrev pub UniversalIsExistsForall : Type 0
+UniversalIsExistsForall = (positive other : Bool) (p : FormTree) → IsUniversal positive p → IsExistsForall other p
+
+abbrev pub UniversalIsAe : Type 0
+UniversalIsAe = (p : FormTree) → IsPlainUniversal p → IsAe p
+
+-- without `ite` no quantifier stands inside a term
+abbrev pub NormalHasPlainTerms : Type 0
+NormalHasPlainTerms = (p : FormTree) → IsNormalForm p → HasPlainTerms p

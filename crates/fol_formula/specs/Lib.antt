@@ -7,7 +7,12 @@ pub mod Code
 pub mod Fragments
 pub mod NormalForms
 pub mod Inclusions
+pub mod Witnesses
+pub mod Quantified
+pub mod Lists
 pub mod Deciding
+pub mod Existentials
 pub mod Agree
 pub mod Closed
 pub mod Decisions
+pub mod Growing

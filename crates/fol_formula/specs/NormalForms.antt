@@ -3,7 +3,7 @@ use Rattle.std.specs.Prelude.{Bool, true, false, not, ◌↔◌, ◌≡◌, List
 use Rattle.fol_sig.specs.Tables.{Reading}
 use Rattle.fol_formula.specs.Syntax.{FormTree, FormTrees, top, bottom, rel, equal, negation, conjunction, disjunction, implication, equivalence, for_all, for_some, no_forms, form_then}
 use Rattle.fol_formula.specs.Truth.{truth}
-use Rattle.fol_formula.specs.Fragments.{IsUniversal, IsExistsForall}
+use Rattle.fol_formula.specs.Fragments.{IsUniversal, IsExistsForall, IsNormalForm}
 
 abbrev pub both : FormTree → FormTree → FormTree
 both p q = conjunction (form_then p (form_then q no_forms))
@@ -94,3 +94,7 @@ signed false b = not b
 
 abbrev pub NormalFormKeepsTruth : Type 0
 NormalFormKeepsTruth = (s : Reading) (positive : Bool) (p : FormTree) (env : List ℕ) → truth s (normal_form positive p) env ≡ signed positive (truth s p env)
+
+-- what is in normal form already stays
+abbrev pub NormalFormStays : Type 0
+NormalFormStays = (p : FormTree) → IsNormalForm p → normal_form true p ≡ p

@@ -1,12 +1,13 @@
-// A second formula with the same tree.
-ghost use Rattle.std.specs.Prelude.{◌≡◌, IfOk};
-ghost use Rattle.fol_formula.specs.View.{form, term, forms, terms as terms_view};
+// Second formulas and terms, with the same trees.
+ghost use Rattle.std.specs.Prelude.{◌≡◌, map, IfOk};
+ghost use Rattle.fol_formula.specs.View.{form, term};
 
 use crate::{Formula, Term};
 use base::Mem;
 use std::alloc::Global;
 
 impl Term {
+    /// A second term with the same tree.
     #[cycle(copy)]
     pub fn copy(&self, alloc: Global) -> Mem<Term>
         ensures { IfOk result (λ t. term t ≡ term self.now) }
@@ -24,6 +25,7 @@ impl Term {
 }
 
 impl Formula {
+    /// A second formula with the same tree.
     #[cycle(copy)]
     pub fn copy(&self, alloc: Global) -> Mem<Formula>
         ensures { IfOk result (λ p. form p ≡ form self.now) }
@@ -50,9 +52,10 @@ impl Formula {
     }
 }
 
+/// A copy of each term.
 #[cycle(copy)]
-fn copy_terms(alloc: Global, terms: &[Term]) -> Mem<Vec<Term>>
-    ensures { IfOk result (λ ts. terms_view ts.items ≡ terms_view terms.now) }
+pub fn copy_terms(alloc: Global, terms: &[Term]) -> Mem<Vec<Term>>
+    ensures { IfOk result (λ ts. map term ts.items ≡ map term terms.now) }
 {
     let mut all = Vec::with_capacity(alloc, terms.len())?;
     for t in terms {
@@ -61,9 +64,10 @@ fn copy_terms(alloc: Global, terms: &[Term]) -> Mem<Vec<Term>>
     Ok(all)
 }
 
+/// A copy of each formula.
 #[cycle(copy)]
-fn copy_formulas(alloc: Global, formulas: &[Formula]) -> Mem<Vec<Formula>>
-    ensures { IfOk result (λ ps. forms ps.items ≡ forms formulas.now) }
+pub fn copy_formulas(alloc: Global, formulas: &[Formula]) -> Mem<Vec<Formula>>
+    ensures { IfOk result (λ ps. map form ps.items ≡ map form formulas.now) }
 {
     let mut all = Vec::with_capacity(alloc, formulas.len())?;
     for p in formulas {

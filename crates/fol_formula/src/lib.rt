@@ -2,24 +2,26 @@
 //! they fit, how large they are, and the fragments that can be decided.
 #![tactic(auto)]
 
-mod ae;
 mod classes;
 mod copies;
 mod counts;
-mod ea;
+mod existentials;
+mod fragment;
 mod laws;
-mod normal;
 mod sentence;
-mod universal;
 
-pub use ae::Ae;
 pub use classes::PrefixClasses;
-pub use ea::Ea;
+pub use copies::{copy_formulas, copy_terms};
+pub use existentials::existentials_of_all;
 use fol_sig::{FunId, RelId, Sort};
-pub use laws::{agreement, classification, decision, inclusion, indices};
-pub use normal::Normal;
+pub use fragment::{
+    Ae, Ea, ExistsForall, ForallExists, Fragment, Normal, NormalExistsForall, PurelyUniversal,
+    SentenceIn, Universal,
+};
+pub use laws::{
+    agreement, classification, decision, growth, inclusion, indices, lists, quantified, witnesses,
+};
 pub use sentence::Sentence;
-pub use universal::Universal;
 
 /// A term. The number in `Bound` counts binders outward; the nearest is 0. `Ite` has the value of its
 /// second part where the formula is true, and that of its third part elsewhere.

@@ -32,6 +32,7 @@ impl Model for Sentence {
 }
 
 impl Sentence {
+    /// The formula, which has no free index.
     pub fn of(formula: Formula) -> Sentence
         requires { BoundForm 0 (form formula) }
         ensures { result ≡ form formula }
@@ -53,18 +54,21 @@ impl Sentence {
         self.formula
     }
 
+    /// How many nodes the formula has, or the greatest number where it has more.
     pub fn nodes(&self) -> u64
         ensures { result ≡ saturated (form_nodes self.now) }
     {
         self.formula.nodes()
     }
 
+    /// How deep the formula is, or the greatest number where it is deeper.
     pub fn depth(&self) -> u64
         ensures { result ≡ saturated (form_depth self.now) }
     {
         self.formula.depth()
     }
 
+    /// A second sentence with the same tree.
     pub fn copy(&self, alloc: Global) -> Mem<Sentence>
         ensures { IfOk result (λ s. s ≡ self.now) }
     {

@@ -1,4 +1,5 @@
-// Leaves are put together.
+// Leaves are put together: those of the arguments to leaves of an application or an atom, and those of
+// an atom to one formula.
 ghost use Rattle.std.specs.Prelude.{◌≡◌, ◌++◌, map, IfOk, OnOk};
 ghost use Rattle.fol_formula.specs.Syntax.{term_then, app};
 ghost use Rattle.fol_formula.specs.View.{form};
@@ -11,6 +12,7 @@ use fol_formula::{Formula, Term};
 use fol_sig::{FunId, RelId};
 use std::alloc::Global;
 
+// Pushes the leaf of an argument before each of the leaves of those behind it.
 fn push_terms_behind(
     alloc: Global,
     first: &TermLeaf,
@@ -36,6 +38,7 @@ pub fn joined_terms(alloc: Global, first: &[TermLeaf], rest: &[TermsLeaf]) -> Me
     Ok(all)
 }
 
+// Pushes the equation of the leaf of a term with each of another.
 fn push_equations(
     alloc: Global,
     positive: bool,
@@ -127,6 +130,7 @@ pub fn push_given(
     Ok(())
 }
 
+// The conditions, and the literal.
 fn conjunction_of(leaf: AtomLeaf) -> Mem<Formula>
     ensures { IfOk result (λ f. form f ≡ leaf_form (atom_leaf leaf)) }
 {
@@ -139,6 +143,7 @@ fn conjunction_of(leaf: AtomLeaf) -> Mem<Formula>
     Ok(Formula::And(parts))
 }
 
+// One And for each leaf.
 fn any_of(alloc: Global, leaves: Vec<AtomLeaf>) -> Mem<Formula>
     ensures { IfOk result (λ f. form f ≡ any_of (map atom_leaf leaves.items)) }
 {

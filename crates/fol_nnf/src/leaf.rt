@@ -1,4 +1,5 @@
-// The leaves of a term: what it may be, and under which conditions.
+// The leaves of a term: what it may be, and under which conditions. Where `Ite` stands inside a term it
+// is not one value but a choice, and each way through the choices is a leaf.
 ghost use Rattle.std.specs.Prelude.{◌≡◌, ◌++◌, map, IfOk, OnOk};
 ghost use Rattle.fol_formula.specs.Syntax.{term_then};
 ghost use Rattle.fol_formula.specs.View.{form, term as term_view, terms as terms_view};
@@ -6,11 +7,13 @@ ghost use Rattle.fol_nnf.specs.Normal.{behind, equal_literal, literal};
 ghost use Rattle.fol_nnf.specs.Leaves.{term_leaf, terms_leaf, atom_leaf};
 
 use base::Mem;
-use fol_formula::{Formula, Term};
+use fol_formula::{Formula, Term, copy_formulas, copy_terms};
 use std::alloc::Global;
 
+/// What a term may be.
 #[derive(Drop)]
 pub struct TermLeaf {
+    /// In normal form, the outermost first; where all hold the term has the value of this leaf.
     pub conditions: Vec<Formula>,
     pub term: Term,
 }
@@ -22,6 +25,7 @@ pub struct TermsLeaf {
     pub terms: Vec<Term>,
 }
 
+/// What an atom, or its negation, may be.
 #[derive(Drop)]
 pub struct AtomLeaf {
     pub conditions: Vec<Formula>,
@@ -39,30 +43,12 @@ pub fn literal(alloc: Global, positive: bool, atom: Formula) -> Mem<Formula>
     }
 }
 
-fn push_formulas(alloc: Global, from: &[Formula], to: &mut Vec<Formula>) -> Mem<()>
-    ensures { OnOk result (map form to.new.items ≡ map form to.old.items ++ map form from.now) }
-{
-    for p in from {
-        to.push(p.copy(alloc)?)?;
-    }
-    Ok(())
-}
-
-fn push_terms(alloc: Global, from: &[Term], to: &mut Vec<Term>) -> Mem<()>
-    ensures { OnOk result (map term_view to.new.items ≡ map term_view to.old.items ++ map term_view from.now) }
-{
-    for t in from {
-        to.push(t.copy(alloc)?)?;
-    }
-    Ok(())
-}
-
 fn both_conditions(alloc: Global, first: &[Formula], second: &[Formula]) -> Mem<Vec<Formula>>
     ensures { IfOk result (λ all. map form all.items ≡ map form first.now ++ map form second.now) }
 {
-    let mut all = Vec::new(alloc);
-    push_formulas(alloc, first, &mut all)?;
-    push_formulas(alloc, second, &mut all)?;
+    let mut all = copy_formulas(alloc, first)?;
+    let mut more = copy_formulas(alloc, second)?;
+    all.append(&mut more)?;
     Ok(all)
 }
 
@@ -70,9 +56,10 @@ fn both_conditions(alloc: Global, first: &[Formula], second: &[Formula]) -> Mem<
 fn term_before(alloc: Global, first: &Term, rest: &[Term]) -> Mem<Vec<Term>>
     ensures { IfOk result (λ all. terms_view all.items ≡ term_then (term_view first.now) (terms_view rest.now)) }
 {
-    let mut all = Vec::new(alloc);
+    let mut all = Vec::with_capacity(alloc, rest.len() + 1)?;
     all.push(first.copy(alloc)?)?;
-    push_terms(alloc, rest, &mut all)?;
+    let mut more = copy_terms(alloc, rest)?;
+    all.append(&mut more)?;
     Ok(all)
 }
 

@@ -1,4 +1,5 @@
-//! The normal form of a sentence: negations are pushed to the atoms, and `Ite` is lifted out of them.
+//! The normal form of a sentence: negations are pushed to the atoms, and `Ite` is lifted out of them, so
+//! that what is left to instantiate is made of literals, And, Or and quantifiers.
 #![tactic(auto)]
 
 mod join;
@@ -17,7 +18,7 @@ pub use laws::exactness;
 use std::alloc::Global;
 use walk::normal_formula;
 
-/// The negation of a sentence.
+/// The negation of a forall-exists sentence, which is exists-forall. Nothing is copied.
 pub fn negate(alloc: Global, sentence: Ae) -> Mem<Ea>
     ensures tree { IfOk result (λ s. s ≡ negation sentence) }
     ensures meaning { IfOk result (λ s. Negates sentence s) }
@@ -27,7 +28,8 @@ pub fn negate(alloc: Global, sentence: Ae) -> Mem<Ea>
     Ok(Ea::new(Sentence::of(Formula::Not(formula))))
 }
 
-/// The normal form of a sentence.
+/// The normal form of a sentence. An `Ite` in an atom makes one literal of each way through it, so the
+/// result may be larger by the product of the choices in an atom; an equivalence has each side twice.
 pub fn normal(alloc: Global, sentence: &Ea) -> Mem<Normal>
     ensures tree { IfOk result (λ s. s ≡ normal true sentence.now) }
     ensures meaning { IfOk result (λ s. KeepsMeaning sentence.now s) }

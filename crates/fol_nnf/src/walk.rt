@@ -1,4 +1,5 @@
-// Along the formula.
+// Along the formula: negations are pushed down to the atoms, and each atom becomes the Or over its
+// leaves. An atom without `Ite` has one leaf and is copied.
 ghost use Rattle.std.specs.Prelude.{◌≡◌, IfOk, map};
 ghost use Rattle.fol_formula.specs.View.{form, forms, term as term_view, terms as terms_view};
 ghost use Rattle.fol_formula.specs.NormalForms.{both};
@@ -147,6 +148,7 @@ pub fn normal_formula(alloc: Global, p: &Formula, positive: bool) -> Mem<Formula
 fn normal_formulas(alloc: Global, ps: &[Formula], positive: bool) -> Mem<Vec<Formula>>
     ensures { IfOk result (λ fs. forms fs.items ≡ normals positive (forms ps.now)) }
 {
+    fol_formula::lists();
     let mut all = Vec::with_capacity(alloc, ps.len())?;
     for p in ps {
         all.push(normal_formula(alloc, p, positive)?)?;

@@ -6,3 +6,5 @@ pub mod Orders
 pub mod Cycles
 pub mod FirstCycles
 pub mod Waiting
+pub mod GrownSignatures
+pub mod GrownStructures

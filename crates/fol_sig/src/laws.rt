@@ -3,6 +3,7 @@ ghost use Rattle.std.specs.Prelude.{ℕ, List, Bool, ◌<◌, length};
 ghost use Rattle.fol_sig.specs.Tables.{Tables, IsStructure, InRange, function_at, fun_at, size_at};
 ghost use Rattle.fol_sig.specs.Strata.{OrderHasNoCycle, FirstCycleIsOne};
 ghost use Rattle.fol_sig.specs.Cycles.{CycleHasFirst};
+ghost use Rattle.fol_sig.specs.Growing.{SignaturesGrow, SortsAreKept, StructuresExtend, StructuresReduce, StructuresAreExtensions};
 ghost use Rattle.fol_sig.specs.Updates.{UpdatesRelation, UpdatesFunction};
 
 /// An updated symbol has the new value at each tuple, each other symbol is as before, and the updated
@@ -27,4 +28,14 @@ pub fn strata_laws()
 /// Where no function is the first that closes a cycle, none stands on one.
 pub fn cycle_law()
     ensures { CycleHasFirst }
+{}
+
+/// A signature that grows has the same orders of its sorts, and the structures of the grown one are those
+/// of the signature with tables for the new symbols.
+pub fn growth_laws()
+    ensures signatures { SignaturesGrow }
+    ensures sorts { SortsAreKept }
+    ensures extend { StructuresExtend }
+    ensures reduce { StructuresReduce }
+    ensures all { StructuresAreExtensions }
 {}

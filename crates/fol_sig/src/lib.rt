@@ -6,6 +6,7 @@
 //! Generalization", PLDI 2016, section 3.)
 #![tactic(auto)]
 
+mod growing;
 mod laws;
 mod order;
 mod passes;
@@ -14,7 +15,8 @@ mod sorts;
 mod structure;
 mod table;
 
-pub use laws::{cycle_law, strata_laws, update_laws, value_law};
+pub use growing::with_constants;
+pub use laws::{cycle_law, growth_laws, strata_laws, update_laws, value_law};
 pub use order::{Cycle, Strata};
 pub use passes::strata;
 pub use signature::Signature;

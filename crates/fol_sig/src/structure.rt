@@ -2,7 +2,7 @@
 ghost use Rattle.std.specs.Prelude.{◌≡◌, ◌<◌, [], ◌∷◌, ◌++◌, length, All, IfOk, OnOk, OnErr, map};
 ghost use Rattle.fol_sig.specs.Tables.{numbers, AreSorts, InRange, tuple_count, size_at, rel_at, fun_at, relation_at, function_at, blank_relation, blank_function, blank};
 ghost use Rattle.fol_sig.specs.Symbols.{Symbols, FitsStructure, symbols};
-ghost use Rattle.fol_sig.specs.Constants.{constant_table, keep_functions};
+ghost use Rattle.fol_sig.specs.Constants.{constant_table, constant_tables, with_constants, reduct};
 ghost use Rattle.fol_sig.specs.Updates.{SetsRelation, SetsFunction, with_relation_cells, with_function_cells};
 
 use crate::table::Table;
@@ -181,12 +181,42 @@ impl Structure {
         Ok(())
     }
 
-    /// Drops the functions behind the first ones.
-    pub fn keep_functions(&mut self, count: u32)
-        ensures { self.new ≡ keep_functions count self.old }
+    /// Adds functions without arguments behind the others, with these values. The structure is as before
+    /// where the memory is wanting.
+    pub fn add_constants(&mut self, alloc: Global, sorts: &[Sort], values: &[u32]) -> Mem<()>
+        requires known { AreSorts (length self.old.sizes) (numbers sorts.now) }
+        requires in_range { InRange self.old.sizes (numbers sorts.now) values.now }
+        ensures added { OnOk result (self.new ≡ with_constants self.old (numbers sorts.now) values.now) }
+        ensures kept { OnErr result (self.new ≡ self.old) }
     {
-        self.functions.truncate(count as usize);
+        let mut constants = constants(alloc, &self.sizes, sorts, values)?;
+        self.functions.append(&mut constants)?;
+        Ok(())
     }
+
+    /// Drops the relations and functions behind those of the signature.
+    pub fn restrict(&mut self, signature: &Signature)
+        ensures { self.new ≡ reduct (symbols signature.now) self.old }
+    {
+        self.relations.truncate(signature.relation_count() as usize);
+        self.functions.truncate(signature.function_count() as usize);
+    }
+}
+
+// The tables of functions without arguments that have these values.
+fn constants(alloc: Global, sizes: &[u32], sorts: &[Sort], values: &[u32]) -> Mem<Vec<Function>>
+    requires { length sorts.now ≡ length values.now }
+    ensures { IfOk result (λ ts. ts.items ≡ constant_tables (numbers sorts.now) values.now) }
+{
+    let mut all = Vec::new(alloc);
+    for i in 0..sorts.len() {
+        let table = Table::filled(alloc, sizes, &Sorts::new(alloc), values[i])?;
+        all.push(Function {
+            table,
+            into: sorts[i],
+        })?;
+    }
+    Ok(all)
 }
 
 fn blank_relations(alloc: Global, sizes: &[u32], declared: &[Sorts]) -> Mem<Vec<Table<bool>>>

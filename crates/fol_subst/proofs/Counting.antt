@@ -5,12 +5,12 @@ use Rattle.std.proofs.lemmas.Bool.{cases_lt, eqb-true, ne_eqb}
 use Rattle.std.proofs.lemmas.Bool.Decides.{nat_tests}
 use Rattle.std.proofs.Math.Nat.{mul-le-mul_right}
 use Rattle.std.proofs.lemmas.List.{reverse-append, length-reverse}
-use Rattle.fol_formula.specs.Syntax.{FormTree, FormTrees, TermTree, TermTrees, top, bottom, rel, equal, negation, conjunction, disjunction, implication, equivalence, for_all, for_some, no_forms, form_then, bound, app, ite, no_terms, term_then, list_of}
+use Rattle.fol_formula.specs.Syntax.{FormTree, FormTrees, TermTree, TermTrees, top, bottom, rel, equal, negation, conjunction, disjunction, implication, equivalence, for_all, for_some, no_forms, form_then, bound, app, ite, no_terms, term_then, list_of, size_of}
 use Rattle.fol_formula.specs.Fits.{BoundForm, BoundTerm}
 use Rattle.fol_formula.specs.Counts.{form_nodes, forms_nodes, term_nodes, terms_nodes, form_depth, forms_depth, term_depth, terms_depth}
 use Rattle.fol_subst.specs.Replace.{put_form, put_term, Change, change_rel, change_fun, change_const, rel_instance, app_instance, changed_form, changed_forms, changed_term, changed_terms}
 use Rattle.fol_subst.specs.Limits.{is_too_large, IndicesFit, IndicesFitAll, IndicesFitTerm, IndicesFitTerms}
-use Rattle.fol_subst.specs.Room.{size_of, RelReady, AppReady, ReadyForm, ReadyForms, ReadyTerm, ReadyTerms}
+use Rattle.fol_subst.specs.Room.{RelReady, AppReady, ReadyForm, ReadyForms, ReadyTerm, ReadyTerms}
 use Rattle.fol_subst.specs.Extents.{capped, extent, none, one, beside, over, under, put_in, places_form, places_forms, places_term, places_terms, places_of, extent_form, extent_forms, extent_term, extent_terms, extent_instance, is_over}
 use Rattle.fol_subst.specs.declared.extent.Extent.{Extent}
 use Rattle.fol_subst.proofs.ReplaceTruth.{length-list_of, size_of-changed}

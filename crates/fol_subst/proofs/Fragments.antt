@@ -5,7 +5,7 @@ use mathlib.Core.List.{reverse_aux}
 use Rattle.std.proofs.lemmas.Bool.{cases_lt}
 use Rattle.fol_formula.specs.Syntax.{FormTree, FormTrees, TermTree, TermTrees, top, bottom, rel, equal, negation, conjunction, disjunction, implication, equivalence, for_all, for_some, no_forms, form_then, bound, app, ite, no_terms, term_then, list_of}
 use Rattle.fol_formula.specs.Fragments.{IsUniversal, AreUniversal, IsExistsForall, AreExistsForall, IsQuantifierFree, AreQuantifierFree, IsQuantifierFreeTerm, AreQuantifierFreeTerms, HasPlainTerms, HavePlainTerms}
-use Rattle.fol_formula.proofs.Inclusions.{universal-ea, quantifier_free_is_universal}
+use Rattle.fol_formula.specs.Inclusions.{UniversalIsExistsForall, QuantifierFreeIsUniversal}
 use Rattle.fol_subst.specs.Shift.{shift_form, shift_forms, shift_term, shift_terms}
 use Rattle.fol_subst.specs.Replace.{picked, put_form, put_forms, put_term, put_terms, Change, change_rel, change_fun, change_const, rel_instance, app_instance, changed_form, changed_forms, changed_term, changed_terms}
 use Rattle.fol_subst.specs.KeptFragments.{HasNoQuantifier, KeepsFragments}
@@ -145,10 +145,7 @@ app-free (change_const g index) d f new none h = which (f == g)
     which true = tt
     which false = h
 
-free-plain : (p : FormTree) → IsQuantifierFree p → HasPlainTerms p
-free-plain p h = (quantifier_free_is_universal p h).plain
-
-module _ (c : Change) (none : HasNoQuantifier c) where
+module _ (prefix : UniversalIsExistsForall) (free : QuantifierFreeIsUniversal) (c : Change) (none : HasNoQuantifier c) where
   mutual
     pub changed-free-form : (p : FormTree) (d : ℕ) → IsQuantifierFree p → IsQuantifierFree (changed_form c d p)
     changed-free-form top d h = tt
@@ -180,7 +177,7 @@ module _ (c : Change) (none : HasNoQuantifier c) where
     changed-plain : (p : FormTree) (d : ℕ) → HasPlainTerms p → HasPlainTerms (changed_form c d p)
     changed-plain top d h = tt
     changed-plain bottom d h = tt
-    changed-plain (rel q ts) d h = free-plain (rel_instance c q (changed_terms c d ts)) (rel-free c q (changed_terms c d ts) none (changed-free-terms ts d h))
+    changed-plain (rel q ts) d h = (free (rel_instance c q (changed_terms c d ts)) (rel-free c q (changed_terms c d ts) none (changed-free-terms ts d h))).plain
     changed-plain (equal s t) d h = (changed-free-term s d h.0, changed-free-term t d h.1)
     changed-plain (negation p) d h = changed-plain p d h
     changed-plain (conjunction ps) d h = changed-plains ps d h
@@ -218,7 +215,7 @@ module _ (c : Change) (none : HasNoQuantifier c) where
     changed-ea : (positive : Bool) (p : FormTree) (d : ℕ) → IsExistsForall positive p → IsExistsForall positive (changed_form c d p)
     changed-ea positive top d h = tt
     changed-ea positive bottom d h = tt
-    changed-ea positive (rel q ts) d h = universal-ea positive (rel_instance c q (changed_terms c d ts)) (rel-universal c q (changed_terms c d ts) positive none)
+    changed-ea positive (rel q ts) d h = prefix positive positive (rel_instance c q (changed_terms c d ts)) (rel-universal c q (changed_terms c d ts) positive none)
     changed-ea positive (equal s t) d h = tt
     changed-ea positive (negation p) d h = changed-ea (not positive) p d h
     changed-ea positive (conjunction ps) d h = changed-eas positive ps d h
@@ -234,12 +231,12 @@ module _ (c : Change) (none : HasNoQuantifier c) where
     changed-eas positive no_forms d h = tt
     changed-eas positive (form_then p ps) d h = (changed-ea positive p d h.0, changed-eas positive ps d h.1)
 
-pub keeps_fragments : (c : Change) (within new : FormTree) → new ≡ changed_form c 0 within → HasNoQuantifier c → KeepsFragments within new
-keeps_fragments c within new is none =
+pub keeps_fragments : UniversalIsExistsForall → QuantifierFreeIsUniversal → (c : Change) (within new : FormTree) → new ≡ changed_form c 0 within → HasNoQuantifier c → KeepsFragments within new
+keeps_fragments prefix free c within new is none =
     subst (KeepsFragments within) (sym is)
     (record {
-      universal = λ positive h. changed-universal c none positive within 0 h;
-      exists_forall = λ positive h. changed-ea c none positive within 0 h;
-      plain = λ h. changed-plain c none within 0 h;
-      quantifier_free = λ h. changed-free-form c none within 0 h;
+      universal = λ positive h. changed-universal prefix free c none positive within 0 h;
+      exists_forall = λ positive h. changed-ea prefix free c none positive within 0 h;
+      plain = λ h. changed-plain prefix free c none within 0 h;
+      quantifier_free = λ h. changed-free-form prefix free c none within 0 h;
     })

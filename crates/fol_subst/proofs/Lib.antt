@@ -1,10 +1,9 @@
 mod ShiftTruth
 mod ReplaceTruth
-pub mod Fitting
+mod Fitting
 mod Sizes
 mod Counting
-pub mod Rooms
+mod Rooms
 mod InStructures
 mod Fragments
-pub mod Meaning
-mod Samples
+mod Meaning

@@ -4,19 +4,19 @@ use Rattle.std.specs.Prelude.{reverse}
 use Rattle.std.proofs.lemmas.Bool.{cases_lt, lt-ltb, le-ltb, eqb-true}
 use Rattle.std.proofs.lemmas.List.{get_or_append_left, get_or-append_right, get_or-append-add, get_or-map, reverse-append, map-append, length-reverse}
 use Rattle.fol_sig.specs.Tables.{Reading}
-use Rattle.fol_formula.specs.Syntax.{FormTree, FormTrees, TermTree, TermTrees, top, bottom, rel, equal, negation, conjunction, disjunction, implication, equivalence, for_all, for_some, no_forms, form_then, bound, app, ite, no_terms, term_then, list_of}
-use Rattle.fol_formula.specs.Truth.{all_below, any_below, truth, all_true, any_true, value, values}
+use Rattle.fol_formula.specs.Syntax.{FormTree, FormTrees, TermTree, TermTrees, top, bottom, rel, equal, negation, conjunction, disjunction, implication, equivalence, for_all, for_some, no_forms, form_then, bound, app, ite, no_terms, term_then, list_of, size_of}
+use Rattle.fol_formula.specs.Truth.{truth, all_true, any_true, value, values}
 use Rattle.fol_formula.specs.Fits.{FitsForm, FitsForms, FitsTerm, FitsTerms, BoundForm, BoundForms, BoundTerm, BoundTerms}
 use Rattle.fol_sig.specs.Symbols.{Symbols}
 use Rattle.fol_formula.specs.View.{term, terms}
 use Rattle.fol_formula.specs.declared.Term.{Term}
 use Rattle.fol_subst.specs.Shift.{shift_term}
 use Rattle.fol_subst.specs.Outcome.{CanReplace}
-use Rattle.fol_subst.specs.Room.{size_of, RelReady, AppReady, ReadyForm, ReadyForms, ReadyTerm, ReadyTerms}
+use Rattle.fol_subst.specs.Room.{RelReady, AppReady, ReadyForm, ReadyForms, ReadyTerm, ReadyTerms}
 use Rattle.fol_subst.specs.Replace.{picked, put_form, put_forms, put_term, put_terms, Change, change_rel, change_fun, change_const, rel_instance, app_instance, changed_form, changed_forms, changed_term, changed_terms, updated, CanChange}
-use Rattle.fol_formula.proofs.Quantified.{all_below-same, any_below-same}
-use Rattle.fol_formula.proofs.Lists.{list_of-terms, values-map}
-use Rattle.fol_formula.proofs.Closed.{fits_bound, fits_bound_term}
+use Rattle.fol_formula.specs.Quantified.{AllBelow, AnyBelow}
+use Rattle.fol_formula.specs.Lists.{RowsAreLists}
+use Rattle.fol_formula.specs.Closed.{FitsIsBound, FitsIsBoundTerm}
 use Rattle.fol_subst.proofs.ShiftTruth.{value-shift}
 
 pub picked-below : (depth : ℕ) (args : List TermTree) (i : ℕ) → i < depth → picked depth args i ≡ bound i
@@ -25,7 +25,13 @@ picked-below depth args i h = rw (lt-ltb i depth h) refl
 pub picked-above : (depth : ℕ) (args : List TermTree) (i : ℕ) → depth ≤ i → picked depth args i ≡ shift_term 0 depth (get_or args (i - depth) (bound 0))
 picked-above depth args i h = rw (le-ltb i depth h) refl
 
-module _ (s : Reading) (args : List TermTree) (env : List ℕ) where
+-- what is known of bounded quantifiers and of rows of terms
+pub record Reads : Type 0 where
+  pub all : AllBelow
+  pub any : AnyBelow
+  pub rows : RowsAreLists
+
+module _ (known : Reads) (s : Reading) (args : List TermTree) (env : List ℕ) where
   abbrev elements_of : List ℕ
   elements_of = map (λ t. value s t env) args
 
@@ -37,7 +43,7 @@ module _ (s : Reading) (args : List TermTree) (env : List ℕ) where
       let j = i - length front in
       let inside : j < length args = omega arith in
       ap (λ t. value s t (front ++ env)) (picked-above (length front) args i above)
-      ∙ value-shift s front env (get_or args j (bound 0)) []
+      ∙ value-shift known.all known.any s front env (get_or args j (bound 0)) []
       ∙ sym (get_or-append_right front elements_of (length front) i 0 refl above ∙ get_or-map (λ t. value s t env) args j (bound 0) 0 inside))
       (cases_lt i (length front))
 
@@ -52,8 +58,8 @@ module _ (s : Reading) (args : List TermTree) (env : List ℕ) where
     truth-put (disjunction ps) front n e h = any_true-put ps front n e h
     truth-put (implication p q) front n e h = let e1 = truth-put p front n e h.0 in let e2 = truth-put q front n e h.1 in cc (e1, e2)
     truth-put (equivalence p q) front n e h = let e1 = truth-put p front n e h.0 in let e2 = truth-put q front n e h.1 in cc (e1, e2)
-    truth-put (for_all k p) front n e h = all_below-same (s.size k) _ _ (λ x. truth-put p (x ∷ front) (suc n) (omega arith) h)
-    truth-put (for_some k p) front n e h = any_below-same (s.size k) _ _ (λ x. truth-put p (x ∷ front) (suc n) (omega arith) h)
+    truth-put (for_all k p) front n e h = known.all.same (s.size k) (s.size k) _ _ refl (λ x lt. truth-put p (x ∷ front) (suc n) (omega arith) h)
+    truth-put (for_some k p) front n e h = known.any.same (s.size k) (s.size k) _ _ refl (λ x lt. truth-put p (x ∷ front) (suc n) (omega arith) h)
 
     pub all_true-put : (ps : FormTrees) (front : List ℕ) (n : ℕ) → n ≡ length front + length args → BoundForms n ps → all_true s (put_forms (length front) args ps) (front ++ env) ≡ all_true s ps (front ++ elements_of)
     all_true-put no_forms front n e h = refl
@@ -86,8 +92,8 @@ size_of-changed c depth no_terms = refl
 size_of-changed c depth (term_then t ts) = ap suc (size_of-changed c depth ts)
 
 -- the arguments in reverse order
-pub reversed_args : (ts : List Term) (a : TermTrees) → terms ts ≡ a → map term (reverse ts) ≡ reverse (list_of a)
-reversed_args ts a e = map-reverse term ts ∙ ap reverse (sym (list_of-terms ts) ∙ ap list_of e)
+pub reversed_args : RowsAreLists → (ts : List Term) (a : TermTrees) → terms ts ≡ a → map term (reverse ts) ≡ reverse (list_of a)
+reversed_args rows ts a e = map-reverse term ts ∙ ap reverse (sym (rows.term_list ts) ∙ ap list_of e)
 
 either_truth : (s : Reading) (env : List ℕ) (b : Bool) (x y : FormTree) (u v : Bool) → (b ≡ true → truth s x env ≡ u) → truth s y env ≡ v → truth s (cond b x y) env ≡ cond b u v
 either_truth s env true x y u v p q = p refl
@@ -97,18 +103,18 @@ either_value : (s : Reading) (env : List ℕ) (b : Bool) (x y : TermTree) (u v :
 either_value s env true x y u v p q = p refl
 either_value s env false x y u v p q = q
 
-module _ (s : Reading) where
+module _ (known : Reads) (s : Reading) where
   truth-by : (by : FormTree) (args : TermTrees) (env : List ℕ) → BoundForm (size_of args) by → truth s (put_form 0 (reverse (list_of args)) by) env ≡ truth s by (reverse (values s args env))
   truth-by by args env h =
       let ts = reverse (list_of args) in
       let n : size_of args ≡ 0 + length ts = sym (length-list_of args) ∙ sym (length-reverse (list_of args)) ∙ omega arith in
-      truth-put s ts env by [] (size_of args) n h ∙ ap (truth s by) (map-reverse (λ t. value s t env) (list_of args) ∙ ap reverse (sym (values-map s args env)))
+      truth-put known s ts env by [] (size_of args) n h ∙ ap (truth s by) (map-reverse (λ t. value s t env) (list_of args) ∙ ap reverse (sym (known.rows.value_list s args env)))
 
   value-by : (by : TermTree) (args : TermTrees) (env : List ℕ) → BoundTerm (size_of args) by → value s (put_term 0 (reverse (list_of args)) by) env ≡ value s by (reverse (values s args env))
   value-by by args env h =
       let ts = reverse (list_of args) in
       let n : size_of args ≡ 0 + length ts = sym (length-list_of args) ∙ sym (length-reverse (list_of args)) ∙ omega arith in
-      value-put s ts env by [] (size_of args) n h ∙ ap (value s by) (map-reverse (λ t. value s t env) (list_of args) ∙ ap reverse (sym (values-map s args env)))
+      value-put known s ts env by [] (size_of args) n h ∙ ap (value s by) (map-reverse (λ t. value s t env) (list_of args) ∙ ap reverse (sym (known.rows.value_list s args env)))
 
   -- an atom and an application, where the arguments are replaced already
   truth-instance : (c : Change) (q : ℕ) (new : TermTrees) (xs front env : List ℕ) → RelReady c q (size_of new) → values s new (front ++ env) ≡ xs → truth s (rel_instance c q new) (front ++ env) ≡ (updated s c env).rel q xs
@@ -135,7 +141,7 @@ same_sizes s (change_rel r by) env k = refl
 same_sizes s (change_fun g by) env k = refl
 same_sizes s (change_const g index) env k = refl
 
-module _ (s : Reading) (c : Change) (env : List ℕ) where
+module _ (known : Reads) (s : Reading) (c : Change) (env : List ℕ) where
   abbrev after : Reading
   after = updated s c env
 
@@ -144,7 +150,7 @@ module _ (s : Reading) (c : Change) (env : List ℕ) where
     truth-changed top front h = refl
     truth-changed bottom front h = refl
     truth-changed (rel q args) front h =
-        truth-instance s c q (changed_terms c (length front) args) _ front env (subst (RelReady c q) (sym (size_of-changed c (length front) args)) h.1) (values-changed args front h.2)
+        truth-instance known s c q (changed_terms c (length front) args) _ front env (subst (RelReady c q) (sym (size_of-changed c (length front) args)) h.1) (values-changed args front h.2)
     truth-changed (equal a b) front h = let e1 = value-changed a front h.0 in let e2 = value-changed b front h.1 in cc (e1, e2)
     truth-changed (negation p) front h = ap not (truth-changed p front h)
     truth-changed (conjunction ps) front h = all_true-changed ps front h
@@ -152,9 +158,9 @@ module _ (s : Reading) (c : Change) (env : List ℕ) where
     truth-changed (implication p q) front h = let e1 = truth-changed p front h.0 in let e2 = truth-changed q front h.1 in cc (e1, e2)
     truth-changed (equivalence p q) front h = let e1 = truth-changed p front h.0 in let e2 = truth-changed q front h.1 in cc (e1, e2)
     truth-changed (for_all k p) front h =
-        all_below-same (s.size k) _ _ (λ x. truth-changed p (x ∷ front) h) ∙ ap (λ n. all_below n (λ x. truth after p (x ∷ (front ++ env)))) (same_sizes s c env k)
+        known.all.same (s.size k) (after.size k) _ _ (same_sizes s c env k) (λ x lt. truth-changed p (x ∷ front) h)
     truth-changed (for_some k p) front h =
-        any_below-same (s.size k) _ _ (λ x. truth-changed p (x ∷ front) h) ∙ ap (λ n. any_below n (λ x. truth after p (x ∷ (front ++ env)))) (same_sizes s c env k)
+        known.any.same (s.size k) (after.size k) _ _ (same_sizes s c env k) (λ x lt. truth-changed p (x ∷ front) h)
 
     pub all_true-changed : (ps : FormTrees) (front : List ℕ) → ReadyForms c ps → all_true s (changed_forms c (length front) ps) (front ++ env) ≡ all_true after ps (front ++ env)
     all_true-changed no_forms front h = refl
@@ -167,14 +173,14 @@ module _ (s : Reading) (c : Change) (env : List ℕ) where
     pub value-changed : (t : TermTree) (front : List ℕ) → ReadyTerm c t → value s (changed_term c (length front) t) (front ++ env) ≡ value after t (front ++ env)
     value-changed (bound i) front h = refl
     value-changed (app f args) front h =
-        value-instance s c f (changed_terms c (length front) args) _ front env (subst (AppReady c f) (sym (size_of-changed c (length front) args)) h.1) (values-changed args front h.2)
+        value-instance known s c f (changed_terms c (length front) args) _ front env (subst (AppReady c f) (sym (size_of-changed c (length front) args)) h.1) (values-changed args front h.2)
     value-changed (ite p a b) front h = let e1 = truth-changed p front h.0 in let e2 = value-changed a front h.1 in let e3 = value-changed b front h.2 in cc (e1, e2, e3)
 
     pub values-changed : (ts : TermTrees) (front : List ℕ) → ReadyTerms c ts → values s (changed_terms c (length front) ts) (front ++ env) ≡ values after ts (front ++ env)
     values-changed no_terms front h = refl
     values-changed (term_then t ts) front h = let e1 = value-changed t front h.0 in let e2 = values-changed ts front h.1 in cc (e1, e2)
 
-module _ (sig : Symbols) where
+module _ (bound_form : FitsIsBound) (bound_term : FitsIsBoundTerm) (sig : Symbols) where
   fits_count : (ts : TermTrees) (sorts ks : List ℕ) → FitsTerms sig sorts ts ks → size_of ts ≡ length ks
   fits_count no_terms sorts [] h = refl
   fits_count no_terms sorts (k ∷ ks) h = absurd h
@@ -184,14 +190,14 @@ module _ (sig : Symbols) where
   module _ (sorts' : List ℕ) where
     rel_ready : (c : Change) (q n : ℕ) → CanChange sig sorts' c → n ≡ length (sig.sorts_of q) → RelReady c q n
     rel_ready (change_rel r by) q n h e = λ same.
-        subst (λ m. BoundForm m by) (length-reverse (sig.sorts_of r) ∙ ap (λ m. length (sig.sorts_of m)) (sym same) ∙ sym e) (fits_bound sig by (reverse (sig.sorts_of r)) h.1)
+        subst (λ m. BoundForm m by) (length-reverse (sig.sorts_of r) ∙ ap (λ m. length (sig.sorts_of m)) (sym same) ∙ sym e) (bound_form sig (reverse (sig.sorts_of r)) by h.1)
     rel_ready (change_fun g by) q n h e = tt
     rel_ready (change_const g index) q n h e = tt
 
     app_ready : (c : Change) (f n : ℕ) → CanChange sig sorts' c → n ≡ length (sig.from_of f) → AppReady c f n
     app_ready (change_rel r by) f n h e = tt
     app_ready (change_fun g by) f n h e = λ same.
-        subst (λ m. BoundTerm m by) (length-reverse (sig.from_of g) ∙ ap (λ m. length (sig.from_of m)) (sym same) ∙ sym e) (fits_bound_term sig by (reverse (sig.from_of g)) (sig.into_of g) h.1)
+        subst (λ m. BoundTerm m by) (length-reverse (sig.from_of g) ∙ ap (λ m. length (sig.from_of m)) (sym same) ∙ sym e) (bound_term sig (reverse (sig.from_of g)) by (sig.into_of g) h.1)
     app_ready (change_const g index) f n h e = λ same. e ∙ ap (λ m. length (sig.from_of m)) same ∙ ap length h.1
 
     module _ (c : Change) (can : CanChange sig sorts' c) where
@@ -227,5 +233,5 @@ module _ (sig : Symbols) where
         fits_ready_terms (term_then t ts) sorts [] h = absurd h
         fits_ready_terms (term_then t ts) sorts (k ∷ ks) h = (fits_ready_term t sorts k h.0, fits_ready_terms ts sorts ks h.1)
 
-pub can_ready : (within : FormTree) (c : Change) → CanReplace within c → ReadyForm c within
-can_ready within c h = fits_ready h.sig h.sorts c h.change_fits within h.sorts h.within_fits
+pub can_ready : FitsIsBound → FitsIsBoundTerm → (within : FormTree) (c : Change) → CanReplace within c → ReadyForm c within
+can_ready bound_form bound_term within c h = fits_ready bound_form bound_term h.sig h.sorts c h.change_fits within h.sorts h.within_fits

@@ -4,21 +4,20 @@ use Rattle.std.specs.Prelude.{reverse}
 use Rattle.std.proofs.lemmas.Bool.{cases_lt, eqb-true, eq-eqb, ne_eqb}
 use Rattle.std.proofs.lemmas.Bool.Decides.{nat_tests}
 use Rattle.std.proofs.lemmas.List.{reverse-append, length-reverse, length-map, get_or_append_left, get_or-append-add, get_or-map}
-use Rattle.fol_formula.specs.Syntax.{FormTree, FormTrees, TermTree, TermTrees, top, bottom, rel, equal, negation, conjunction, disjunction, implication, equivalence, for_all, for_some, no_forms, form_then, bound, app, ite, no_terms, term_then, list_of, terms_then}
+use Rattle.fol_formula.specs.Syntax.{FormTree, FormTrees, TermTree, TermTrees, top, bottom, rel, equal, negation, conjunction, disjunction, implication, equivalence, for_all, for_some, no_forms, form_then, bound, app, ite, no_terms, term_then, list_of, terms_then, size_of}
 use Rattle.fol_formula.specs.View.{term, terms}
 use Rattle.fol_formula.specs.declared.Term.{Term}
 use Rattle.fol_formula.specs.Fits.{BoundForm, BoundForms, BoundTerm, BoundTerms}
 use Rattle.fol_formula.specs.Counts.{form_nodes, form_depth, forms_depth, term_depth, terms_depth}
-use Rattle.fol_formula.proofs.Lists.{list_of-terms}
-use Rattle.fol_formula.proofs.Loops.{terms-drop, terms_then-push}
+use Rattle.fol_formula.specs.Lists.{TermLists, RowsAreLists}
 use Rattle.fol_subst.specs.Shift.{raised, shift_form, shift_forms, shift_term, shift_terms}
 use Rattle.fol_subst.specs.Replace.{picked, put_form, put_forms, put_term, put_terms, Change, change_rel, change_fun, rel_instance, app_instance, changed_form, changed_terms, changed_term}
 use Rattle.fol_subst.specs.Limits.{is_too_large, IndicesFit, IndicesFitAll, IndicesFitTerm, IndicesFitTerms}
-use Rattle.fol_subst.specs.Room.{RoomForm, RoomForms, RoomTerm, RoomTerms, size_of, ReadyTerm, ReadyTerms, RelReady, AppReady}
+use Rattle.fol_subst.specs.Room.{RoomForm, RoomForms, RoomTerm, RoomTerms, ReadyTerm, ReadyTerms, RelReady, AppReady}
 use Rattle.fol_subst.specs.Extents.{places_of, put_in, extent_term, extent_instance}
 use Rattle.fol_subst.specs.declared.extent.Extent.{Extent}
 use Rattle.fol_subst.specs.Kept.{kept, kept_one}
-use Rattle.fol_formula.proofs.Closed.{fits_bound}
+use Rattle.fol_formula.specs.Closed.{FitsIsBound}
 use Rattle.fol_subst.specs.Outcome.{ShortListsSuffice}
 use Rattle.fol_subst.proofs.Fitting.{changed-fits}
 use Rattle.fol_subst.proofs.ShiftTruth.{raised-below, raised-above}
@@ -310,36 +309,36 @@ pub record BuiltTerm (by : TermTree) (ts : List Term) (made : TermTree) : Type 0
   pub room : RoomTerm 0 (put_term 0 (map term ts) by)
   pub same : put_term 0 (map term ts) by ≡ made
 
-reversed-length : (c : Change) (all ts : List Term) (new : TermTrees) → ts ≡ reverse all → terms all ≡ kept c new → size_of new ≡ 0 + length ts
-reversed-length c all ts new is made =
+reversed-length : RowsAreLists → (c : Change) (all ts : List Term) (new : TermTrees) → ts ≡ reverse all → terms all ≡ kept c new → size_of new ≡ 0 + length ts
+reversed-length rows c all ts new is made =
     let n : length ts ≡ length all = ap length is ∙ length-reverse all in
-    let m : length all ≡ size_of new = sym (length-map all term) ∙ ap length (sym (list_of-terms all)) ∙ length-list_of (terms all) ∙ ap size_of made ∙ size_of-kept c new in
+    let m : length all ≡ size_of new = sym (length-map all term) ∙ ap length (sym (rows.term_list all)) ∙ length-list_of (terms all) ∙ ap size_of made ∙ size_of-kept c new in
     omega (arith, n, m)
 
-pub built-form : (r : ℕ) (by : FormTree) (depth : ℕ) (new : TermTrees) (all ts : List Term) → BoundForm (size_of new) by → RoomForm depth (put_form 0 (reverse (list_of new)) by) → ts ≡ reverse all → terms all ≡ kept (change_rel r by) new → BuiltForm by ts (put_form 0 (reverse (list_of new)) by)
-built-form r by depth new all ts ready room is made =
+pub built-form : RowsAreLists → (r : ℕ) (by : FormTree) (depth : ℕ) (new : TermTrees) (all ts : List Term) → BoundForm (size_of new) by → RoomForm depth (put_form 0 (reverse (list_of new)) by) → ts ≡ reverse all → terms all ≡ kept (change_rel r by) new → BuiltForm by ts (put_form 0 (reverse (list_of new)) by)
+built-form rows r by depth new all ts ready room is made =
     let c = change_rel r by in
-    let args : map term ts ≡ reverse (list_of (kept c new)) = ap (map term) is ∙ reversed_args all (kept c new) made in
+    let args : map term ts ≡ reverse (list_of (kept c new)) = ap (map term) is ∙ reversed_args rows all (kept c new) made in
     let same : put_form 0 (reverse (list_of (kept c new))) by ≡ put_form 0 (reverse (list_of new)) by =
     same-form (reverse (list_of (kept c new))) (reverse (list_of new)) by 0 (size_of new) (let e1 = length-reversed (kept c new) in let e2 = size_of-kept c new in omega (arith, e1, e2)) ready
     (λ j lt u. kept-argument c new j (let e1 = length-reversed (kept c new) in let e2 = size_of-kept c new in omega (arith, e1, e2, lt)) (subst (λ m. 0 < reach_form m by) (let e : j + 0 ≡ j = omega arith in e) u)) in
     let whole : put_form 0 (map term ts) by ≡ put_form 0 (reverse (list_of new)) by = ap (λ z. put_form 0 z by) args ∙ same in
     record {
-      bound = subst (λ n. BoundForm n by) (reversed-length c all ts new is made) ready;
+      bound = subst (λ n. BoundForm n by) (reversed-length rows c all ts new is made) ready;
       room = subst (RoomForm 0) (sym whole) (less-form (put_form 0 (reverse (list_of new)) by) 0 depth room (omega arith));
       same = whole;
     }
 
-pub built-term : (g : ℕ) (by : TermTree) (depth : ℕ) (new : TermTrees) (all ts : List Term) → BoundTerm (size_of new) by → RoomTerm depth (put_term 0 (reverse (list_of new)) by) → ts ≡ reverse all → terms all ≡ kept (change_fun g by) new → BuiltTerm by ts (put_term 0 (reverse (list_of new)) by)
-built-term g by depth new all ts ready room is made =
+pub built-term : RowsAreLists → (g : ℕ) (by : TermTree) (depth : ℕ) (new : TermTrees) (all ts : List Term) → BoundTerm (size_of new) by → RoomTerm depth (put_term 0 (reverse (list_of new)) by) → ts ≡ reverse all → terms all ≡ kept (change_fun g by) new → BuiltTerm by ts (put_term 0 (reverse (list_of new)) by)
+built-term rows g by depth new all ts ready room is made =
     let c = change_fun g by in
-    let args : map term ts ≡ reverse (list_of (kept c new)) = ap (map term) is ∙ reversed_args all (kept c new) made in
+    let args : map term ts ≡ reverse (list_of (kept c new)) = ap (map term) is ∙ reversed_args rows all (kept c new) made in
     let same : put_term 0 (reverse (list_of (kept c new))) by ≡ put_term 0 (reverse (list_of new)) by =
     same-term (reverse (list_of (kept c new))) (reverse (list_of new)) by 0 (size_of new) (let e1 = length-reversed (kept c new) in let e2 = size_of-kept c new in omega (arith, e1, e2)) ready
     (λ j lt u. kept-argument c new j (let e1 = length-reversed (kept c new) in let e2 = size_of-kept c new in omega (arith, e1, e2, lt)) (subst (λ m. 0 < reach_term m by) (let e : j + 0 ≡ j = omega arith in e) u)) in
     let whole : put_term 0 (map term ts) by ≡ put_term 0 (reverse (list_of new)) by = ap (λ z. put_term 0 z by) args ∙ same in
     record {
-      bound = subst (λ n. BoundTerm n by) (reversed-length c all ts new is made) ready;
+      bound = subst (λ n. BoundTerm n by) (reversed-length rows c all ts new is made) ready;
       room = subst (RoomTerm 0) (sym whole) (less-term (put_term 0 (reverse (list_of new)) by) 0 depth room (omega arith));
       same = whole;
     }
@@ -354,10 +353,6 @@ pub kept_room-term : (g : ℕ) (by : TermTree) (depth : ℕ) (new : TermTrees) �
 kept_room-term g by depth new room =
     kept-room (change_fun g by) depth new (λ j lt u.
     used-term (reverse (list_of new)) j depth by 0 (subst (λ n. RoomTerm n (put_term 0 (reverse (list_of new)) by)) (let e : depth ≡ depth + 0 = omega arith in e) room) (subst (λ m. 0 < reach_term m by) (let e : j ≡ j + 0 = omega arith in e) u))
-
-pub size_of-terms : (ts : List Term) → size_of (terms ts) ≡ length ts
-size_of-terms [] = refl
-size_of-terms (t ∷ ts) = ap suc (size_of-terms ts)
 
 -- the argument that an index means
 pub picked-room : (depth i : ℕ) (args : List Term) (x : Term) → depth ≤ i → i - depth < length args → x ≡ get_or args (i - depth) x → RoomTerm depth (picked depth (map term args) i) → RoomTerm 0 (shift_term 0 depth (term x))
@@ -374,31 +369,31 @@ pub kept_room-application : (c : Change) (g f depth : ℕ) (by : TermTree) (new 
 kept_room-application c g f depth by new is at room =
     subst (λ z. RoomTerms depth (kept z new)) (sym is) (kept_room-term g by depth new (subst (RoomTerm depth) (ap (λ z. app_instance z depth f new) is ∙ ap (λ b. cond b (put_term 0 (reverse (list_of new)) by) (app f new)) (eq-eqb f g at)) room))
 
-pub built-atom : (c : Change) (r q depth : ℕ) (by : FormTree) (args : TermTrees) (all ts : List Term) → c ≡ change_rel r by → q ≡ r → RelReady c q (size_of args) → RoomForm depth (rel_instance c q (changed_terms c depth args)) → ts ≡ reverse all → terms all ≡ kept c (changed_terms c depth args) → BuiltForm by ts (rel_instance c q (changed_terms c depth args))
-built-atom c r q depth by args all ts is at ready room rev made =
+pub built-atom : RowsAreLists → (c : Change) (r q depth : ℕ) (by : FormTree) (args : TermTrees) (all ts : List Term) → c ≡ change_rel r by → q ≡ r → RelReady c q (size_of args) → RoomForm depth (rel_instance c q (changed_terms c depth args)) → ts ≡ reverse all → terms all ≡ kept c (changed_terms c depth args) → BuiltForm by ts (rel_instance c q (changed_terms c depth args))
+built-atom rows c r q depth by args all ts is at ready room rev made =
     let new = changed_terms c depth args in
     let here : rel_instance c q new ≡ put_form 0 (reverse (list_of new)) by = ap (λ z. rel_instance z q new) is ∙ ap (λ b. cond b (put_form 0 (reverse (list_of new)) by) (rel q new)) (eq-eqb q r at) in
     subst (BuiltForm by ts) (sym here)
-    (built-form r by depth new all ts (subst (λ n. BoundForm n by) (sym (size_of-changed c depth args)) (subst (λ z. RelReady z q (size_of args)) is ready at)) (subst (RoomForm depth) here room) rev (made ∙ ap (λ z. kept z new) is))
+    (built-form rows r by depth new all ts (subst (λ n. BoundForm n by) (sym (size_of-changed c depth args)) (subst (λ z. RelReady z q (size_of args)) is ready at)) (subst (RoomForm depth) here room) rev (made ∙ ap (λ z. kept z new) is))
 
-pub built-application : (c : Change) (g f depth : ℕ) (by : TermTree) (args : TermTrees) (all ts : List Term) → c ≡ change_fun g by → f ≡ g → AppReady c f (size_of args) → RoomTerm depth (app_instance c depth f (changed_terms c depth args)) → ts ≡ reverse all → terms all ≡ kept c (changed_terms c depth args) → BuiltTerm by ts (app_instance c depth f (changed_terms c depth args))
-built-application c g f depth by args all ts is at ready room rev made =
+pub built-application : RowsAreLists → (c : Change) (g f depth : ℕ) (by : TermTree) (args : TermTrees) (all ts : List Term) → c ≡ change_fun g by → f ≡ g → AppReady c f (size_of args) → RoomTerm depth (app_instance c depth f (changed_terms c depth args)) → ts ≡ reverse all → terms all ≡ kept c (changed_terms c depth args) → BuiltTerm by ts (app_instance c depth f (changed_terms c depth args))
+built-application rows c g f depth by args all ts is at ready room rev made =
     let new = changed_terms c depth args in
     let here : app_instance c depth f new ≡ put_term 0 (reverse (list_of new)) by = ap (λ z. app_instance z depth f new) is ∙ ap (λ b. cond b (put_term 0 (reverse (list_of new)) by) (app f new)) (eq-eqb f g at) in
     subst (BuiltTerm by ts) (sym here)
-    (built-term g by depth new all ts (subst (λ n. BoundTerm n by) (sym (size_of-changed c depth args)) (subst (λ z. AppReady z f (size_of args)) is ready at)) (subst (RoomTerm depth) here room) rev (made ∙ ap (λ z. kept z new) is))
+    (built-term rows g by depth new all ts (subst (λ n. BoundTerm n by) (sym (size_of-changed c depth args)) (subst (λ z. AppReady z f (size_of args)) is ready at)) (subst (RoomTerm depth) here room) rev (made ∙ ap (λ z. kept z new) is))
 
 -- one turn of the loop over the arguments
-pub args-drop : (ts : List Term) (index i : ℕ) (t : Term) → length ts ≤ 8 → index + i ≡ length ts → i < length ts → size_of (terms (drop (i + 1) ts)) ≡ index - 1
-args-drop ts index i t few left lt = size_of-terms (drop (i + 1) ts) ∙ omega (arith, length-drop (i + 1) ts)
+pub args-drop : RowsAreLists → (ts : List Term) (index i : ℕ) (t : Term) → length ts ≤ 8 → index + i ≡ length ts → i < length ts → size_of (terms (drop (i + 1) ts)) ≡ index - 1
+args-drop rows ts index i t few left lt = rows.term_count (drop (i + 1) ts) ∙ omega (arith, length-drop (i + 1) ts)
 
-pub kept-more : (c : Change) (depth : ℕ) (ts all all' : List Term) (i j : ℕ) (t x : Term) (whole : TermTrees) → i < length ts → t ≡ get_or ts i t → size_of (terms (drop (i + 1) ts)) ≡ j → all' ≡ all ++ x ∷ [] → term x ≡ kept_one c j (changed_term c depth (term t)) → terms_then (map term all) (kept c (changed_terms c depth (terms (drop i ts)))) ≡ whole → terms_then (map term all') (kept c (changed_terms c depth (terms (drop (i + 1) ts)))) ≡ whole
-kept-more c depth ts all all' i j t x whole lt is size pushed made before =
+pub kept-more : TermLists → (c : Change) (depth : ℕ) (ts all all' : List Term) (i j : ℕ) (t x : Term) (whole : TermTrees) → i < length ts → t ≡ get_or ts i t → size_of (terms (drop (i + 1) ts)) ≡ j → all' ≡ all ++ x ∷ [] → term x ≡ kept_one c j (changed_term c depth (term t)) → terms_then (map term all) (kept c (changed_terms c depth (terms (drop i ts)))) ≡ whole → terms_then (map term all') (kept c (changed_terms c depth (terms (drop (i + 1) ts)))) ≡ whole
+kept-more lists c depth ts all all' i j t x whole lt is size pushed made before =
     let rest = changed_terms c depth (terms (drop (i + 1) ts)) in
     ap (λ z. terms_then (map term z) (kept c rest)) pushed
-    ∙ terms_then-push all x (kept c rest)
+    ∙ lists.pushed all x (kept c rest)
     ∙ ap (λ z. terms_then (map term all) (term_then z (kept c rest))) (made ∙ ap (λ n. kept_one c n (changed_term c depth (term t))) (sym size ∙ sym (size_of-changed c depth (terms (drop (i + 1) ts)))))
-    ∙ ap (λ z. terms_then (map term all) (kept c (changed_terms c depth z))) (sym (terms-drop ts i t lt is))
+    ∙ ap (λ z. terms_then (map term all) (kept c (changed_terms c depth z))) (sym (lists.left ts i t lt is))
     ∙ before
 
 -- what is left at a turn: the argument and those behind it
@@ -406,24 +401,24 @@ pub record TurnRoom (c : Change) (depth : ℕ) (t : TermTree) (ts : TermTrees) (
   pub here : RoomTerm depth (kept_one c j (changed_term c depth t))
   pub rest : RoomTerms depth (kept c (changed_terms c depth ts))
 
-pub turn-room : (c : Change) (depth : ℕ) (ts : List Term) (i j : ℕ) (t : Term) → i < length ts → t ≡ get_or ts i t → size_of (terms (drop (i + 1) ts)) ≡ j → RoomTerms depth (kept c (changed_terms c depth (terms (drop i ts)))) → TurnRoom c depth (term t) (terms (drop (i + 1) ts)) j
-turn-room c depth ts i j t lt is size room =
-    let h = subst (λ z. RoomTerms depth (kept c (changed_terms c depth z))) (terms-drop ts i t lt is) room in
+pub turn-room : TermLists → (c : Change) (depth : ℕ) (ts : List Term) (i j : ℕ) (t : Term) → i < length ts → t ≡ get_or ts i t → size_of (terms (drop (i + 1) ts)) ≡ j → RoomTerms depth (kept c (changed_terms c depth (terms (drop i ts)))) → TurnRoom c depth (term t) (terms (drop (i + 1) ts)) j
+turn-room lists c depth ts i j t lt is size room =
+    let h = subst (λ z. RoomTerms depth (kept c (changed_terms c depth z))) (lists.left ts i t lt is) room in
     record {
       here = subst (λ n. RoomTerm depth (kept_one c n (changed_term c depth (term t)))) (size_of-changed c depth (terms (drop (i + 1) ts)) ∙ size) h.0;
       rest = h.1;
     }
 
-pub turn-ready : (c : Change) (ts : List Term) (i : ℕ) (t : Term) → i < length ts → t ≡ get_or ts i t → ReadyTerms c (terms (drop i ts)) → ReadyTerm c (term t) × ReadyTerms c (terms (drop (i + 1) ts))
-turn-ready c ts i t lt is ready = subst (ReadyTerms c) (terms-drop ts i t lt is) ready
+pub turn-ready : TermLists → (c : Change) (ts : List Term) (i : ℕ) (t : Term) → i < length ts → t ≡ get_or ts i t → ReadyTerms c (terms (drop i ts)) → ReadyTerm c (term t) × ReadyTerms c (terms (drop (i + 1) ts))
+turn-ready lists c ts i t lt is ready = subst (ReadyTerms c) (lists.left ts i t lt is) ready
 
 -- one turn of the count of an instance
-pub instance-more : (c : Change) (ts : List Term) (i j : ℕ) (t : Term) (all place part new : Extent) (whole : Extent) → i < length ts → t ≡ get_or ts i t → size_of (terms (drop (i + 1) ts)) ≡ j → place ≡ places_of c j → part ≡ extent_term c (term t) → new ≡ put_in all place part → extent_instance c all (terms (drop i ts)) ≡ whole → extent_instance c new (terms (drop (i + 1) ts)) ≡ whole
-instance-more c ts i j t all place part new whole lt is size at counted put before =
+pub instance-more : TermLists → (c : Change) (ts : List Term) (i j : ℕ) (t : Term) (all place part new : Extent) (whole : Extent) → i < length ts → t ≡ get_or ts i t → size_of (terms (drop (i + 1) ts)) ≡ j → place ≡ places_of c j → part ≡ extent_term c (term t) → new ≡ put_in all place part → extent_instance c all (terms (drop i ts)) ≡ whole → extent_instance c new (terms (drop (i + 1) ts)) ≡ whole
+instance-more lists c ts i j t all place part new whole lt is size at counted put before =
     let rest = terms (drop (i + 1) ts) in
     ap (λ z. extent_instance c z rest)
     (put ∙ ap (λ z. put_in all z part) (at ∙ ap (places_of c) (sym size)) ∙ ap (λ z. put_in all (places_of c (size_of rest)) z) counted)
-    ∙ ap (extent_instance c all) (sym (terms-drop ts i t lt is))
+    ∙ ap (extent_instance c all) (sym (lists.left ts i t lt is))
     ∙ before
 
 -- what is not too large is not deep
@@ -462,8 +457,8 @@ mutual
   bound-indices-terms no_terms n h l = tt
   bound-indices-terms (term_then t ts) n h l = (bound-indices-term t n h.0 (omega arith), bound-indices-terms ts n h.1 (omega arith))
 
-pub short_lists_suffice : ShortListsSuffice
-short_lists_suffice sig sorts within c h can l = record {
+pub short_lists_suffice : FitsIsBound → ShortListsSuffice
+short_lists_suffice bound_form sig sorts within c h can l = record {
   sig = sig;
   sorts = sorts;
   within_fits = h;
@@ -471,5 +466,5 @@ short_lists_suffice sig sorts within c h can l = record {
   indices = λ small.
       let new = changed_form c 0 within in
       let e = shallow (form_nodes new) (form_depth new) small in
-      bound-indices new (length sorts) (fits_bound sig new sorts (changed-fits sig sorts c can within [] h)) (omega (arith, e, l));
+      bound-indices new (length sorts) (bound_form sig sorts new (changed-fits sig sorts c can within [] h)) (omega (arith, e, l));
 }

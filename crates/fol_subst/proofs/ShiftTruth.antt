@@ -5,7 +5,7 @@ use Rattle.std.proofs.lemmas.List.{get_or_append_left, get_or-append-add}
 use Rattle.fol_sig.specs.Tables.{Reading}
 use Rattle.fol_formula.specs.Syntax.{FormTree, FormTrees, TermTree, TermTrees, top, bottom, rel, equal, negation, conjunction, disjunction, implication, equivalence, for_all, for_some, no_forms, form_then, bound, app, ite, no_terms, term_then}
 use Rattle.fol_formula.specs.Truth.{truth, all_true, any_true, value, values}
-use Rattle.fol_formula.proofs.Quantified.{all_below-same, any_below-same}
+use Rattle.fol_formula.specs.Quantified.{AllBelow, AnyBelow}
 use Rattle.fol_subst.specs.Shift.{raised, shift_form, shift_forms, shift_term, shift_terms}
 
 pub raised-below : (from by i : ℕ) → i < from → raised from by i ≡ i
@@ -28,7 +28,7 @@ get_or-raised front mid back i =
     ∙ sym (ap (λ j. get_or (front ++ back) j 0) e' ∙ get_or-append-add front back k 0))
     (cases_lt i (length front))
 
-module _ (s : Reading) (mid back : List ℕ) where
+module _ (all : AllBelow) (any : AnyBelow) (s : Reading) (mid back : List ℕ) where
   mutual
     pub truth-shift : (p : FormTree) (front : List ℕ) → truth s (shift_form (length front) (length mid) p) (front ++ (mid ++ back)) ≡ truth s p (front ++ back)
     truth-shift top front = refl
@@ -40,8 +40,8 @@ module _ (s : Reading) (mid back : List ℕ) where
     truth-shift (disjunction ps) front = any_true-shift ps front
     truth-shift (implication p q) front = let e = truth-shift p front in let e' = truth-shift q front in cc
     truth-shift (equivalence p q) front = let e = truth-shift p front in let e' = truth-shift q front in cc
-    truth-shift (for_all k p) front = all_below-same (s.size k) _ _ (λ x. truth-shift p (x ∷ front))
-    truth-shift (for_some k p) front = any_below-same (s.size k) _ _ (λ x. truth-shift p (x ∷ front))
+    truth-shift (for_all k p) front = all.same (s.size k) (s.size k) _ _ refl (λ x lt. truth-shift p (x ∷ front))
+    truth-shift (for_some k p) front = any.same (s.size k) (s.size k) _ _ refl (λ x lt. truth-shift p (x ∷ front))
 
     pub all_true-shift : (ps : FormTrees) (front : List ℕ) → all_true s (shift_forms (length front) (length mid) ps) (front ++ (mid ++ back)) ≡ all_true s ps (front ++ back)
     all_true-shift no_forms front = refl
@@ -60,6 +60,6 @@ module _ (s : Reading) (mid back : List ℕ) where
     values-shift no_terms front = refl
     values-shift (term_then t ts) front = let e = value-shift t front in let e' = values-shift ts front in cc
 
-pub truth-shifted : (s : Reading) (p : FormTree) (front mid back : List ℕ) (from by : ℕ) → length front ≡ from → length mid ≡ by → truth s (shift_form from by p) (front ++ (mid ++ back)) ≡ truth s p (front ++ back)
-truth-shifted s p front mid back from by l m =
-    ap (λ n. truth s (shift_form n by p) (front ++ (mid ++ back))) (sym l) ∙ ap (λ n. truth s (shift_form (length front) n p) (front ++ (mid ++ back))) (sym m) ∙ truth-shift s mid back p front
+pub truth-shifted : AllBelow → AnyBelow → (s : Reading) (p : FormTree) (front mid back : List ℕ) (from by : ℕ) → length front ≡ from → length mid ≡ by → truth s (shift_form from by p) (front ++ (mid ++ back)) ≡ truth s p (front ++ back)
+truth-shifted all any s p front mid back from by l m =
+    ap (λ n. truth s (shift_form n by p) (front ++ (mid ++ back))) (sym l) ∙ ap (λ n. truth s (shift_form (length front) n p) (front ++ (mid ++ back))) (sym m) ∙ truth-shift all any s mid back p front

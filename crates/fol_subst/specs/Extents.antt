@@ -1,9 +1,8 @@
 -- How large the result of a replacement is, counted without the result, as the code counts. Counts stop at 1000001.
 use Rattle.std.specs.Prelude.{ℕ, suc, ◌+◌, ◌-◌, ◌*◌, ◌==◌, nat_lt, ◌||◌, max, min, if◌then◌else◌, Bool, false}
 use Rattle.fol_formula.specs.Counts.{form_nodes, form_depth, term_nodes, term_depth}
-use Rattle.fol_formula.specs.Syntax.{FormTree, FormTrees, TermTree, TermTrees, top, bottom, rel, equal, negation, conjunction, disjunction, implication, equivalence, for_all, for_some, no_forms, form_then, bound, app, ite, no_terms, term_then}
+use Rattle.fol_formula.specs.Syntax.{FormTree, FormTrees, TermTree, TermTrees, top, bottom, rel, equal, negation, conjunction, disjunction, implication, equivalence, for_all, for_some, no_forms, form_then, bound, app, ite, no_terms, term_then, size_of}
 use Rattle.fol_subst.specs.Replace.{Change, change_rel, change_fun, change_const}
-use Rattle.fol_subst.specs.Room.{size_of}
 use Rattle.fol_subst.specs.declared.extent.Extent.{Extent}
 
 abbrev pub capped : ℕ → ℕ

@@ -1,8 +1,7 @@
 -- The arguments that the result has: another one is left out, with an index in its place.
 use Rattle.std.specs.Prelude.{ℕ, ◌==◌, if◌then◌else◌}
-use Rattle.fol_formula.specs.Syntax.{TermTree, TermTrees, bound, no_terms, term_then}
+use Rattle.fol_formula.specs.Syntax.{TermTree, TermTrees, bound, no_terms, term_then, size_of}
 use Rattle.fol_subst.specs.Replace.{Change}
-use Rattle.fol_subst.specs.Room.{size_of}
 use Rattle.fol_subst.specs.Extents.{places_of}
 
 -- the argument of parameter i

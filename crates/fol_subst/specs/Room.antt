@@ -2,7 +2,7 @@
 -- the symbol stands it has as many arguments as what replaces it has parameters.
 use Rattle.std.specs.Prelude.{◌≡◌, ℕ, suc, ◌<◌, ◌≤◌, ◌^◌}
 use Rattle.fol_formula.specs.Fits.{BoundForm, BoundTerm}
-use Rattle.fol_formula.specs.Syntax.{FormTree, FormTrees, TermTree, TermTrees, top, bottom, rel, equal, negation, conjunction, disjunction, implication, equivalence, for_all, for_some, no_forms, form_then, bound, app, ite, no_terms, term_then}
+use Rattle.fol_formula.specs.Syntax.{FormTree, FormTrees, TermTree, TermTrees, top, bottom, rel, equal, negation, conjunction, disjunction, implication, equivalence, for_all, for_some, no_forms, form_then, bound, app, ite, no_terms, term_then, size_of}
 use Rattle.fol_subst.specs.Replace.{Change, change_rel, change_fun, change_const}
 
 -- under so many binders
@@ -32,10 +32,6 @@ abbrev mutual
   pub RoomTerms : ℕ → TermTrees → Type 0
   RoomTerms depth no_terms = Unit {0}
   RoomTerms depth (term_then t ts) = RoomTerm depth t × RoomTerms depth ts
-
-abbrev pub size_of : TermTrees → ℕ
-size_of no_terms = 0
-size_of (term_then t ts) = suc (size_of ts)
 
 -- with so many arguments
 abbrev pub RelReady : Change → ℕ → ℕ → Type 0

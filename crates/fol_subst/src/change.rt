@@ -1,9 +1,9 @@
 // The symbol is replaced.
 ghost use Rattle.std.specs.Prelude.{◌≡◌, ◌+◌, ◌<◌, ◌≤◌, ◌^◌, suc, IfOk, length};
 ghost use Rattle.fol_formula.specs.View.{form, forms, term as term_view, terms as terms_view};
-ghost use Rattle.fol_formula.specs.Syntax.{rel as rel_tree, app as app_tree};
+ghost use Rattle.fol_formula.specs.Syntax.{rel as rel_tree, app as app_tree, size_of};
 ghost use Rattle.fol_subst.specs.Replace.{changed_form, changed_forms, changed_term, changed_terms};
-ghost use Rattle.fol_subst.specs.Room.{ReadyForm, ReadyForms, ReadyTerm, ReadyTerms, RoomForm, RoomForms, RoomTerm, RoomTerms, size_of};
+ghost use Rattle.fol_subst.specs.Room.{ReadyForm, ReadyForms, ReadyTerm, ReadyTerms, RoomForm, RoomForms, RoomTerm, RoomTerms};
 ghost use Rattle.fol_subst.specs.Changes.{change_of};
 ghost use Rattle.fol_subst.specs.Measured.{Measures};
 ghost use Rattle.fol_subst.specs.Kept.{kept, kept_one};
@@ -71,6 +71,7 @@ fn change_atom(
     requires room { RoomForm depth (changed_form (change_of c.now) depth (rel_tree q.0 (terms_view args.now))) }
     ensures { IfOk result (λ f. form f ≡ changed_form (change_of c.now) depth (rel_tree q.0 (terms_view args.now))) }
 {
+    fol_formula::lists();
     match c {
         Replacement::Rel(r, by) => {
             if q.0 == r.0 {
@@ -101,6 +102,7 @@ fn change_application(
     requires room { RoomTerm depth (changed_term (change_of c.now) depth (app_tree f.0 (terms_view args.now))) }
     ensures { IfOk result (λ t. term_view t ≡ changed_term (change_of c.now) depth (app_tree f.0 (terms_view args.now))) }
 {
+    fol_formula::lists();
     match c {
         Replacement::Rel(_, _) => Ok(Term::App(f, change_terms(alloc, args, c, m, depth)?)),
         Replacement::Fun(g, by) => {
@@ -153,6 +155,7 @@ fn change_formulas(
     requires room { RoomForms depth (changed_forms (change_of c.now) depth (forms ps.now)) }
     ensures { IfOk result (λ fs. forms fs.items ≡ changed_forms (change_of c.now) depth (forms ps.now)) }
 {
+    fol_formula::lists();
     let mut all = Vec::with_capacity(alloc, ps.len())?;
     for p in ps {
         all.push(change_formula(alloc, p, c, m, depth)?)?;
@@ -208,6 +211,7 @@ fn change_terms(
     requires room { RoomTerms depth (changed_terms (change_of c.now) depth (terms_view ts.now)) }
     ensures { IfOk result (λ fs. terms_view fs.items ≡ changed_terms (change_of c.now) depth (terms_view ts.now)) }
 {
+    fol_formula::lists();
     let mut all = Vec::with_capacity(alloc, ts.len())?;
     for t in ts {
         all.push(change_term(alloc, t, c, m, depth)?)?;
@@ -230,6 +234,7 @@ fn change_kept(
     requires room { RoomTerms depth (kept (change_of c.now) (changed_terms (change_of c.now) depth (terms_view ts.now))) }
     ensures { IfOk result (λ fs. terms_view fs.items ≡ kept (change_of c.now) (changed_terms (change_of c.now) depth (terms_view ts.now))) }
 {
+    fol_formula::lists();
     let mut all = Vec::with_capacity(alloc, ts.len())?;
     let mut index = ts.len();
     for t in ts {

@@ -5,9 +5,19 @@ ghost use Rattle.fol_subst.specs.Outcome.{ShortListsSuffice, ReplacementKeepsMea
 /// structure with the symbol's table changed; it fits where the formula does, and stays in its fragments.
 pub fn exactness()
     ensures { ReplacementKeepsMeaning }
-{}
+{
+    fol_sig::update_laws();
+    fol_sig::value_law();
+    fol_formula::agreement();
+    fol_formula::inclusion();
+    fol_formula::indices();
+    fol_formula::lists();
+    fol_formula::quantified();
+}
 
 /// Where the list of sorts is short, whatever fits may be replaced.
 pub fn conditions()
     ensures { ShortListsSuffice }
-{}
+{
+    fol_formula::indices();
+}

@@ -91,6 +91,7 @@ pub fn shift(
     ensures shifted { IfOk result (λ f. IsShifted (form within.now) from by (form f)) }
     ensures limit { IfErr result (Because (λ _. IsTrue (is_too_large (shift_form from by (form within.now))))) }
 {
+    fol_formula::quantified();
     let extent = Extent::new(within.nodes(), within.depth());
     if extent.is_over() {
         return Err(Refused::For(FormulaLimit));
@@ -108,6 +109,8 @@ fn replace(
     ensures replaced { IfOk result (λ f. IsReplacement (form within.now) (change_of change.now) (form f)) }
     ensures limit { IfErr result (Because (λ _. IsTrue (is_too_large (changed_form (change_of change.now) 0 (form within.now))))) }
 {
+    exactness();
+    fol_formula::indices();
     let measure = Measure::of(change);
     if measure.formula(within, change).is_over() {
         return Err(Refused::For(FormulaLimit));

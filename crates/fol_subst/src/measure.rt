@@ -1,8 +1,9 @@
 // How large the result of a replacement is, without the result.
 ghost use Rattle.std.specs.Prelude.{◌≡◌, ℕ, ◌<◌, ◌≤◌, length, slice_get, Some};
 ghost use Rattle.fol_formula.specs.View.{form, forms, term as term_view, terms as terms_view};
+ghost use Rattle.fol_formula.specs.Syntax.{size_of};
 ghost use Rattle.fol_subst.specs.Changes.{change_of};
-ghost use Rattle.fol_subst.specs.Room.{ReadyForm, ReadyForms, ReadyTerm, ReadyTerms, size_of};
+ghost use Rattle.fol_subst.specs.Room.{ReadyForm, ReadyForms, ReadyTerm, ReadyTerms};
 ghost use Rattle.fol_subst.specs.Extents.{extent_form, extent_forms, extent_term, extent_terms, extent_instance, places_of};
 ghost use Rattle.fol_subst.specs.Measured.{Measures};
 
@@ -129,6 +130,7 @@ impl Measure {
         requires ready { ReadyTerms (change_of change.now) (terms_view args.now) }
         ensures { result ≡ extent_instance (change_of change.now) self.now.whole (terms_view args.now) }
     {
+        fol_formula::lists();
         let mut all = self.whole;
         let mut index = args.len();
         for t in args {

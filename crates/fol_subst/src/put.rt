@@ -70,6 +70,7 @@ fn put_formulas(alloc: Global, ps: &[Formula], depth: u64, args: &[Term]) -> Mem
     requires room { RoomForms depth (put_forms depth (map term_view args.now) (forms ps.now)) }
     ensures { IfOk result (λ fs. forms fs.items ≡ put_forms depth (map term_view args.now) (forms ps.now)) }
 {
+    fol_formula::lists();
     let mut all = Vec::with_capacity(alloc, ps.len())?;
     for p in ps {
         all.push(put_formula(alloc, p, depth, args)?)?;
@@ -124,6 +125,7 @@ fn put_terms(alloc: Global, ts: &[Term], depth: u64, args: &[Term]) -> Mem<Vec<T
     requires room { RoomTerms depth (put_terms depth (map term_view args.now) (terms_view ts.now)) }
     ensures { IfOk result (λ fs. terms_view fs.items ≡ put_terms depth (map term_view args.now) (terms_view ts.now)) }
 {
+    fol_formula::lists();
     let mut all = Vec::with_capacity(alloc, ts.len())?;
     for t in ts {
         all.push(put_term(alloc, t, depth, args)?)?;

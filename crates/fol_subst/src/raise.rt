@@ -51,6 +51,7 @@ fn shift_formulas(alloc: Global, ps: &[Formula], from: u64, by: u64) -> Mem<Vec<
     requires { RoomForms from (shift_forms from by (forms ps.now)) }
     ensures { IfOk result (λ fs. forms fs.items ≡ shift_forms from by (forms ps.now)) }
 {
+    fol_formula::lists();
     let mut all = Vec::with_capacity(alloc, ps.len())?;
     for p in ps {
         all.push(shift_formula(alloc, p, from, by)?)?;
@@ -99,6 +100,7 @@ fn shift_terms(alloc: Global, ts: &[Term], from: u64, by: u64) -> Mem<Vec<Term>>
     requires { RoomTerms from (shift_terms from by (terms_view ts.now)) }
     ensures { IfOk result (λ fs. terms_view fs.items ≡ shift_terms from by (terms_view ts.now)) }
 {
+    fol_formula::lists();
     let mut all = Vec::with_capacity(alloc, ts.len())?;
     for t in ts {
         all.push(shift_term(alloc, t, from, by)?)?;

@@ -11,14 +11,13 @@ ghost use Rattle.std.specs.Prelude.{◌≡◌, ◌+◌, ◌<◌, ◌^◌, [], le
 ghost use Rattle.fol_sig.specs.Tables.{numbers};
 ghost use Rattle.fol_sig.specs.Symbols.{symbols};
 ghost use Rattle.fol_formula.specs.Fits.{FitsForm};
-ghost use Rattle.fol_grow.specs.Grows.{grown};
+ghost use Rattle.fol_sig.specs.Growing.{grown};
 ghost use Rattle.skolem.specs.Constants.{new_sorts, skolemised};
 ghost use Rattle.skolem.specs.Laws.{IsSkolemised, IsNormalUniversal};
 
 use base::Mem;
 use fol_formula::{Normal, Sentence, Universal};
-use fol_grow::with_constants;
-use fol_sig::{Signature, Sort};
+use fol_sig::{Signature, Sort, with_constants};
 pub use laws::exactness;
 use scope::Scope;
 use std::alloc::Global;

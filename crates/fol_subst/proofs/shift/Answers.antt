@@ -48,7 +48,7 @@ returns-clause-shifted c =
     record {
       tree = c.in_ok-shifted.ensures;
       truth = λ s front mid back l m.
-          ap (λ q. truth s q (front ++ (mid ++ back))) c.in_ok-shifted.ensures ∙ truth-shifted s within front mid back c.args.from c.args.by l m;
+          ap (λ q. truth s q (front ++ (mid ++ back))) c.in_ok-shifted.ensures ∙ truth-shifted c.quantified.ensures.all c.quantified.ensures.any s within front mid back c.args.from c.args.by l m;
       fits = λ sig front mid back l m h.
           subst (FitsForm sig (front ++ (mid ++ back))) (sym c.in_ok-shifted.ensures) (shifted-fits sig within front mid back c.args.from c.args.by l m h);
       small = ap is_too_large c.in_ok-shifted.ensures ∙ small;

@@ -2,4 +2,18 @@ use Rattle.fol_subst.proofs.Meaning.{replacement_keeps_meaning}
 use Rattle.fol_subst.proofs.laws.exactness.Goals as goal
 
 pub returns : goal.returns
-returns c = replacement_keeps_meaning
+returns c =
+    replacement_keeps_meaning (record {
+      reads = record { all = c.quantified.ensures.all; any = c.quantified.ensures.any; rows = c.lists.ensures.rows };
+      updates = record {
+        relations = c.update_laws.ensures.relations;
+        functions = c.update_laws.ensures.functions;
+        elements = c.value_law.ensures;
+        agree = c.agreement.ensures.truth;
+        in_range = c.agreement.ensures.in_range;
+      };
+      bound = c.indices.ensures.bound;
+      bound_term = c.indices.ensures.bound_terms;
+      prefix = c.inclusion.ensures.prefix;
+      free = c.inclusion.ensures.quantifier_free;
+    })

@@ -2,7 +2,7 @@ use Rattle.std.proofs.Common.{◌-◌, arith, refl}
 use Rattle.fol_formula.specs.View.{forms, terms}
 use Rattle.fol_subst.specs.Changes.{change_of}
 use Rattle.fol_subst.proofs.Counting.{none-beside, extent_forms-small, extent_terms-small}
-use Rattle.fol_subst.proofs.Rooms.{size_of-terms, args-drop, turn-ready, instance-more}
+use Rattle.fol_subst.proofs.Rooms.{args-drop, turn-ready, instance-more}
 use Rattle.fol_subst.proofs.measure.Measure.+measure.Goals as goal
 
 pub formulas-loop-p-init : goal.formulas-loop-p-init
@@ -21,7 +21,7 @@ terms-loop-t-init t c = record {
 
 pub instance-loop-t-init : goal.instance-loop-t-init
 instance-loop-t-init t c = record {
-  few = omega (arith, c.requires.few, size_of-terms c.args.args.now);
+  few = omega (arith, c.requires.few, c.lists.ensures.rows.term_count c.args.args.now);
   left = omega arith;
   ready = c.requires.ready;
   counted = refl;
@@ -30,10 +30,10 @@ instance-loop-t-init t c = record {
 pub instance-loop-t-preserved : goal.instance-loop-t-preserved
 instance-loop-t-preserved t c =
     let h = c.loop-t.invariant in
-    let size = args-drop c.args.args.now c.loop-t.index c.loop-t.t-index c.t-item.result h.few h.left c.loop-t-test.true in
+    let size = args-drop c.lists.ensures.rows c.args.args.now c.loop-t.index c.loop-t.t-index c.t-item.result h.few h.left c.loop-t-test.true in
     record {
       few = h.few;
       left = omega arith;
-      ready = (turn-ready (change_of c.args.change.now) c.args.args.now c.loop-t.t-index c.t-item.result c.loop-t-test.true c.t-item.is h.ready).1;
-      counted = instance-more (change_of c.args.change.now) c.args.args.now c.loop-t.t-index (c.loop-t.index - 1) c.t-item.result c.loop-t.all _ c.term.result c.put_in-all.result _ c.loop-t-test.true c.t-item.is size (c.requires.measures.places (c.loop-t.index - 1) _ (omega arith)) c.term.ensures c.put_in-all.ensures h.counted;
+      ready = (turn-ready c.lists.ensures.terms (change_of c.args.change.now) c.args.args.now c.loop-t.t-index c.t-item.result c.loop-t-test.true c.t-item.is h.ready).1;
+      counted = instance-more c.lists.ensures.terms (change_of c.args.change.now) c.args.args.now c.loop-t.t-index (c.loop-t.index - 1) c.t-item.result c.loop-t.all _ c.term.result c.put_in-all.result _ c.loop-t-test.true c.t-item.is size (c.requires.measures.places (c.loop-t.index - 1) _ (omega arith)) c.term.ensures c.put_in-all.ensures h.counted;
     }
