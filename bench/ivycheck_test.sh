@@ -98,6 +98,7 @@ wait_for() {
         ! "$@" || return 0
         sleep 0.05
     done
+    failed=$((failed + 1))
     echo "FAILED: waited in vain: $*"
 }
 
