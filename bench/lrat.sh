@@ -95,7 +95,7 @@ three_times() {
 }
 
 kind=$1
-if [ "$kind" = library ]; then build_library_program; else ../ivycheck check /dev/null; fi
+if [ "$kind" = library ]; then build_library_program; else ../ivycheck check /dev/null >/dev/null; fi
 for times in 10 100; do
     ./chain.py 100000 50 $times "$work/chain.cnf" "$work/chain.lrat"
     ls -l "$work/chain.cnf" "$work/chain.lrat"
