@@ -1,6 +1,6 @@
 #!/bin/bash
 # Times the checking of logs of 1 and 10 million hints, from their two texts, beside a plain checker in C.
-#   ./lrat.sh             times the program's command `lrat`
+#   ./lrat.sh             times the program's command `lrat`, once `./ivycheck` has built it
 #   ./lrat.sh library     times a small program of the library's calls, which is proved and built in a copy of
 #                         the repository (a minute or more)
 # Times of the whole process, three of each: `real` hangs on what else runs, so compare `user` and `sys`.
@@ -84,7 +84,7 @@ checker() {
     if [ "$kind" = library ]; then
         "$work/copy/crates/lrat_time/out/lrat_time" "$@"
     else
-        ../ivycheck lrat "$@"
+        ../.ivycheck/ivycheck-* lrat "$@"
     fi
 }
 
@@ -95,7 +95,7 @@ three_times() {
 }
 
 kind=$1
-if [ "$kind" = library ]; then build_library_program; fi
+if [ "$kind" = library ]; then build_library_program; else ../ivycheck check /dev/null >/dev/null; fi
 for times in 10 100; do
     ./chain.py 100000 50 $times "$work/chain.cnf" "$work/chain.lrat"
     ls -l "$work/chain.cnf" "$work/chain.lrat"
