@@ -182,7 +182,6 @@ hold low
 run_as first check model
 wait_for held
 rm -r "$repo/crates/low/specs"
-mkdir "$repo/crates/low/proofs"
 let_go
 wait $!
 expect 'nor is one whose folder was removed' [ $? = 70 ]
