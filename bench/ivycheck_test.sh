@@ -178,6 +178,13 @@ edit three
 let_go
 wait $!
 expect 'nor is one that was edited and put back' [ $? = 70 ]
+hold low
+run_as first check model
+wait_for held
+rm -r "$repo/crates/low/specs"
+let_go
+wait $!
+expect 'nor is one whose folder was removed' [ $? = 70 ]
 
 begin
 hold low
