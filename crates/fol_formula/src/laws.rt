@@ -7,7 +7,7 @@ ghost use Rattle.fol_formula.specs.Growing.{FittingIsKept, TruthReadsItsOwn};
 ghost use Rattle.fol_formula.specs.Inclusions.{NegationExchanges, UniversalIsExistsForall, UniversalIsEa, UniversalIsAe, NormalIsEa, NormalHasPlainTerms, QuantifierFreeIsUniversal};
 ghost use Rattle.fol_formula.specs.Lists.{FormLists, TermLists, FormTurns, TermTurns, RowsAreLists};
 ghost use Rattle.fol_formula.specs.Quantified.{AllBelow, AnyBelow};
-ghost use Rattle.fol_formula.specs.Witnesses.{WitnessedIsTrue, WitnessesExist, WithoutExistentials, UniversalNeedsNoWitness};
+ghost use Rattle.fol_formula.specs.Witnesses.{WitnessedIsTrue, WitnessesExist, WithoutExistentials, UniversalNeedsNoWitness, UniversalNormalNeedsNoWitness};
 
 /// Structures that agree wherever a formula looks give it one truth, and the value of a term is an
 /// element of its sort.
@@ -74,6 +74,7 @@ pub fn witnesses()
     ensures exist { WitnessesExist }
     ensures none { WithoutExistentials }
     ensures universal { UniversalNeedsNoWitness }
+    ensures normal { UniversalNormalNeedsNoWitness }
 {}
 
 /// What fits a signature fits one that grew from it, and truth reads no relation and no function that the
