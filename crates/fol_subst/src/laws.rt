@@ -5,7 +5,10 @@ ghost use Rattle.fol_subst.specs.Outcome.{ShortListsSuffice, ReplacementKeepsMea
 /// structure with the symbol's table changed; it fits where the formula does, and stays in its fragments.
 pub fn exactness()
     ensures { ReplacementKeepsMeaning }
-{}
+{
+    fol_sig::range_laws();
+    fol_sig::update_laws();
+}
 
 /// Where the list of sorts is short, whatever fits may be replaced.
 pub fn conditions()
