@@ -108,6 +108,7 @@ fn replace(
     ensures replaced { IfOk result (λ f. IsReplacement (form within.now) (change_of change.now) (form f)) }
     ensures limit { IfErr result (Because (λ _. IsTrue (is_too_large (changed_form (change_of change.now) 0 (form within.now))))) }
 {
+    exactness();
     let measure = Measure::of(change);
     if measure.formula(within, change).is_over() {
         return Err(Refused::For(FormulaLimit));

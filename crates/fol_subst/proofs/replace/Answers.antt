@@ -5,7 +5,6 @@ use Rattle.fol_subst.specs.Limits.{is_too_large}
 use Rattle.fol_subst.specs.Changes.{change_of}
 use Rattle.fol_subst.proofs.ReplaceTruth.{can_ready}
 use Rattle.fol_subst.specs.Outcome.{KeepsMeaning}
-use Rattle.fol_subst.proofs.Meaning.{replacement_keeps_meaning}
 use Rattle.fol_subst.proofs.Counting.{extent-form, over-is-too-large}
 use Rattle.fol_subst.proofs.Rooms.{room-within}
 use Rattle.fol_subst.proofs.replace.Goals as goal
@@ -44,6 +43,6 @@ returns-clause-replaced c =
     ∙ c.if-is_over.false in
     record {
       tree = c.in_ok-changed.ensures;
-      meaning = subst (KeepsMeaning within change) (sym c.in_ok-changed.ensures) (replacement_keeps_meaning c.requires.sig c.requires.sorts within change c.requires.within_fits c.requires.change_fits);
+      meaning = subst (KeepsMeaning within change) (sym c.in_ok-changed.ensures) (c.exactness.ensures c.requires.sig c.requires.sorts within change c.requires.within_fits c.requires.change_fits);
       small = ap is_too_large c.in_ok-changed.ensures ∙ small;
     }
