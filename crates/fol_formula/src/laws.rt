@@ -15,7 +15,9 @@ pub fn agreement()
     ensures truth { TruthAgrees }
     ensures values { ValuesAgree }
     ensures in_range { ValuesAreInRange }
-{}
+{
+    fol_sig::range_laws();
+}
 
 /// A formula reads no element beyond those of its indices, and what fits has an index for each.
 pub fn indices()

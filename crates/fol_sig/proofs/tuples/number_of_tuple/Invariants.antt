@@ -1,6 +1,6 @@
 use Rattle.std.proofs.Common.{◌≡◌, ◌≤◌, ◌+◌, ◌*◌, drop}
 use Rattle.fol_sig.specs.Tables.{InRange, tuple_count, place_from, numbers}
-use Rattle.fol_sig.proofs.table.place.Given as goal
+use Rattle.fol_sig.proofs.tuples.number_of_tuple.Given as goal
 
 abbrev pub invariant-loop-i : goal.invariant-loop-i
 invariant-loop-i l = record {

@@ -3,7 +3,7 @@ use Rattle.std.proofs.lemmas.List.{drop_all, length-map}
 use Rattle.fol_sig.specs.declared.Sort.{Sort}
 use Rattle.fol_sig.specs.Tables.{place_from, place_of, numbers}
 use Rattle.fol_sig.proofs.Places.{sort_turn}
-use Rattle.fol_sig.proofs.table.place.Goals as goal
+use Rattle.fol_sig.proofs.tuples.number_of_tuple.Goals as goal
 
 pub bounds-sizes-sorts : goal.bounds-sizes-sorts
 bounds-sizes-sorts c = (sort_turn c.args.sizes.now c.args.sorts.now c.args.tuple.now c.loop-i.i c.loop-i.at (record { 0 = 0 }) c.requires.sorted c.loop-i-test.true c.loop-i.invariant.rest c.loop-i.invariant.room c.requires.room).known
