@@ -1,7 +1,7 @@
 -- A structure with one cell, or the whole table, of one symbol changed.
 use Rattle.std.specs.Prelude.{◌≡◌, ℕ, ◌<◌, Bool, List, [], ◌∷◌, length, reverse, slice_index, slice_set, All}
 use Rattle.fol_sig.specs.Symbols.{Symbols, FitsStructure}
-use Rattle.fol_sig.specs.Tables.{Tables, InRange, tuple_count, relation_at, function_at, size_at, rel_at, fun_at}
+use Rattle.fol_sig.specs.Tables.{Tables, InRange, tuple_count, place_of, relation_at, function_at, size_at, rel_at, fun_at}
 use Rattle.fol_sig.specs.Tuples.{join_below}
 
 -- one cell is set, and no other
@@ -42,6 +42,13 @@ with_function_cells s g cells = record {
   relations = s.relations;
   functions = slice_set s.functions g (record { sorts = (function_at s g).sorts; into = (function_at s g).into; cells = cells });
 }
+
+-- the structure with this value of r, or of g, at one tuple
+abbrev pub with_rel_at : Tables → ℕ → List ℕ → Bool → Tables
+with_rel_at s r xs v = with_relation_cells s r (slice_set (relation_at s r).cells (place_of s.sizes (relation_at s r).sorts xs) v)
+
+abbrev pub with_fun_at : Tables → ℕ → List ℕ → ℕ → Tables
+with_fun_at s g xs v = with_function_cells s g (slice_set (function_at s g).cells (place_of s.sizes (function_at s g).sorts xs) v)
 
 -- the structure where r is true of the tuples of which f is, each taken with its last element first
 abbrev pub with_relation : Tables → ℕ → (List ℕ → Bool) → Tables

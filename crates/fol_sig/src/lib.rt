@@ -23,18 +23,19 @@ pub use order::{Cycle, Strata};
 pub use passes::strata;
 pub use signature::Signature;
 pub use sorts::Sorts;
-pub use structure::Structure;
+pub use structure::{Function, Structure};
+pub use table::Table;
 pub use tuple::Tuple;
 pub use tuples::{count_tuples, number_of_tuple, tuple_of_number};
 
 /// A sort, by its place in the signature.
-#[derive(Clone, Copy, PartialEq, Eq, Debug, Default)]
+#[derive(Clone, Copy, PartialEq, Eq, Hash, Debug, Default)]
 pub struct Sort(pub u32);
 
 /// A relation, by its place in the signature.
-#[derive(Clone, Copy, PartialEq, Eq, Debug)]
+#[derive(Clone, Copy, PartialEq, Eq, Hash, Debug)]
 pub struct RelId(pub u32);
 
 /// A function, by its place in the signature. A function without arguments is a variable.
-#[derive(Clone, Copy, PartialEq, Eq, Debug)]
+#[derive(Clone, Copy, PartialEq, Eq, Hash, Debug)]
 pub struct FunId(pub u32);

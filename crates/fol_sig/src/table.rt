@@ -23,9 +23,18 @@ impl<T> Model for Table<T> {
     ghost view = { λ t. record { sorts = t.sorts; cells = t.cells.items } };
 }
 
+impl<T> Table<T> {
+    /// The table with these cells, one for each tuple of elements of these sorts in lexicographic order.
+    pub fn new(sorts: Sorts, cells: Vec<T>) -> Table<T>
+        ensures { result ≡ record { sorts = sorts; cells = cells.items } }
+    {
+        Table { sorts, cells }
+    }
+}
+
 impl<T: Copy> Table<T> {
     /// The table that has one value everywhere.
-    pub fn filled(alloc: Global, sizes: &[u32], sorts: &Sorts, value: T) -> Mem<Table<T>>
+    pub(crate) fn filled(alloc: Global, sizes: &[u32], sorts: &Sorts, value: T) -> Mem<Table<T>>
         requires { All (λ k. k < length sizes.now) sorts.now }
         ensures { IfOk result (λ t. t ≡ filled sizes.now sorts.now value) }
     {
@@ -41,7 +50,7 @@ impl<T: Copy> Table<T> {
         })
     }
 
-    pub fn copy(&self, alloc: Global) -> Mem<Table<T>>
+    pub(crate) fn copy(&self, alloc: Global) -> Mem<Table<T>>
         ensures { IfOk result (λ t. t ≡ self.now) }
     {
         let mut cells = Vec::new(alloc);
@@ -52,13 +61,13 @@ impl<T: Copy> Table<T> {
         })
     }
 
-    pub fn sorts(&self) -> &Sorts
+    pub(crate) fn sorts(&self) -> &Sorts
         ensures { result.now ≡ self.now.sorts }
     {
         &self.sorts
     }
 
-    pub fn cell(&self, sizes: &[u32], tuple: &[u32]) -> T
+    pub(crate) fn cell(&self, sizes: &[u32], tuple: &[u32]) -> T
         requires sorted { All (λ k. k < length sizes.now) self.now.sorts }
         requires full { length self.now.cells ≡ tuple_count sizes.now self.now.sorts }
         requires in_range { InRange sizes.now self.now.sorts tuple.now }
@@ -67,7 +76,7 @@ impl<T: Copy> Table<T> {
         self.cells[number_of_tuple(sizes, self.sorts.as_slice(), tuple)]
     }
 
-    pub fn set_cell(&mut self, sizes: &[u32], tuple: &[u32], value: T)
+    pub(crate) fn set_cell(&mut self, sizes: &[u32], tuple: &[u32], value: T)
         requires sorted { All (λ k. k < length sizes.now) self.old.sorts }
         requires full { length self.old.cells ≡ tuple_count sizes.now self.old.sorts }
         requires in_range { InRange sizes.now self.old.sorts tuple.now }
@@ -77,7 +86,7 @@ impl<T: Copy> Table<T> {
         self.cells[at] = value;
     }
 
-    pub fn set_cells(&mut self, cells: Vec<T>)
+    pub(crate) fn set_cells(&mut self, cells: Vec<T>)
         ensures { self.new ≡ record { sorts = self.old.sorts; cells = cells.items } }
     {
         self.cells = cells;

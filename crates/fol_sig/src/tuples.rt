@@ -1,8 +1,8 @@
 // The numbers of tuples. Whatever has a value for each tuple lies in a row and is read at the tuple's number, so these
 // calls take no memory, and a number costs one product and one sum for each element.
-ghost use Rattle.std.specs.Prelude.{◌≡◌, ◌<◌, ◌≤◌, ◌^◌, ◌*◌, ℕ, length, All};
+ghost use Rattle.std.specs.Prelude.{◌≡◌, ◌<◌, ◌≤◌, ◌^◌, length, min, All};
 ghost use Rattle.fol_sig.specs.Tables.{InRange, tuple_count, place_of, numbers};
-ghost use Rattle.fol_sig.specs.Tuples.{tuple_at, stopping};
+ghost use Rattle.fol_sig.specs.Tuples.{tuple_at};
 
 use crate::{Sort, Tuple};
 use std::alloc::Global;
@@ -10,11 +10,11 @@ use std::alloc::Global;
 /// How many tuples of elements of these sorts there are, or `usize::MAX` where there are more.
 pub fn count_tuples(sizes: &[u32], sorts: &[Sort]) -> usize
     requires { All (λ k. k < length sizes.now) (numbers sorts.now) }
-    ensures { result ≡ stopping (tuple_count sizes.now (numbers sorts.now)) }
+    ensures { result ≡ min (tuple_count sizes.now (numbers sorts.now)) usize.MAX }
 {
     let mut count = 1usize;
     for sort in sorts {
-        count = times(count, sizes[sort.0 as usize]);
+        count = count.saturating_mul(sizes[sort.0 as usize] as usize);
     }
     count
 }
@@ -53,13 +53,4 @@ pub fn tuple_of_number(alloc: Global, sizes: &[u32], sorts: &[Sort], number: usi
         left %= rest;
     }
     tuple
-}
-
-fn times(count: usize, size: u32) -> usize
-    ensures { (n : ℕ) → count ≡ stopping n → result ≡ stopping (n * size) }
-{
-    match count.checked_mul(size as usize) {
-        Some(product) => product,
-        None => usize::MAX,
-    }
 }

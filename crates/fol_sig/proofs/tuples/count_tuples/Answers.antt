@@ -1,7 +1,7 @@
-use Rattle.std.proofs.Common.{◌≡◌, ◌*◌, ◌+◌, get_or, drop, arith, subst}
+use Rattle.std.proofs.Common.{◌≡◌, ◌*◌, ◌+◌, ◌∙◌, ap, min, get_or, drop, arith, subst}
 use Rattle.std.proofs.lemmas.List.{drop_more}
 use Rattle.fol_sig.specs.Tables.{tuple_count, numbers}
-use Rattle.fol_sig.proofs.TupleTurns.{known_sort}
+use Rattle.fol_sig.proofs.TupleTurns.{known_sort, times-min}
 use Rattle.fol_sig.proofs.tuples.count_tuples.Goals as goal
 
 pub bounds-sizes-sort : goal.bounds-sizes-sort
@@ -16,4 +16,4 @@ loop-sort-preserved c =
     let k = (get_or c.args.sorts.now c.loop-sort.sort-index (record { 0 = 0 })).0 in
     let n = i.0 * get_or c.args.sizes.now k 0 in
     let next : n * tuple_count c.args.sizes.now (numbers (drop (c.loop-sort.sort-index + 1) c.args.sorts.now)) ≡ total = omega (arith, h) in
-    (n, c.times-count.ensures i.0 i.1, next)
+    (n, c.saturating_mul-count.ensures ∙ ap (λ m. min (m * get_or c.args.sizes.now k 0) 18446744073709551615) i.1 ∙ times-min i.0 (get_or c.args.sizes.now k 0) 18446744073709551615, next)
