@@ -8,10 +8,9 @@ use Rattle.cnf_base.specs.Literals.{opposite, AreLiterals}
 use Rattle.cnf_base.specs.Clauses.{IsClause}
 use Rattle.cnf_base.specs.Formulas.{Formula, AreEntries, IsFormula}
 use Rattle.lrat_log.specs.declared.line.Line.{Line}
-use Rattle.lrat_log.specs.Held.{Held}
+use Rattle.lrat_log.specs.Held.{Held, held_by}
 use Rattle.lrat_log.specs.Learnt.{StandsInHint, IsChain, IsResolvent}
 use Rattle.lrat_log.specs.Refutations.{IsRefutation}
-use Rattle.cdcl.specs.Trail.{held_by}
 use Rattle.cdcl.specs.Loading.{AreUpTo}
 use Rattle.cdcl.specs.Logged.{IsLogged}
 use Rattle.cdcl.proofs.Literals.{opposite-below}

@@ -11,11 +11,10 @@ use Rattle.cnf_base.specs.Clauses.{has_opposites}
 use Rattle.cnf_base.specs.Formulas.{Formula}
 use Rattle.lrat_log.specs.declared.line.Line.{Line}
 use Rattle.lrat_log.specs.declared.line.Line.TheVariants.{Add, Delete}
-use Rattle.lrat_log.specs.Held.{Held, held_of, added_entry, after_line, after_lines}
+use Rattle.lrat_log.specs.Held.{Held, held_of, added_entry, after_line, after_lines, held_by}
 use Rattle.lrat_log.specs.Accepted.{last_id, IsFit}
 use Rattle.lrat_log.specs.Learnt.{IsChain, IsResolvent, IsLearnt, AreLearntFrom}
 use Rattle.lrat_log.specs.Logs.{AreIds, IsLineOver, IsLogOver}
-use Rattle.cdcl.specs.Trail.{held_by}
 use Rattle.cdcl.specs.Logged.{IsLogged}
 use Rattle.cdcl.proofs.Entries.{held_id, held_at, held_old, held_new, held_either, get_old}
 

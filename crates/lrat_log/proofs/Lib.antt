@@ -1,4 +1,3 @@
-pub mod Opposites
 pub mod Sound
 pub mod Growth
 pub mod Resolvent
