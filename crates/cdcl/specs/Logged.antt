@@ -16,6 +16,6 @@ pub record IsLogged (f : Formula) (held : List Entry) (lines : List Line) : Type
   pub after : (id : ℕ) → after_lines (held_of f) lines id ≡ held_by held id
   pub last : last_id (length f.clauses) lines ≡ length held
   pub count : length held ≡ length f.clauses + length lines
-  pub log : IsLogOver 2147483647 0 lines
+  pub log : IsLogOver f.variables (length f.clauses) lines
   pub over : (id : ℕ) (c : List ℕ) → held_by held id ≡ Some (Clause c) → AreLiterals f.variables c
   pub formula : (id : ℕ) (e : Entry) → held_of f id ≡ Some e → held_by held id ≡ Some e

@@ -2,8 +2,8 @@
 use crate::table::Table;
 use base::{Mem, Refused, Row};
 use cnf_base::{Cnf, Entry, Lit};
-use lrat_log::{Line, Outcome, growth_laws, soundness};
-use std::alloc::Global;
+use lrat_log::{Line, Outcome, Sink, growth_laws, soundness};
+use std::alloc::{AllocError, Global};
 use std::marker::Model;
 
 /// A line was refused: 1 unknown id, 2 hint is neither unit nor false, 3 no conflict. The id is the
@@ -187,6 +187,24 @@ impl Checker {
             Err(_) => unreachable!(),
         }
         Ok(())
+    }
+}
+
+impl Sink for Checker {
+    ghost formula = { λ c. c.formula };
+
+    ghost lines = { λ c. c.lines };
+
+    fn formula(&self) -> &Cnf {
+        &self.cnf
+    }
+
+    fn take(&mut self, line: Line) -> Mem<()> {
+        match self.step_owned(line) {
+            Ok(()) => Ok(()),
+            Err(Refused::NoMemory) => Err(AllocError),
+            Err(Refused::For(_)) => unreachable!(),
+        }
     }
 }
 

@@ -1,4 +1,4 @@
-use Rattle.lrat_log.proofs.Growth.{after_lines-push, last_id-push, adds_empty-push, adds_empty-push_deletion, accepted-push, learnt_push}
+use Rattle.lrat_log.proofs.Growth.{after_lines-push, last_id-push, adds_empty-push, adds_empty-push_deletion, log-push, accepted-push, learnt_push}
 use Rattle.lrat_log.proofs.laws.growth_laws.Goals as goal
 
 pub returns : goal.returns
@@ -7,6 +7,7 @@ returns c = record {
   last = last_id-push;
   addition = adds_empty-push;
   deletion = adds_empty-push_deletion;
+  log = log-push;
   accepted = accepted-push;
   learnt = learnt_push;
 }
