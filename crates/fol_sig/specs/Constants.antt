@@ -15,8 +15,16 @@ constant_tables (k ∷ ks) (x ∷ xs) = constant_table k x ∷ constant_tables k
 
 -- the structure with these functions behind its own
 abbrev pub with_constants : Tables → List ℕ → List ℕ → Tables
-with_constants s ks xs = record { sizes = s.sizes; relations = s.relations; functions = s.functions ++ constant_tables ks xs }
+with_constants s ks xs = record {
+  sizes = s.sizes;
+  relations = s.relations;
+  functions = s.functions ++ constant_tables ks xs;
+}
 
 -- the structure without the relations and functions behind those of the symbols
 abbrev pub reduct : Symbols → Tables → Tables
-reduct sig t = record { sizes = t.sizes; relations = take sig.relations t.relations; functions = take sig.functions t.functions }
+reduct sig t = record {
+  sizes = t.sizes;
+  relations = take sig.relations t.relations;
+  functions = take sig.functions t.functions;
+}

@@ -6,8 +6,8 @@ use Rattle.fol_sig.specs.Symbols.{Symbols, AreSorted, FitsStructure, symbols}
 use Rattle.fol_sig.specs.Strata.{IsStrata}
 use Rattle.fol_sig.specs.Constants.{with_constants, reduct}
 
--- The same sorts and symbols, with relations and functions behind them. The new functions have no arguments, so that the
--- sorts have the same orders.
+-- The same sorts and symbols, with relations and functions behind them. The new functions have no arguments, so the sorts
+-- have the same orders.
 pub record Grows (sig more : Symbols) : Type 0 where
   pub sorts : more.sorts ≡ sig.sorts
   pub relations : sig.relations ≤ more.relations
@@ -32,7 +32,11 @@ abbrev pub declared_constant : ℕ → List ℕ × Sort
 declared_constant k = ([], record { 0 = k })
 
 abbrev pub grown : Declared → List ℕ → Declared
-grown sig ks = record { sorts = sig.sorts; relations = sig.relations; functions = sig.functions ++ map declared_constant ks }
+grown sig ks = record {
+  sorts = sig.sorts;
+  relations = sig.relations;
+  functions = sig.functions ++ map declared_constant ks;
+}
 
 -- both are read alike, but for relations and functions that the symbols do not have
 pub record AreReadAlike (sig : Symbols) (a b : Reading) : Type 0 where
@@ -61,12 +65,14 @@ SortsAreKept = (sig more : Symbols) → Grows sig more → KeepsSorts sig more
 -- them, and is the old structure without them
 pub record IsExtension (sig more : Symbols) (s : Tables) (ks xs : List ℕ) : Type 0 where
   pub fits : FitsStructure more (with_constants s ks xs)
-  pub constant : (i : ℕ) (ys : List ℕ) → i < length ks → fun_at (with_constants s ks xs) (sig.functions + i) ys ≡ slice_index xs i
+  pub constant : (i : ℕ) (ys : List ℕ) → i < length ks
+      → fun_at (with_constants s ks xs) (sig.functions + i) ys ≡ slice_index xs i
   pub alike : AreReadAlike sig (reading (with_constants s ks xs)) (reading s)
   pub without : reduct sig (with_constants s ks xs) ≡ s
 
 abbrev pub StructuresExtend : Type 0
-StructuresExtend = (sig more : Symbols) (s : Tables) (ks xs : List ℕ) → GrowsBy sig ks more → FitsStructure sig s → InRange s.sizes ks xs → IsExtension sig more s ks xs
+StructuresExtend = (sig more : Symbols) (s : Tables) (ks xs : List ℕ)
+    → GrowsBy sig ks more → FitsStructure sig s → InRange s.sizes ks xs → IsExtension sig more s ks xs
 
 -- a structure of the grown symbols without the new ones fits the symbols, and is read as before but for them
 pub record IsReduct (sig : Symbols) (t : Tables) : Type 0 where
@@ -78,4 +84,5 @@ StructuresReduce = (sig more : Symbols) (t : Tables) → Grows sig more → Fits
 
 -- each structure of the symbols with constants is its reduct, extended by some elements
 abbrev pub StructuresAreExtensions : Type 0
-StructuresAreExtensions = (sig more : Symbols) (ks : List ℕ) (t : Tables) → GrowsBy sig ks more → FitsStructure more t → (xs : List ℕ) × InRange t.sizes ks xs × (with_constants (reduct sig t) ks xs ≡ t)
+StructuresAreExtensions = (sig more : Symbols) (ks : List ℕ) (t : Tables) → GrowsBy sig ks more → FitsStructure more t
+    → (xs : List ℕ) × InRange t.sizes ks xs × (with_constants (reduct sig t) ks xs ≡ t)

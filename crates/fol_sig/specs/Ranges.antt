@@ -14,11 +14,15 @@ abbrev pub AlongIsInRange : Type 0
 AlongIsInRange = (sizes ks xs : List ℕ) → IsAlong sizes ks xs → InRange sizes ks xs
 
 abbrev pub RangesAppend : Type 0
-RangesAppend = (sizes ks js xs ys : List ℕ) → InRange sizes ks xs → InRange sizes js ys → InRange sizes (ks ++ js) (xs ++ ys)
+RangesAppend = (sizes ks js xs ys : List ℕ)
+    → InRange sizes ks xs → InRange sizes js ys → InRange sizes (ks ++ js) (xs ++ ys)
 
 abbrev pub RangesSplit : Type 0
-RangesSplit = (sizes ks js xs ys : List ℕ) → length ks ≡ length xs → InRange sizes (ks ++ js) (xs ++ ys) → InRange sizes ks xs × InRange sizes js ys
+RangesSplit = (sizes ks js xs ys : List ℕ)
+    → length ks ≡ length xs → InRange sizes (ks ++ js) (xs ++ ys) → InRange sizes ks xs × InRange sizes js ys
 
 -- what a function gives is an element of its sort
 abbrev pub FunctionsStayInRange : Type 0
-FunctionsStayInRange = (s : Tables) (f : ℕ) (xs : List ℕ) → IsStructure s → f < length s.functions → InRange s.sizes (function_at s f).sorts xs → fun_at s f xs < size_at s (function_at s f).into
+FunctionsStayInRange = (s : Tables) (f : ℕ) (xs : List ℕ) → IsStructure s → f < length s.functions
+    → InRange s.sizes (function_at s f).sorts xs
+    → fun_at s f xs < size_at s (function_at s f).into

@@ -1,5 +1,5 @@
-// Signatures that grow by functions without arguments. A sentence whose existential quantifiers become constants is read
-// in the grown signature, and its structures are those of the signature with elements for the constants.
+// Signatures that grow by functions without arguments. A sentence whose existential quantifiers become constants is
+// read in the grown signature, and its structures are those of the signature with elements for the constants.
 ghost use Rattle.std.specs.Prelude.{◌≡◌, ◌+◌, ◌<◌, ◌^◌, length, IfOk};
 ghost use Rattle.fol_sig.specs.Tables.{AreSorts, numbers};
 ghost use Rattle.fol_sig.specs.Growing.{grown};

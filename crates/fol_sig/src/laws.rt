@@ -4,7 +4,8 @@ ghost use Rattle.fol_sig.specs.Tables.{Tables};
 ghost use Rattle.fol_sig.specs.Ranges.{RangesAreAlong, AlongIsInRange, RangesAppend, RangesSplit, FunctionsStayInRange};
 ghost use Rattle.fol_sig.specs.Strata.{OrderHasNoCycle, FirstCycleIsOne};
 ghost use Rattle.fol_sig.specs.Cycles.{CycleHasFirst};
-ghost use Rattle.fol_sig.specs.Growing.{SignaturesGrow, SortsAreKept, StructuresExtend, StructuresReduce, StructuresAreExtensions};
+ghost use Rattle.fol_sig.specs.Growing.{SignaturesGrow, SortsAreKept};
+ghost use Rattle.fol_sig.specs.Growing.{StructuresExtend, StructuresReduce, StructuresAreExtensions};
 ghost use Rattle.fol_sig.specs.Tuples.{TuplesAreNumbered};
 ghost use Rattle.fol_sig.specs.Updates.{UpdatesRelation, UpdatesFunction};
 

@@ -1,9 +1,11 @@
 // Finite structures.
 ghost use Rattle.std.specs.Prelude.{◌≡◌, ◌<◌, [], ◌∷◌, ◌++◌, length, All, IfOk, OnOk, OnErr, map};
-ghost use Rattle.fol_sig.specs.Tables.{numbers, AreSorts, InRange, tuple_count, size_at, rel_at, fun_at, relation_at, function_at, blank_relation, blank_function, blank, IsStructure};
+ghost use Rattle.fol_sig.specs.Tables.{numbers, AreSorts, InRange, tuple_count, size_at, rel_at, fun_at, relation_at, function_at};
+ghost use Rattle.fol_sig.specs.Tables.{blank_relation, blank_function, blank, IsStructure};
 ghost use Rattle.fol_sig.specs.Symbols.{Symbols, FitsStructure, symbols};
 ghost use Rattle.fol_sig.specs.Constants.{constant_table, constant_tables, with_constants, reduct};
-ghost use Rattle.fol_sig.specs.Updates.{SetsRelation, SetsFunction, with_relation_cells, with_function_cells, with_rel_at, with_fun_at};
+ghost use Rattle.fol_sig.specs.Updates.{SetsRelation, SetsFunction, with_rel_at, with_fun_at};
+ghost use Rattle.fol_sig.specs.Updates.{with_relation_cells, with_function_cells};
 
 use crate::table::Table;
 use crate::{FunId, RelId, Signature, Sort, Sorts};

@@ -39,6 +39,7 @@ impl<T: Copy> Table<T> {
         ensures { IfOk result (λ t. t ≡ filled sizes.now sorts.now value) }
     {
         let count = count_tuples(sizes, sorts.as_slice());
+        // There may be more cells than are counted, and no memory has room for these.
         if count == usize::MAX {
             return Err(AllocError);
         }
