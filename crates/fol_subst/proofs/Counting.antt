@@ -355,6 +355,20 @@ over-is-too-large p x e = ap is_over e ∙ same (form_nodes p) (form_depth p)
     same : (n d : ℕ) → is_over (extent n d) ≡ nat_lt 1000000 n || nat_lt 1000 d
     same n d = grind (arith, nat_tests)
 
+-- what is not too large is small
+pub few : (n d : ℕ) → nat_lt 1000000 n || nat_lt 1000 d ≡ false → n ≤ 1000000
+few n d h = grind (arith, nat_tests)
+
+pub shallow : (n d : ℕ) → nat_lt 1000000 n || nat_lt 1000 d ≡ false → d ≤ 1000
+shallow n d h = grind (arith, nat_tests)
+
+-- counts that did not stop are exact
+pub exact_count : (p : FormTree) (x : Extent) → x ≡ extent (form_nodes p) (form_depth p) → is_too_large p ≡ false → x.count ≡ form_nodes p
+exact_count p x e small = let h = few (form_nodes p) (form_depth p) small in ap (λ z. z.count) e ∙ omega (arith, h)
+
+pub exact_depth : (p : FormTree) (x : Extent) → x ≡ extent (form_nodes p) (form_depth p) → is_too_large p ≡ false → x.depth ≡ form_depth p
+exact_depth p x e small = let h = shallow (form_nodes p) (form_depth p) small in ap (λ z. z.depth) e ∙ omega (arith, h)
+
 -- what is counted so far, and what is left
 abbrev raw : ℕ → ℕ → Extent
 raw count depth = record { count = count; depth = depth }
