@@ -1,7 +1,8 @@
 -- A structure with one cell, or the whole table, of one symbol changed.
-use Rattle.std.specs.Prelude.{◌≡◌, ℕ, zero, suc, ◌<◌, Bool, List, [], ◌∷◌, ◌++◌, length, reverse, slice_index, slice_set, All}
+use Rattle.std.specs.Prelude.{◌≡◌, ℕ, ◌<◌, Bool, List, [], ◌∷◌, length, reverse, slice_index, slice_set, All}
 use Rattle.fol_sig.specs.Symbols.{Symbols, FitsStructure}
 use Rattle.fol_sig.specs.Tables.{Tables, InRange, tuple_count, relation_at, function_at, size_at, rel_at, fun_at}
+use Rattle.fol_sig.specs.Tuples.{join_below}
 
 -- one cell is set, and no other
 pub record SetsRelation (old new : Tables) (r : ℕ) (xs : List ℕ) (v : Bool) : Type 0 where
@@ -20,11 +21,6 @@ pub record SetsFunction (old new : Tables) (g : ℕ) (xs : List ℕ) (v : ℕ) :
   pub into : (h : ℕ) → (function_at new h).into ≡ (function_at old h).into
   pub set : fun_at new g xs ≡ v
   pub others : (h : ℕ) (ys : List ℕ) → InRange old.sizes (function_at old h).sorts ys → (h ≡ g → ys ≡ xs → ⊥) → fun_at new h ys ≡ fun_at old h ys
-
--- the lists of the numbers below n, one after another
-abbrev pub join_below : {A : Type 0} → ℕ → (ℕ → List A) → List A
-join_below zero f = []
-join_below (suc n) f = join_below n f ++ f n
 
 -- The values of f at the tuples of these sorts, in lexicographic order. f takes a tuple with its last element first,
 -- as formulas do, and behind it the elements before.

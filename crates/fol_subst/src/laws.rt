@@ -8,7 +8,7 @@ pub fn exactness()
     ensures { ReplacementKeepsMeaning }
 {
     fol_sig::update_laws();
-    fol_sig::value_law();
+    fol_sig::range_laws();
     fol_formula::agreement();
     fol_formula::inclusion();
     fol_formula::indices();

@@ -8,7 +8,8 @@ returns c =
       updates = record {
         relations = c.update_laws.ensures.relations;
         functions = c.update_laws.ensures.functions;
-        elements = c.value_law.ensures;
+        along = c.range_laws.ensures.along;
+        elements = c.range_laws.ensures.values;
         agree = c.agreement.ensures.truth;
         in_range = c.agreement.ensures.in_range;
       };
