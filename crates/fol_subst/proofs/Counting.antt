@@ -13,7 +13,7 @@ use Rattle.fol_subst.specs.Room.{AppTakes, ReadyForm, ReadyForms, ReadyTerm, Rea
 use Rattle.fol_subst.specs.Extents.{capped, extent, none, one, beside, over, under, put_in, places_form, places_forms, places_term, places_terms, places_of, extent_form, extent_forms, extent_term, extent_terms, extent_instance, is_over}
 use Rattle.fol_subst.specs.declared.extent.Extent.{Extent}
 use Rattle.fol_subst.proofs.Truth.{length-list_of, size_of-by}
-use Rattle.fol_subst.proofs.Sizes.{uses_form, uses_forms, uses_term, uses_terms, below, reach_form, reach_forms, reach_term, reach_terms, weighted, weighted-same, deepened, highest, highest-same, nodes-put, depth-put, term_nodes-put, term_depth-put, nodes-positive, depth-positive}
+use Rattle.fol_subst.proofs.Sizes.{uses_form, uses_forms, uses_term, uses_terms, below, reach_form, reach_forms, reach_term, reach_terms, weighted, weighted-same, deepened, highest, highest-same, Filled, filled-form, filled-term, nodes-positive, depth-positive}
 
 pub beside-extent : (a b c d : ℕ) → beside (extent a b) (extent c d) ≡ extent (a + c) (max b d)
 beside-extent a b c d =
@@ -224,25 +224,16 @@ abbrev HasExtents : Change → TermTrees → TermTrees → Type 0
 HasExtents c ts new =
     (whole : Extent) (a b : ℕ) → 1 ≤ a → whole ≡ extent a b → extent_instance c whole ts ≡ extent (a + weighted_args (uses_of c) new) (max b (highest_args (reach_of c) new))
 
-nodes-by : (by : FormTree) (new : TermTrees) → form_nodes (put_form 0 (reverse (list_of new)) by) ≡ form_nodes by + weighted_args (λ i. uses_form i by) new
-nodes-by by new =
-    nodes-put (reverse (list_of new)) by 0
-    ∙ ap (λ n. form_nodes by + n) (weighted-same (λ j. uses_form (j + 0) by) (λ j. uses_form j by) (reverse (list_of new)) (λ j. ap (λ m. uses_form m by) (omega arith)) ∙ weighted-reverse (λ i. uses_form i by) new)
+-- places outside of binders, by parameter
+zero_by : (f : ℕ → ℕ) (j : ℕ) → f (j + 0) ≡ f j
+zero_by f j = let e : j + 0 ≡ j = omega arith in ap f e
 
-depth-by : (by : FormTree) (new : TermTrees) → form_depth (put_form 0 (reverse (list_of new)) by) ≡ max (form_depth by) (highest_args (λ i. reach_form i by) new)
-depth-by by new =
-    depth-put (reverse (list_of new)) by 0
-    ∙ ap (λ n. max (form_depth by) n) (highest-same (λ j. reach_form (j + 0) by) (λ j. reach_form j by) (reverse (list_of new)) (λ j. ap (λ m. reach_form m by) (omega arith)) ∙ highest-reverse (λ i. reach_form i by) new)
-
-term_nodes-by : (by : TermTree) (new : TermTrees) → term_nodes (put_term 0 (reverse (list_of new)) by) ≡ term_nodes by + weighted_args (λ i. uses_term i by) new
-term_nodes-by by new =
-    term_nodes-put (reverse (list_of new)) by 0
-    ∙ ap (λ n. term_nodes by + n) (weighted-same (λ j. uses_term (j + 0) by) (λ j. uses_term j by) (reverse (list_of new)) (λ j. ap (λ m. uses_term m by) (omega arith)) ∙ weighted-reverse (λ i. uses_term i by) new)
-
-term_depth-by : (by : TermTree) (new : TermTrees) → term_depth (put_term 0 (reverse (list_of new)) by) ≡ max (term_depth by) (highest_args (λ i. reach_term i by) new)
-term_depth-by by new =
-    term_depth-put (reverse (list_of new)) by 0
-    ∙ ap (λ n. max (term_depth by) n) (highest-same (λ j. reach_term (j + 0) by) (λ j. reach_term j by) (reverse (list_of new)) (λ j. ap (λ m. reach_term m by) (omega arith)) ∙ highest-reverse (λ i. reach_term i by) new)
+filled-args : (n d : ℕ) (u r : ℕ → ℕ) (n' d' : ℕ) (new : TermTrees) → Filled (reverse (list_of new)) n d (λ j. u (j + 0)) (λ j. r (j + 0)) n' d' → extent n' d' ≡ extent (n + weighted_args u new) (max d (highest_args r new))
+filled-args n d u r n' d' new h =
+    let xs = reverse (list_of new) in
+    let e1 = weighted-same (λ j. u (j + 0)) u xs (zero_by u) ∙ weighted-reverse u new in
+    let e2 = highest-same (λ j. r (j + 0)) r xs (zero_by r) ∙ highest-reverse r new in
+    ap (λ m. extent m d') (h.nodes ∙ ap (λ m. n + m) e1) ∙ ap (extent (n + weighted_args u new)) (h.depth ∙ ap (λ m. max d m) e2)
 
 form_nodes-positive : (p : FormTree) → 1 ≤ form_nodes p
 form_nodes-positive top = omega arith
@@ -263,11 +254,8 @@ extent-atom (change_rel r by) q args new plain inside = which (q == r) refl
   where
     which : (b : Bool) → (q == r) ≡ b → cond b (extent_instance (change_rel r by) (extent (form_nodes by) (form_depth by)) args) (over (extent_terms (change_rel r by) args)) ≡ extent (form_nodes (cond b (put_form 0 (reverse (list_of new)) by) (rel q new))) (form_depth (cond b (put_form 0 (reverse (list_of new)) by) (rel q new)))
     which true e =
-        let e1 = nodes-by by new in
-        let e2 = depth-by by new in
         inside (extent (form_nodes by) (form_depth by)) (form_nodes by) (form_depth by) (form_nodes-positive by) refl
-        ∙ ap (λ n. extent n (max (form_depth by) (highest_args (λ i. reach_form i by) new))) (sym e1)
-        ∙ ap (λ n. extent (form_nodes (put_form 0 (reverse (list_of new)) by)) n) (sym e2)
+        ∙ sym (filled-args _ _ (λ i. uses_form i by) (λ i. reach_form i by) _ _ new (filled-form (reverse (list_of new)) by 0))
     which false e = over-one _ _ _ plain
 extent-atom (change_fun g by) q args new plain inside = over-one _ _ _ plain
 extent-atom (change_const g index) q args new plain inside = over-one _ _ _ plain
@@ -278,11 +266,8 @@ extent-application (change_fun g by) d f args new count ready plain inside = whi
   where
     which : (b : Bool) → (f == g) ≡ b → cond b (extent_instance (change_fun g by) (extent (term_nodes by) (term_depth by)) args) (over (extent_terms (change_fun g by) args)) ≡ extent (term_nodes (cond b (put_term 0 (reverse (list_of new)) by) (app f new))) (term_depth (cond b (put_term 0 (reverse (list_of new)) by) (app f new)))
     which true e =
-        let e1 = term_nodes-by by new in
-        let e2 = term_depth-by by new in
         inside (extent (term_nodes by) (term_depth by)) (term_nodes by) (term_depth by) (nodes-positive by) refl
-        ∙ ap (λ n. extent n (max (term_depth by) (highest_args (λ i. reach_term i by) new))) (sym e1)
-        ∙ ap (λ n. extent (term_nodes (put_term 0 (reverse (list_of new)) by)) n) (sym e2)
+        ∙ sym (filled-args _ _ (λ i. uses_term i by) (λ i. reach_term i by) _ _ new (filled-term (reverse (list_of new)) by 0))
     which false e = over-one _ _ _ plain
 extent-application (change_const g index) d f args new count ready plain inside = which (f == g) refl
   where
@@ -354,6 +339,20 @@ over-is-too-large p x e = ap is_over e ∙ same (form_nodes p) (form_depth p)
   where
     same : (n d : ℕ) → is_over (extent n d) ≡ nat_lt 1000000 n || nat_lt 1000 d
     same n d = grind (arith, nat_tests)
+
+-- what is not too large is small
+pub few : (n d : ℕ) → nat_lt 1000000 n || nat_lt 1000 d ≡ false → n ≤ 1000000
+few n d h = grind (arith, nat_tests)
+
+pub shallow : (n d : ℕ) → nat_lt 1000000 n || nat_lt 1000 d ≡ false → d ≤ 1000
+shallow n d h = grind (arith, nat_tests)
+
+-- counts that did not stop are exact
+pub exact_count : (p : FormTree) (x : Extent) → x ≡ extent (form_nodes p) (form_depth p) → is_too_large p ≡ false → x.count ≡ form_nodes p
+exact_count p x e small = let h = few (form_nodes p) (form_depth p) small in ap (λ z. z.count) e ∙ omega (arith, h)
+
+pub exact_depth : (p : FormTree) (x : Extent) → x ≡ extent (form_nodes p) (form_depth p) → is_too_large p ≡ false → x.depth ≡ form_depth p
+exact_depth p x e small = let h = shallow (form_nodes p) (form_depth p) small in ap (λ z. z.depth) e ∙ omega (arith, h)
 
 -- what is counted so far, and what is left
 abbrev raw : ℕ → ℕ → Extent

@@ -1,9 +1,8 @@
 -- The room that the building of a result needs, from its limits, and for each argument that it keeps.
-use Rattle.std.proofs.Common.{◌≡◌, ℕ, zero, suc, ◌+◌, ◌-◌, ◌<◌, ◌≤◌, ◌^◌, Bool, true, false, ◌==◌, ◌||◌, nat_lt, cond, max, List, [], ◌∷◌, ◌++◌, length, get_or, drop, map, refl, sym, ap, ◌∙◌, subst, ⊎_elim, ◌⊎◌, arith, inl, inr, length-drop}
+use Rattle.std.proofs.Common.{◌≡◌, ℕ, zero, suc, ◌+◌, ◌-◌, ◌<◌, ◌≤◌, ◌^◌, Bool, true, false, ◌==◌, cond, max, List, [], ◌∷◌, ◌++◌, length, get_or, drop, map, refl, sym, ap, ◌∙◌, subst, ⊎_elim, ◌⊎◌, arith, inl, inr, length-drop}
 use Rattle.std.specs.Prelude.{reverse}
 use Rattle.std.proofs.lemmas.Bool.{cases_lt, eqb-true, eq-eqb, ne_eqb}
-use Rattle.std.proofs.lemmas.Bool.Decides.{nat_tests}
-use Rattle.std.proofs.lemmas.List.{reverse-append, length-reverse, length-map, get_or_append_left, get_or-append-add, get_or-map, get_or_default}
+use Rattle.std.proofs.lemmas.List.{reverse-append, length-reverse, length-map, get_or_append_left, get_or-append-add, get_or-map, get_or_default, get_or_past}
 use Rattle.fol_formula.specs.Syntax.{FormTree, FormTrees, TermTree, TermTrees, top, bottom, rel, equal, negation, conjunction, disjunction, implication, equivalence, for_all, for_some, no_forms, form_then, bound, app, ite, no_terms, term_then, list_of, terms_then, size_of}
 use Rattle.fol_formula.specs.View.{term, terms}
 use Rattle.fol_formula.specs.declared.Term.{Term}
@@ -22,7 +21,7 @@ use Rattle.fol_subst.specs.Outcome.{ShortListsSuffice, ShortListsAllowShifts}
 use Rattle.fol_subst.proofs.Fitting.{changed-fits}
 use Rattle.fol_subst.proofs.Truth.{raised-below, raised-above, argument, picked-below, picked-above, length-list_of, map-reverse, size_of-by}
 use Rattle.fol_subst.proofs.Sizes.{below, reach_form, reach_forms, reach_term, reach_terms, under_suc}
-use Rattle.fol_subst.proofs.Counting.{reach_of, places-of}
+use Rattle.fol_subst.proofs.Counting.{reach_of, places-of, shallow}
 
 -- a result within the limits has room
 mutual
@@ -313,20 +312,12 @@ kept-room c d (term_then t ts) h =
 
 -- what a replaced atom or application needs, and what it makes
 pub record BuiltForm (by : FormTree) (ts : List Term) (made : FormTree) : Type 0 where
-  pub bound : BoundForm (0 + length ts) by
   pub room : RoomForm 0 (put_form 0 (map term ts) by)
   pub same : put_form 0 (map term ts) by ≡ made
 
 pub record BuiltTerm (by : TermTree) (ts : List Term) (made : TermTree) : Type 0 where
-  pub bound : BoundTerm (0 + length ts) by
   pub room : RoomTerm 0 (put_term 0 (map term ts) by)
   pub same : put_term 0 (map term ts) by ≡ made
-
-reversed-length : RowsAreLists → (c : Change) (all ts : List Term) (new : TermTrees) → ts ≡ reverse all → terms all ≡ kept c new → size_of new ≡ 0 + length ts
-reversed-length rows c all ts new is made =
-    let n : length ts ≡ length all = ap length is ∙ length-reverse all in
-    let m : length all ≡ size_of new = sym (length-map all term) ∙ ap length (sym (rows.term_list all)) ∙ length-list_of (terms all) ∙ ap size_of made ∙ size_of-kept c new in
-    omega (arith, n, m)
 
 pub built-form : RowsAreLists → (r : ℕ) (by : FormTree) (depth : ℕ) (new : TermTrees) (all ts : List Term) → BoundForm (size_of new) by → RoomForm depth (put_form 0 (reverse (list_of new)) by) → ts ≡ reverse all → terms all ≡ kept (change_rel r by) new → BuiltForm by ts (put_form 0 (reverse (list_of new)) by)
 built-form rows r by depth new all ts ready room is made =
@@ -337,7 +328,6 @@ built-form rows r by depth new all ts ready room is made =
     (λ j lt u. kept-same c new j lt (subst (λ m. 0 < reach_form m by) (let e : j + 0 ≡ j = omega arith in e) u)) in
     let whole : put_form 0 (map term ts) by ≡ put_form 0 (reverse (list_of new)) by = ap (λ z. put_form 0 z by) args ∙ same in
     record {
-      bound = subst (λ n. BoundForm n by) (reversed-length rows c all ts new is made) ready;
       room = subst (RoomForm 0) (sym whole) (less-form (put_form 0 (reverse (list_of new)) by) 0 depth room (omega arith));
       same = whole;
     }
@@ -351,7 +341,6 @@ built-term rows g by depth new all ts ready room is made =
     (λ j lt u. kept-same c new j lt (subst (λ m. 0 < reach_term m by) (let e : j + 0 ≡ j = omega arith in e) u)) in
     let whole : put_term 0 (map term ts) by ≡ put_term 0 (reverse (list_of new)) by = ap (λ z. put_term 0 z by) args ∙ same in
     record {
-      bound = subst (λ n. BoundTerm n by) (reversed-length rows c all ts new is made) ready;
       room = subst (RoomTerm 0) (sym whole) (less-term (put_term 0 (reverse (list_of new)) by) 0 depth room (omega arith));
       same = whole;
     }
@@ -367,11 +356,23 @@ kept_room-term g by depth new room =
     kept-room (change_fun g by) depth new (λ j lt u.
     used-term (reverse (list_of new)) j depth (let e = length-reversed new in omega (arith, lt, e)) by 0 (subst (λ n. RoomTerm n (put_term 0 (reverse (list_of new)) by)) (let e : depth ≡ depth + 0 = omega arith in e) room) (subst (λ m. 0 < reach_term m by) (let e : j ≡ j + 0 = omega arith in e) u))
 
--- the argument that an index means
-pub picked-room : (depth i : ℕ) (args : List Term) (x : Term) → depth ≤ i → i - depth < length args → x ≡ get_or args (i - depth) x → RoomTerm depth (picked depth (map term args) i) → RoomTerm 0 (shift_term 0 depth (term x))
-picked-room depth i args x above inside is room =
-    let at : argument (map term args) (i - depth) ≡ term x = get_or-map term args (i - depth) x _ inside ∙ ap term (sym is) in
-    less-term (shift_term 0 depth (term x)) 0 depth (subst (RoomTerm depth) (picked-above depth (map term args) i above ∙ ap (shift_term 0 depth) at) room) (omega arith)
+-- an index at its depth, as the code finds what it becomes
+module _ (depth i : ℕ) (args : List Term) (above : depth ≤ i) where
+  argument-at : (x : Term) → i - depth < length args → x ≡ get_or args (i - depth) x → argument (map term args) (i - depth) ≡ term x
+  argument-at x inside is = get_or-map term args (i - depth) x _ inside ∙ ap term (sym is)
+
+  pub picked-inside : (x : Term) → i - depth < length args → x ≡ get_or args (i - depth) x → picked depth (map term args) i ≡ shift_term 0 depth (term x)
+  picked-inside x inside is = picked-above depth (map term args) i above ∙ ap (shift_term 0 depth) (argument-at x inside is)
+
+  pub picked-room : (x : Term) → i - depth < length args → x ≡ get_or args (i - depth) x → RoomTerm depth (picked depth (map term args) i) → RoomTerm 0 (shift_term 0 depth (term x))
+  picked-room x inside is room = less-term (shift_term 0 depth (term x)) 0 depth (subst (RoomTerm depth) (picked-inside x inside is) room) (omega arith)
+
+  pub picked-beyond : length args ≤ i - depth → picked depth (map term args) i ≡ bound (i - length args)
+  picked-beyond beyond =
+      let n = length-map args term in
+      let past = get_or_past (map term args) (i - depth) (bound (i - depth - length (map term args))) (omega (arith, n, beyond)) in
+      let e : raised 0 depth (i - depth - length (map term args)) ≡ i - length args = raised-above 0 depth (i - depth - length (map term args)) (omega arith) ∙ omega (arith, n, above, beyond) in
+      picked-above depth (map term args) i above ∙ ap (shift_term 0 depth) past ∙ ap bound e
 
 -- for the change as the code has it
 pub kept_room-atom : (c : Change) (r q depth : ℕ) (by : FormTree) (new : TermTrees) → c ≡ change_rel r by → q ≡ r → RoomForm depth (rel_instance c q new) → RoomTerms depth (kept c new)
@@ -433,10 +434,6 @@ instance-more lists c ts i j t all place part new whole lt is size at counted pu
     (put ∙ ap (λ z. put_in all z part) (at ∙ ap (places_of c) (sym size)) ∙ ap (λ z. put_in all (places_of c (size_of rest)) z) counted)
     ∙ ap (extent_instance c all) (sym (lists.left ts i t lt is))
     ∙ before
-
--- what is not too large is not deep
-shallow : (n d : ℕ) → nat_lt 1000000 n || nat_lt 1000 d ≡ false → d ≤ 1000
-shallow n d h = grind (arith, nat_tests)
 
 -- a result within the limits has room, under the binders that there may be
 pub room-within : (p : FormTree) (d : ℕ) → IndicesFit p → is_too_large p ≡ false → d < 2 ^ 33 → RoomForm d p

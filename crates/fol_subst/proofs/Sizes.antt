@@ -289,141 +289,67 @@ module _ (xs : List TermTree) (i e : ℕ) where
       ap term_depth (picked-above e xs i l) ∙ (size_term-shifted (argument xs (i - e)) 0 e).depth ∙ sym one)
       (cases_lt i e)
 
-module _ (xs : List TermTree) where
-  mutual
-    pub nodes-put : (p : FormTree) (e : ℕ) → form_nodes (put_form e xs p) ≡ form_nodes p + weighted (λ j. uses_form (j + e) p) xs
-    nodes-put top e = let e1 = weighted-none (λ j. 0) xs (λ j. refl) in omega (arith, e1)
-    nodes-put bottom e = let e1 = weighted-none (λ j. 0) xs (λ j. refl) in omega (arith, e1)
-    nodes-put (rel r ts) e = let e1 = terms_nodes-put ts e in omega (arith, e1)
-    nodes-put (equal a b) e =
-        let e1 = term_nodes-put a e in
-        let e2 = term_nodes-put b e in
-        let e3 = weighted-add (λ j. uses_term (j + e) a) (λ j. uses_term (j + e) b) xs in
-        omega (arith, e1, e2, e3)
-    nodes-put (negation p) e = let e1 = nodes-put p e in omega (arith, e1)
-    nodes-put (conjunction ps) e = let e1 = forms_nodes-put ps e in omega (arith, e1)
-    nodes-put (disjunction ps) e = let e1 = forms_nodes-put ps e in omega (arith, e1)
-    nodes-put (implication p q) e =
-        let e1 = nodes-put p e in
-        let e2 = nodes-put q e in
-        let e3 = weighted-add (λ j. uses_form (j + e) p) (λ j. uses_form (j + e) q) xs in
-        omega (arith, e1, e2, e3)
-    nodes-put (equivalence p q) e =
-        let e1 = nodes-put p e in
-        let e2 = nodes-put q e in
-        let e3 = weighted-add (λ j. uses_form (j + e) p) (λ j. uses_form (j + e) q) xs in
-        omega (arith, e1, e2, e3)
-    nodes-put (for_all k p) e =
-        let e1 = nodes-put p (suc e) in
-        let e2 = weighted-same (λ j. uses_form (suc (j + e)) p) (λ j. uses_form (j + suc e) p) xs (λ j. ap (λ m. uses_form m p) (under_suc j e)) in
-        omega (arith, e1, e2)
-    nodes-put (for_some k p) e =
-        let e1 = nodes-put p (suc e) in
-        let e2 = weighted-same (λ j. uses_form (suc (j + e)) p) (λ j. uses_form (j + suc e) p) xs (λ j. ap (λ m. uses_form m p) (under_suc j e)) in
-        omega (arith, e1, e2)
-
-    forms_nodes-put : (ps : FormTrees) (e : ℕ) → forms_nodes (put_forms e xs ps) ≡ forms_nodes ps + weighted (λ j. uses_forms (j + e) ps) xs
-    forms_nodes-put no_forms e = let e1 = weighted-none (λ j. 0) xs (λ j. refl) in omega (arith, e1)
-    forms_nodes-put (form_then p ps) e =
-        let e1 = nodes-put p e in
-        let e2 = forms_nodes-put ps e in
-        let e3 = weighted-add (λ j. uses_form (j + e) p) (λ j. uses_forms (j + e) ps) xs in
-        omega (arith, e1, e2, e3)
-
-    pub term_nodes-put : (t : TermTree) (e : ℕ) → term_nodes (put_term e xs t) ≡ term_nodes t + weighted (λ j. uses_term (j + e) t) xs
-    term_nodes-put (bound i) e = index-nodes xs i e
-    term_nodes-put (app f ts) e = let e1 = terms_nodes-put ts e in omega (arith, e1)
-    term_nodes-put (ite p a b) e =
-        let e1 = nodes-put p e in
-        let e2 = term_nodes-put a e in
-        let e3 = term_nodes-put b e in
-        let e4 = weighted-add (λ j. uses_term (j + e) a) (λ j. uses_term (j + e) b) xs in
-        let e5 = weighted-add (λ j. uses_form (j + e) p) (λ j. uses_term (j + e) a + uses_term (j + e) b) xs in
-        omega (arith, e1, e2, e3, e4, e5)
-
-    terms_nodes-put : (ts : TermTrees) (e : ℕ) → terms_nodes (put_terms e xs ts) ≡ terms_nodes ts + weighted (λ j. uses_terms (j + e) ts) xs
-    terms_nodes-put no_terms e = let e1 = weighted-none (λ j. 0) xs (λ j. refl) in omega (arith, e1)
-    terms_nodes-put (term_then t ts) e =
-        let e1 = term_nodes-put t e in
-        let e2 = terms_nodes-put ts e in
-        let e3 = weighted-add (λ j. uses_term (j + e) t) (λ j. uses_terms (j + e) ts) xs in
-        omega (arith, e1, e2, e3)
+-- a tree of this size where places of it, so many and so deep of each argument, hold the arguments
+pub record Filled (xs : List TermTree) (n d : ℕ) (uses reach : ℕ → ℕ) (n' d' : ℕ) : Type 0 where
+  pub nodes : n' ≡ n + weighted uses xs
+  pub depth : d' ≡ max d (highest reach xs)
 
 module _ (xs : List TermTree) where
-  -- two parts
-  two : (y z : ℕ) (f g : ℕ → ℕ) {u v : ℕ} → u ≡ max y (highest f xs) → v ≡ max z (highest g xs) → max u v + 1 ≡ max (max y z + 1) (highest (λ j. below (max (f j) (g j))) xs)
-  two y z f g e1 e2 =
-      let e3 = highest-max f g xs in let e4 = highest-below (max y z) (λ j. max (f j) (g j)) xs in omega (arith, e1, e2, e3, e4)
+  none_filled : (n d : ℕ) → Filled xs n d (λ j. 0) (λ j. 0) n d
+  none_filled n d =
+      let e1 = weighted-none (λ j. 0) xs (λ j. refl) in
+      let e2 = highest-none (λ j. 0) xs (λ j. refl) in
+      record { nodes = omega (arith, e1); depth = omega (arith, e2) }
+
+  over_filled : {n d : ℕ} {u r : ℕ → ℕ} {n' d' : ℕ} → Filled xs n d u r n' d' → Filled xs (n + 1) (d + 1) u (λ j. below (r j)) (n' + 1) (d' + 1)
+  over_filled {d = d} {r = r} h =
+      let e1 = h.nodes in
+      let e2 = h.depth in
+      let e3 = highest-below d r xs in
+      record { nodes = omega (arith, e1); depth = omega (arith, e2, e3) }
+
+  both_filled : {n d : ℕ} {u r : ℕ → ℕ} {n' d' m e : ℕ} {v s : ℕ → ℕ} {m' e' : ℕ} → Filled xs n d u r n' d' → Filled xs m e v s m' e' → Filled xs (n + m) (max d e) (λ j. u j + v j) (λ j. max (r j) (s j)) (n' + m') (max d' e')
+  both_filled {u = u} {r = r} {v = v} {s = s} h g =
+      let e1 = h.nodes in
+      let e2 = g.nodes in
+      let e3 = weighted-add u v xs in
+      let e4 = h.depth in
+      let e5 = g.depth in
+      let e6 = highest-max r s xs in
+      record { nodes = omega (arith, e1, e2, e3); depth = omega (arith, e4, e5, e6) }
+
+  renamed : (n d : ℕ) (u v r s : ℕ → ℕ) (n' d' : ℕ) → ((j : ℕ) → u j ≡ v j) → ((j : ℕ) → r j ≡ s j) → Filled xs n d v s n' d' → Filled xs n d u r n' d'
+  renamed n d u v r s n' d' same same' h = record {
+    nodes = h.nodes ∙ ap (λ z. n + z) (sym (weighted-same u v xs same));
+    depth = h.depth ∙ ap (λ z. max d z) (sym (highest-same r s xs same'));
+  }
 
   mutual
-    pub depth-put : (p : FormTree) (e : ℕ) → form_depth (put_form e xs p) ≡ max (form_depth p) (highest (λ j. reach_form (j + e) p) xs)
-    depth-put top e = let e1 = highest-none (λ j. 0) xs (λ j. refl) in omega (arith, e1)
-    depth-put bottom e = let e1 = highest-none (λ j. 0) xs (λ j. refl) in omega (arith, e1)
-    depth-put (rel r ts) e =
-        let e1 = terms_depth-put ts e in
-        let e2 = highest-below (terms_depth ts) (λ j. reach_terms (j + e) ts) xs in
-        omega (arith, e1, e2)
-    depth-put (equal a b) e =
-        let e1 = term_depth-put a e in
-        let e2 = term_depth-put b e in
-        two (term_depth a) (term_depth b) (λ j. reach_term (j + e) a) (λ j. reach_term (j + e) b) e1 e2
-    depth-put (negation p) e =
-        let e1 = depth-put p e in
-        let e2 = highest-below (form_depth p) (λ j. reach_form (j + e) p) xs in
-        omega (arith, e1, e2)
-    depth-put (conjunction ps) e =
-        let e1 = forms_depth-put ps e in
-        let e2 = highest-below (forms_depth ps) (λ j. reach_forms (j + e) ps) xs in
-        omega (arith, e1, e2)
-    depth-put (disjunction ps) e =
-        let e1 = forms_depth-put ps e in
-        let e2 = highest-below (forms_depth ps) (λ j. reach_forms (j + e) ps) xs in
-        omega (arith, e1, e2)
-    depth-put (implication p q) e =
-        let e1 = depth-put p e in
-        let e2 = depth-put q e in
-        two (form_depth p) (form_depth q) (λ j. reach_form (j + e) p) (λ j. reach_form (j + e) q) e1 e2
-    depth-put (equivalence p q) e =
-        let e1 = depth-put p e in
-        let e2 = depth-put q e in
-        two (form_depth p) (form_depth q) (λ j. reach_form (j + e) p) (λ j. reach_form (j + e) q) e1 e2
-    depth-put (for_all k p) e =
-        let e1 = depth-put p (suc e) in
-        let e2 = highest-same (λ j. reach_form (suc (j + e)) p) (λ j. reach_form (j + suc e) p) xs (λ j. ap (λ m. reach_form m p) (under_suc j e)) in
-        let e3 = highest-below (form_depth p) (λ j. reach_form (suc (j + e)) p) xs in
-        omega (arith, e1, e2, e3)
-    depth-put (for_some k p) e =
-        let e1 = depth-put p (suc e) in
-        let e2 = highest-same (λ j. reach_form (suc (j + e)) p) (λ j. reach_form (j + suc e) p) xs (λ j. ap (λ m. reach_form m p) (under_suc j e)) in
-        let e3 = highest-below (form_depth p) (λ j. reach_form (suc (j + e)) p) xs in
-        omega (arith, e1, e2, e3)
+    pub filled-form : (p : FormTree) (e : ℕ) → Filled xs (form_nodes p) (form_depth p) (λ j. uses_form (j + e) p) (λ j. reach_form (j + e) p) (form_nodes (put_form e xs p)) (form_depth (put_form e xs p))
+    filled-form top e = none_filled 1 1
+    filled-form bottom e = none_filled 1 1
+    filled-form (rel r ts) e = over_filled (filled-terms ts e)
+    filled-form (equal a b) e = over_filled (both_filled (filled-term a e) (filled-term b e))
+    filled-form (negation p) e = over_filled (filled-form p e)
+    filled-form (conjunction ps) e = over_filled (filled-forms ps e)
+    filled-form (disjunction ps) e = over_filled (filled-forms ps e)
+    filled-form (implication p q) e = over_filled (both_filled (filled-form p e) (filled-form q e))
+    filled-form (equivalence p q) e = over_filled (both_filled (filled-form p e) (filled-form q e))
+    filled-form (for_all k p) e = over_filled (renamed _ _ _ _ _ _ _ _ (λ j. ap (λ m. uses_form m p) (under_suc j e)) (λ j. ap (λ m. reach_form m p) (under_suc j e)) (filled-form p (suc e)))
+    filled-form (for_some k p) e = over_filled (renamed _ _ _ _ _ _ _ _ (λ j. ap (λ m. uses_form m p) (under_suc j e)) (λ j. ap (λ m. reach_form m p) (under_suc j e)) (filled-form p (suc e)))
 
-    forms_depth-put : (ps : FormTrees) (e : ℕ) → forms_depth (put_forms e xs ps) ≡ max (forms_depth ps) (highest (λ j. reach_forms (j + e) ps) xs)
-    forms_depth-put no_forms e = let e1 = highest-none (λ j. 0) xs (λ j. refl) in omega (arith, e1)
-    forms_depth-put (form_then p ps) e =
-        let e1 = depth-put p e in
-        let e2 = forms_depth-put ps e in
-        let e3 = highest-max (λ j. reach_form (j + e) p) (λ j. reach_forms (j + e) ps) xs in
-        omega (arith, e1, e2, e3)
+    filled-forms : (ps : FormTrees) (e : ℕ) → Filled xs (forms_nodes ps) (forms_depth ps) (λ j. uses_forms (j + e) ps) (λ j. reach_forms (j + e) ps) (forms_nodes (put_forms e xs ps)) (forms_depth (put_forms e xs ps))
+    filled-forms no_forms e = none_filled 0 0
+    filled-forms (form_then p ps) e = both_filled (filled-form p e) (filled-forms ps e)
 
-    pub term_depth-put : (t : TermTree) (e : ℕ) → term_depth (put_term e xs t) ≡ max (term_depth t) (highest (λ j. reach_term (j + e) t) xs)
-    term_depth-put (bound i) e = index-depth xs i e
-    term_depth-put (app f ts) e =
-        let e1 = terms_depth-put ts e in
-        let e2 = highest-below (terms_depth ts) (λ j. reach_terms (j + e) ts) xs in
-        omega (arith, e1, e2)
-    term_depth-put (ite p a b) e =
-        let e1 = depth-put p e in
-        let e2 = term_depth-put a e in
-        let e3 = term_depth-put b e in
-        let e4 = highest-max (λ j. reach_term (j + e) a) (λ j. reach_term (j + e) b) xs in
-        let e5 : max (term_depth (put_term e xs a)) (term_depth (put_term e xs b)) ≡ max (max (term_depth a) (term_depth b)) (highest (λ j. max (reach_term (j + e) a) (reach_term (j + e) b)) xs) = omega (arith, e2, e3, e4) in
-        two (form_depth p) (max (term_depth a) (term_depth b)) (λ j. reach_form (j + e) p) (λ j. max (reach_term (j + e) a) (reach_term (j + e) b)) e1 e5
+    pub filled-term : (t : TermTree) (e : ℕ) → Filled xs (term_nodes t) (term_depth t) (λ j. uses_term (j + e) t) (λ j. reach_term (j + e) t) (term_nodes (put_term e xs t)) (term_depth (put_term e xs t))
+    filled-term (bound i) e = record { nodes = index-nodes xs i e; depth = index-depth xs i e }
+    filled-term (app f ts) e = over_filled (filled-terms ts e)
+    filled-term (ite p a b) e =
+        let h = over_filled (both_filled (filled-form p e) (both_filled (filled-term a e) (filled-term b e))) in
+        let e1 = h.nodes in
+        record { nodes = omega (arith, e1); depth = h.depth }
 
-    terms_depth-put : (ts : TermTrees) (e : ℕ) → terms_depth (put_terms e xs ts) ≡ max (terms_depth ts) (highest (λ j. reach_terms (j + e) ts) xs)
-    terms_depth-put no_terms e = let e1 = highest-none (λ j. 0) xs (λ j. refl) in omega (arith, e1)
-    terms_depth-put (term_then t ts) e =
-        let e1 = term_depth-put t e in
-        let e2 = terms_depth-put ts e in
-        let e3 = highest-max (λ j. reach_term (j + e) t) (λ j. reach_terms (j + e) ts) xs in
-        omega (arith, e1, e2, e3)
+    filled-terms : (ts : TermTrees) (e : ℕ) → Filled xs (terms_nodes ts) (terms_depth ts) (λ j. uses_terms (j + e) ts) (λ j. reach_terms (j + e) ts) (terms_nodes (put_terms e xs ts)) (terms_depth (put_terms e xs ts))
+    filled-terms no_terms e = none_filled 0 0
+    filled-terms (term_then t ts) e = both_filled (filled-term t e) (filled-terms ts e)

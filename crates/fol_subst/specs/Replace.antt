@@ -5,7 +5,7 @@ use Rattle.fol_sig.specs.Symbols.{Symbols}
 use Rattle.fol_formula.specs.Truth.{truth, value}
 use Rattle.fol_formula.specs.Fits.{FitsForm, FitsTerm}
 use Rattle.fol_formula.specs.Syntax.{FormTree, FormTrees, TermTree, TermTrees, rel, bound, app, list_of}
-use Rattle.fol_subst.specs.Rules.{Rules, form_by, forms_by, term_by, terms_by}
+use Rattle.fol_subst.specs.Rules.{Rules, of_indices, form_by, forms_by, term_by, terms_by}
 use Rattle.fol_subst.specs.Shift.{shift_term}
 
 -- Under `depth` binders the index means a binder, or else an argument, which is taken under those binders; one beyond the
@@ -14,11 +14,7 @@ abbrev pub picked : ℕ → List TermTree → ℕ → TermTree
 picked depth args i = if nat_lt i depth then bound i else shift_term 0 depth (slice_index_or args (i - depth) (bound (i - depth - length args)))
 
 abbrev pub putting : List TermTree → Rules
-putting args = record {
-  index = λ depth i. picked depth args i;
-  relation = λ q ts. rel q ts;
-  function = λ depth f ts. app f ts;
-}
+putting args = of_indices (λ depth i. picked depth args i)
 
 -- the arguments stand in the place of the indices that are bound outside
 abbrev pub put_form : ℕ → List TermTree → FormTree → FormTree

@@ -10,6 +10,14 @@ pub record Rules : Type 0 where
   pub relation : ℕ → TermTrees → FormTree
   pub function : ℕ → ℕ → TermTrees → TermTree
 
+-- relations and functions stay, and only indices change
+abbrev pub of_indices : (ℕ → ℕ → TermTree) → Rules
+of_indices becomes = record {
+  index = becomes;
+  relation = λ q args. rel q args;
+  function = λ depth f args. app f args;
+}
+
 -- under `depth` binders
 abbrev mutual
   pub form_by : Rules → ℕ → FormTree → FormTree

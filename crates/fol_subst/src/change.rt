@@ -8,8 +8,8 @@ ghost use Rattle.fol_subst.specs.Changes.{change_of};
 ghost use Rattle.fol_subst.specs.Measured.{Measures};
 ghost use Rattle.fol_subst.specs.Kept.{kept, kept_one};
 
+use crate::indices::{Put, copy_formula, copy_term};
 use crate::measure::Measure;
-use crate::put::{put_formula, put_term};
 use crate::replacement::Replacement;
 use base::Mem;
 use fol_formula::{Formula, Term};
@@ -77,7 +77,7 @@ fn change_atom(
             if q.0 == r.0 {
                 let mut all = change_kept(alloc, args, c, m, depth)?;
                 all.reverse();
-                let f = put_formula(alloc, by, 0, &all)?;
+                let f = copy_formula(alloc, by, &Put { args: &all }, 0)?;
                 Ok(f)
             } else {
                 Ok(Formula::Rel(q, change_terms(alloc, args, c, m, depth)?))
@@ -109,7 +109,7 @@ fn change_application(
             if f.0 == g.0 {
                 let mut kept = change_kept(alloc, args, c, m, depth)?;
                 kept.reverse();
-                let t = put_term(alloc, by, 0, &kept)?;
+                let t = copy_term(alloc, by, &Put { args: &kept }, 0)?;
                 Ok(t)
             } else {
                 Ok(Term::App(f, change_terms(alloc, args, c, m, depth)?))

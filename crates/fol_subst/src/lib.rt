@@ -3,12 +3,12 @@
 #![tactic(auto)]
 
 mod change;
+mod counted;
 mod extent;
+mod indices;
 mod laws;
 mod measure;
 mod places;
-mod put;
-mod raise;
 mod replacement;
 
 ghost use Rattle.std.specs.Prelude.{IfOk, IfErr, IsTrue};
@@ -22,12 +22,13 @@ ghost use Rattle.fol_subst.specs.Changes.{change_of};
 
 use base::Refused;
 use change::change_formula;
+pub use counted::Counted;
 use extent::Extent;
 use fol_formula::{Formula, Term};
 use fol_sig::{FunId, RelId};
+use indices::{Shift, copy_formula};
 pub use laws::{conditions, exactness, same_size};
 use measure::Measure;
-use raise::shift_formula;
 use replacement::Replacement;
 use std::alloc::Global;
 
@@ -47,7 +48,23 @@ pub fn replace_rel(
     ensures replaced { IfOk result (λ f. IsReplacement (form within.now) (change_rel rel.0 (form by.now)) (form f)) }
     ensures limit { IfErr result (Because (λ _. IsTrue (is_too_large (changed_form (change_rel rel.0 (form by.now)) 0 (form within.now))))) }
 {
-    replace(alloc, within, &Replacement::Rel(rel, &*by))
+    let counted = replace(alloc, within, &Replacement::Rel(rel, &*by))?;
+    Ok(counted.formula)
+}
+
+/// As `replace_rel`, with the size of the result, which is not counted again.
+pub fn replace_rel_counted(
+    alloc: Global,
+    within: &Formula,
+    rel: RelId,
+    by: &Formula,
+) -> Result<Counted, Refused<FormulaLimit>>
+    requires { CanReplace (form within.now) (change_rel rel.0 (form by.now)) }
+    ensures replaced { IfOk result (λ c. IsReplacement (form within.now) (change_rel rel.0 (form by.now)) (form c.formula)) }
+    ensures limit { IfErr result (Because (λ _. IsTrue (is_too_large (changed_form (change_rel rel.0 (form by.now)) 0 (form within.now))))) }
+{
+    let counted = replace(alloc, within, &Replacement::Rel(rel, &*by))?;
+    Ok(counted)
 }
 
 /// The formula with `by` in the place of the function. The indices that `by` does not bind are the
@@ -62,7 +79,23 @@ pub fn replace_fun(
     ensures replaced { IfOk result (λ f. IsReplacement (form within.now) (change_fun fun.0 (term_view by.now)) (form f)) }
     ensures limit { IfErr result (Because (λ _. IsTrue (is_too_large (changed_form (change_fun fun.0 (term_view by.now)) 0 (form within.now))))) }
 {
-    replace(alloc, within, &Replacement::Fun(fun, &*by))
+    let counted = replace(alloc, within, &Replacement::Fun(fun, &*by))?;
+    Ok(counted.formula)
+}
+
+/// As `replace_fun`, with the size of the result, which is not counted again.
+pub fn replace_fun_counted(
+    alloc: Global,
+    within: &Formula,
+    fun: FunId,
+    by: &Term,
+) -> Result<Counted, Refused<FormulaLimit>>
+    requires { CanReplace (form within.now) (change_fun fun.0 (term_view by.now)) }
+    ensures replaced { IfOk result (λ c. IsReplacement (form within.now) (change_fun fun.0 (term_view by.now)) (form c.formula)) }
+    ensures limit { IfErr result (Because (λ _. IsTrue (is_too_large (changed_form (change_fun fun.0 (term_view by.now)) 0 (form within.now))))) }
+{
+    let counted = replace(alloc, within, &Replacement::Fun(fun, &*by))?;
+    Ok(counted)
 }
 
 /// The formula with the bound variable that has this index outside of it in the place of the program
@@ -77,7 +110,23 @@ pub fn replace_const(
     ensures replaced { IfOk result (λ f. IsReplacement (form within.now) (change_const fun.0 index) (form f)) }
     ensures limit { IfErr result (Because (λ _. IsTrue (is_too_large (changed_form (change_const fun.0 index) 0 (form within.now))))) }
 {
-    replace(alloc, within, &Replacement::Const(fun, index))
+    let counted = replace(alloc, within, &Replacement::Const(fun, index))?;
+    Ok(counted.formula)
+}
+
+/// As `replace_const`, with the size of the result, which is not counted again.
+pub fn replace_const_counted(
+    alloc: Global,
+    within: &Formula,
+    fun: FunId,
+    index: u32,
+) -> Result<Counted, Refused<FormulaLimit>>
+    requires { CanReplace (form within.now) (change_const fun.0 index) }
+    ensures replaced { IfOk result (λ c. IsReplacement (form within.now) (change_const fun.0 index) (form c.formula)) }
+    ensures limit { IfErr result (Because (λ _. IsTrue (is_too_large (changed_form (change_const fun.0 index) 0 (form within.now))))) }
+{
+    let counted = replace(alloc, within, &Replacement::Const(fun, index))?;
+    Ok(counted)
 }
 
 /// Raises by `by` each index that is bound outside the formula and is at least `from` there.
@@ -96,7 +145,7 @@ pub fn shift(
     if extent.is_over() {
         return Err(Refused::For(FormulaLimit));
     }
-    let shifted = shift_formula(alloc, within, from as u64, by as u64)?;
+    let shifted = copy_formula(alloc, within, &Shift { by: by as u64 }, from as u64)?;
     Ok(shifted)
 }
 
@@ -104,17 +153,22 @@ fn replace(
     alloc: Global,
     within: &Formula,
     change: &Replacement,
-) -> Result<Formula, Refused<FormulaLimit>>
+) -> Result<Counted, Refused<FormulaLimit>>
     requires { CanReplace (form within.now) (change_of change.now) }
-    ensures replaced { IfOk result (λ f. IsReplacement (form within.now) (change_of change.now) (form f)) }
+    ensures replaced { IfOk result (λ c. IsReplacement (form within.now) (change_of change.now) (form c.formula)) }
     ensures limit { IfErr result (Because (λ _. IsTrue (is_too_large (changed_form (change_of change.now) 0 (form within.now))))) }
 {
     exactness();
     fol_formula::indices();
     let measure = Measure::of(change);
-    if measure.formula(within, change).is_over() {
+    let extent = measure.formula(within, change);
+    if extent.is_over() {
         return Err(Refused::For(FormulaLimit));
     }
-    let changed = change_formula(alloc, within, change, &measure, 0)?;
-    Ok(changed)
+    let formula = change_formula(alloc, within, change, &measure, 0)?;
+    Ok(Counted {
+        formula,
+        nodes: extent.count,
+        depth: extent.depth,
+    })
 }

@@ -23,8 +23,8 @@ returns-then-is_over-clause-limit c =
     ∙ sym c.is_over.ensures
     ∙ c.if-is_over.true
 
-pub shift_formula-requires : goal.shift_formula-requires
-shift_formula-requires c =
+pub copy_formula-requires : goal.copy_formula-requires
+copy_formula-requires c =
     let within = form c.args.within.now in
     let new = shift_form c.args.from c.args.by within in
     let same : extent (form_nodes within) (form_depth within) ≡ extent (form_nodes new) (form_depth new) =
