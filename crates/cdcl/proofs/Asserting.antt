@@ -18,7 +18,7 @@ use Rattle.cdcl.specs.Learning.{HasTops, AreBeforeSecond, IsSecond}
 use Rattle.cdcl.specs.Watch.{IsPairOf, IsSafe, AreSafe}
 use Rattle.cdcl.specs.Added.{IsAdded}
 use Rattle.cdcl.specs.State.{held_in, pairs_of, IsState, IsSafeAt}
-use Rattle.cdcl.specs.Search.{IsSearch}
+use Rattle.cdcl.specs.Search.{IsSearchState}
 use Rattle.cdcl.proofs.Literals.{opposite-opposite}
 use Rattle.cdcl.proofs.Entries.{held_new}
 use Rattle.cdcl.proofs.Members.{member_all}
@@ -53,11 +53,11 @@ module _ (a b : State) (e : Entry) (p : Pair) (sc : b.clauses ≡ a.clauses ++ e
           at (inr q) = sm c q.1
 
   -- the search
-  pub search_added : (starts : List ℕ) (head : ℕ) → IsSearch a starts head → IsTrail (held_in b) b.trail.steps
+  pub search_added : (starts : List ℕ) (head : ℕ) → IsSearchState a starts head → IsTrail (held_in b) b.trail.steps
       → ((c : List ℕ) → e ≡ Clause c → All (λ l. (l < a.trail.size) × (opposite l < a.trail.size)) c) → length a.clauses + 1 < 2 ^ 31
       → ((i : ℕ) → i < length starts → (c : List ℕ) → e ≡ Clause c → IsSafe (was_set a.trail.steps (get_or starts i 0)) (was_set a.trail.steps (get_or starts i 0)) c p)
       → ((c : List ℕ) → e ≡ Clause c → IsSafe (was_set a.trail.steps head) (is_set b.trail.steps) c p)
-      → ((p.first ≡ p.second → ⊥) → (c : List ℕ) × (e ≡ Clause c) × IsPairOf c p) → IsSearch b starts head
+      → ((p.first ≡ p.second → ⊥) → (c : List ℕ) × (e ≡ Clause c) × IsPairOf c p) → IsSearchState b starts head
   search_added starts head s t sm room at_starts at_head pair = record {
     state = state_added s.state t sm room;
     decisions = starts_grow a.trail b.trail starts ex s.decisions;
@@ -106,7 +106,7 @@ pub unit_true : (a b : State) (l : ℕ) → b.trail.steps ≡ a.trail.steps ++ r
 unit_true a b l st = ap (λ (t : List Step). is_set t l) st ∙ (let e = all_set_push a.trail.steps (record { literal = l; reason = length a.clauses + 1 }) l in grind (arith, common_steps, e))
 
 -- a learnt clause, unit behind the way back, is watched by its first literal and the one just before second
-module _ (a b : State) (starts : List ℕ) (c : List ℕ) (second : ℕ) (p : Pair) (k : IsSearch a starts (length a.trail.steps)) (sc : b.clauses ≡ a.clauses ++ Clause c ∷ [])
+module _ (a b : State) (starts : List ℕ) (c : List ℕ) (second : ℕ) (p : Pair) (k : IsSearchState a starts (length a.trail.steps)) (sc : b.clauses ≡ a.clauses ++ Clause c ∷ [])
     (ad : IsAdded a.watches b.watches (length a.clauses) p) (sz : b.trail.size ≡ a.trail.size)
     (st : b.trail.steps ≡ a.trail.steps ++ record { literal = get_or c 0 0; reason = length a.clauses + 1 } ∷ [])
     (u : IsUnit (is_set a.trail.steps) c (get_or c 0 0)) (sm : All (λ l. (l < a.trail.size) × (opposite l < a.trail.size)) c) (room : length a.clauses + 1 < 2 ^ 31)
@@ -163,7 +163,7 @@ module _ (a b : State) (starts : List ℕ) (c : List ℕ) (second : ℕ) (p : Pa
       safe_open (was_set a.trail.steps (get_or starts i 0)) (was_set a.trail.steps (get_or starts i 0)) c p.first p.second (pair_when (omega arith))
       (open_first (get_or starts i 0) (omega arith)) (open_second (get_or starts i 0) x)
 
-  pub learnt_search : IsSearch b starts (length a.trail.steps)
+  pub learnt_search : IsSearchState b starts (length a.trail.steps)
   learnt_search = search_added a b (Clause c) p sc ad (unit_extends a b (get_or c 0 0) sz st u.not_true first_small) starts (length a.trail.steps) k
       (unit_trail a b c (get_or c 0 0) p sc ad k.state u st) (λ d q. subst (λ (x : List ℕ). All (λ l. (l < a.trail.size) × (opposite l < a.trail.size)) x) (clause_is c d q) sm) room
       (λ i h d q. subst (λ (x : List ℕ). IsSafe (was_set a.trail.steps (get_or starts i 0)) (was_set a.trail.steps (get_or starts i 0)) x p) (clause_is c d q) (at_start i h))

@@ -22,3 +22,4 @@ pub mod Logging
 pub mod Values
 pub mod Begins
 pub mod GrowthLaws
+pub mod Spending

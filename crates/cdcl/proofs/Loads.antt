@@ -17,7 +17,7 @@ use Rattle.cdcl.specs.Growth.{Extends}
 use Rattle.cdcl.specs.Watch.{list_at, IsPairOf}
 use Rattle.cdcl.specs.Added.{IsAdded}
 use Rattle.cdcl.specs.State.{held_in, IsState}
-use Rattle.cdcl.specs.Search.{AreStarts, IsSearch}
+use Rattle.cdcl.specs.Search.{AreStarts, IsSearchState}
 use Rattle.cdcl.specs.Loading.{AreUpTo}
 use Rattle.cdcl.proofs.Entries.{held_id}
 use Rattle.cdcl.proofs.Members.{member_all}
@@ -48,7 +48,7 @@ none_held es id e z h = let l = held_id es id e h in let n : length es ≡ 0 = a
 
 -- a search without clauses
 pub root_search : (s : State) (starts : List ℕ) (head : ℕ) → s.clauses ≡ [] → s.trail.steps ≡ [] → s.watches.pairs.items ≡ [] → length s.watches.lists.items ≡ s.trail.size → ((i : ℕ) → list_at s.watches.lists.items i ≡ [])
-    → starts ≡ [] → head ≡ 0 → IsSearch s starts head
+    → starts ≡ [] → head ≡ 0 → IsSearchState s starts head
 root_search s starts head ec et ep el ei es eh = record {
   state = record {
     trail = record {
@@ -91,14 +91,14 @@ pub same_trail : (t u : TrailValue) → u ≡ t → Extends t u
 same_trail t u e = subst (λ (x : TrailValue). Extends t x) (sym e) (extends_refl t)
 
 -- one more entry at level 0
-module _ (a b : State) (e : Entry) (p : Pair) (starts : List ℕ) (head : ℕ) (k : IsSearch a starts head) (z : starts ≡ []) (hz : head ≡ 0)
+module _ (a b : State) (e : Entry) (p : Pair) (starts : List ℕ) (head : ℕ) (k : IsSearchState a starts head) (z : starts ≡ []) (hz : head ≡ 0)
     (sc : b.clauses ≡ a.clauses ++ e ∷ []) (ad : IsAdded a.watches b.watches (length a.clauses) p) (room : length a.clauses + 1 < 2 ^ 31) where
   pub trail_same : b.trail ≡ a.trail → IsTrail (held_in b) b.trail.steps
   trail_same st = subst (λ (t : TrailValue). IsTrail (held_in b) t.steps) (sym st) (trail_added a b e p sc ad (same_trail a.trail b.trail st) k.state)
 
   -- watched by two literals, or by none where it is always true
   pub entry_added : b.trail ≡ a.trail → ((c : List ℕ) → e ≡ Clause c → All (λ l. (l < a.trail.size) × (opposite l < a.trail.size)) c)
-      → ((c : List ℕ) → e ≡ Clause c → IsPairOf c p) → ((p.first ≡ p.second → ⊥) → (c : List ℕ) × (e ≡ Clause c) × IsPairOf c p) → IsSearch b starts head
+      → ((c : List ℕ) → e ≡ Clause c → IsPairOf c p) → ((p.first ≡ p.second → ⊥) → (c : List ℕ) × (e ≡ Clause c) × IsPairOf c p) → IsSearchState b starts head
   entry_added st sm pr n = search_added a b e p sc ad (same_trail a.trail b.trail st) starts head k (trail_same st) sm room
       (λ i h c q. absurd (let m : length starts ≡ 0 = ap length z in omega arith))
       (λ c q. rw hz (safe_open (was_set a.trail.steps 0) (is_set b.trail.steps) c p.first p.second (pr c q) refl refl)) n
@@ -135,16 +135,16 @@ unit_stands : (c : List ℕ) (l : ℕ) → c ≡ l ∷ [] → member l c ≡ tru
 unit_stands c l z = ap (member l) z ∙ grind (arith, common_steps)
 
 -- a clause of one literal that is true, or is set
-module _ (a b : State) (c : List ℕ) (l : ℕ) (p : Pair) (starts : List ℕ) (head : ℕ) (k : IsSearch a starts head) (z : starts ≡ [])
+module _ (a b : State) (c : List ℕ) (l : ℕ) (p : Pair) (starts : List ℕ) (head : ℕ) (k : IsSearchState a starts head) (z : starts ≡ [])
     (sc : b.clauses ≡ a.clauses ++ Clause c ∷ []) (ad : IsAdded a.watches b.watches (length a.clauses) p) (room : length a.clauses + 1 < 2 ^ 31)
     (one : c ≡ l ∷ []) (sm : (l < a.trail.size) × (opposite l < a.trail.size)) (dp : p.first ≡ p.second) where
-  pub unit_search : (ex : Extends a.trail b.trail) → IsTrail (held_in b) b.trail.steps → is_set b.trail.steps l ≡ true → IsSearch b starts head
+  pub unit_search : (ex : Extends a.trail b.trail) → IsTrail (held_in b) b.trail.steps → is_set b.trail.steps l ≡ true → IsSearchState b starts head
   unit_search ex t s = search_added a b (Clause c) p sc ad ex starts head k t (unit_small c l a.trail.size one sm) room
       (λ i h d q. absurd (let m : length starts ≡ 0 = ap length z in omega arith))
       (λ d q. inr (l, ap (member l) (sym (clause_is c d q)) ∙ unit_stands c l one, s)) (λ n. absurd (n dp))
 
   pub unit_set_search : is_set a.trail.steps l ≡ false → is_set a.trail.steps (opposite l) ≡ false → b.trail.size ≡ a.trail.size
-      → b.trail.steps ≡ a.trail.steps ++ record { literal = l; reason = length a.clauses + 1 } ∷ [] → IsSearch b starts head
+      → b.trail.steps ≡ a.trail.steps ++ record { literal = l; reason = length a.clauses + 1 } ∷ [] → IsSearchState b starts head
   unit_set_search nt nf sz st = unit_search (unit_extends a b l sz st nt sm.0)
       (unit_trail a b c l p sc ad k.state (record { stands = unit_stands c l one; not_true = nt; not_false = nf; others_false = λ x m. inl (one_member x l (ap (member x) (sym one) ∙ m)) }) st)
       (unit_true a b l st)

@@ -17,7 +17,7 @@ use Rattle.cdcl.specs.Growth.{Extends}
 use Rattle.cdcl.specs.Watch.{Pairs, WereSafe, IsWatching}
 use Rattle.cdcl.specs.State.{held_in, pairs_of, lists_of, IsState, IsSafeAt, Grows, IsWatchingAt}
 use Rattle.cdcl.specs.Holding.{IsHolding}
-use Rattle.cdcl.specs.Search.{AreStarts, IsSearch}
+use Rattle.cdcl.specs.Search.{AreStarts, IsSearchState}
 use Rattle.cdcl.proofs.Trails.{was_set-push, all_set_push, trail_push, trail_cut, was_set-take, is_set-take}
 use Rattle.cdcl.specs.Assigned.{IsUnset}
 use Rattle.cdcl.proofs.Literals.{opposite-even, opposite-odd}
@@ -41,7 +41,7 @@ starts_grow a b starts e s = record {
     at i h z (inl k) = s.decided i k (ap (λ (x : Step). x.reason) (sym (e.same i k)) ∙ z)
     at i h z (inr k) = absurd (e.forced i k h z)
 
-pub search_grows : (a b : State) (starts : List ℕ) (head head' : ℕ) → IsSearch a starts head → Grows a b → IsState b → head' ≤ length b.trail.steps → IsWatchingAt b head' → IsSearch b starts head'
+pub search_grows : (a b : State) (starts : List ℕ) (head head' : ℕ) → IsSearchState a starts head → Grows a b → IsState b → head' ≤ length b.trail.steps → IsWatchingAt b head' → IsSearchState b starts head'
 search_grows a b starts head head' s g t h w = record {
   state = t;
   decisions = starts_grow a.trail b.trail starts g.extends s.decisions;
@@ -53,7 +53,7 @@ search_grows a b starts head head' s g t h w = record {
 }
 
 -- nothing is false or unit where a level begins
-pub level_quiet : (s : State) (starts : List ℕ) (head i : ℕ) → IsSearch s starts head → i < length starts → IsQuiet (held_in s) (was_set s.trail.steps (get_or starts i 0))
+pub level_quiet : (s : State) (starts : List ℕ) (head i : ℕ) → IsSearchState s starts head → i < length starts → IsQuiet (held_in s) (was_set s.trail.steps (get_or starts i 0))
 level_quiet s starts head i k h = all_quiet (held_in s) s.trail.steps (get_or starts i 0) (pairs_of s) k.state.trail refl (let x = k.decisions.inside i h in omega arith) (k.levels.safe i h)
 
 -- a trail with one more step, at places up to its old end
@@ -70,13 +70,13 @@ watching_pushed held t s head a h w = record {
 }
 
 -- a decision begins a level
-module _ (a b : State) (starts : List ℕ) (l : ℕ) (k : IsSearch a starts (length a.trail.steps)) (sc : b.clauses ≡ a.clauses) (sw : b.watches ≡ a.watches)
+module _ (a b : State) (starts : List ℕ) (l : ℕ) (k : IsSearchState a starts (length a.trail.steps)) (sc : b.clauses ≡ a.clauses) (sw : b.watches ≡ a.watches)
     (sz : b.trail.size ≡ a.trail.size) (st : b.trail.steps ≡ a.trail.steps ++ record { literal = l; reason = 0 } ∷ [])
     (nt : is_set a.trail.steps l ≡ false) (nf : is_set a.trail.steps (opposite l) ≡ false) where
   step : Step
   step = record { literal = l; reason = 0 }
 
-  pub decided_search : IsSearch b (starts ++ length a.trail.steps ∷ []) (length a.trail.steps)
+  pub decided_search : IsSearchState b (starts ++ length a.trail.steps ∷ []) (length a.trail.steps)
   decided_search = record {
     state = record {
       trail = rw (st, sc) (trail_push (held_in a) a.trail.steps (record { literal = l; reason = 0 }) k.state.trail (record { not_true = nt; not_false = nf; because = inl refl }));
@@ -112,9 +112,9 @@ module _ (a b : State) (starts : List ℕ) (l : ℕ) (k : IsSearch a starts (len
               rw (e, start_new, st, sc, sw) (safe_pushed (held_in a) a.trail.steps (record { literal = l; reason = 0 }) (pairs_of a) (length a.trail.steps) (omega arith) k.levels.watching.at_head)
 
 -- the trail is cut at the start of level k + 1, and so are the starts
-module _ (a b : State) (starts : List ℕ) (head k : ℕ) (s : IsSearch a starts head) (lt : k < length starts) (sc : b.clauses ≡ a.clauses) (sw : b.watches ≡ a.watches)
+module _ (a b : State) (starts : List ℕ) (head k : ℕ) (s : IsSearchState a starts head) (lt : k < length starts) (sc : b.clauses ≡ a.clauses) (sw : b.watches ≡ a.watches)
     (sz : b.trail.size ≡ a.trail.size) (st : b.trail.steps ≡ take (get_or starts k 0) a.trail.steps) where
-  pub cut_search : IsSearch b (take k starts) (get_or starts k 0)
+  pub cut_search : IsSearchState b (take k starts) (get_or starts k 0)
   cut_search = record {
     state = record {
       trail = rw (st, sc) (trail_cut (held_in a) a.trail.steps (get_or starts k 0) s.state.trail);
@@ -165,8 +165,8 @@ unset_literal t v l (inr e) u =
     let o : opposite l ≡ 2 * v = ap opposite e ∙ opposite-odd v in
     (rw e u.not_false, rw o u.not_true, (let s = u.small in omega arith))
 
-pub search_at : (s : State) (starts starts' : List ℕ) (head head' : ℕ) → starts ≡ starts' → head ≡ head' → IsSearch s starts head → IsSearch s starts' head'
-search_at s starts starts' head head' e f k = subst (λ (n : ℕ). IsSearch s starts' n) f (subst (λ (x : List ℕ). IsSearch s x head) e k)
+pub search_at : (s : State) (starts starts' : List ℕ) (head head' : ℕ) → starts ≡ starts' → head ≡ head' → IsSearchState s starts head → IsSearchState s starts' head'
+search_at s starts starts' head head' e f k = subst (λ (n : ℕ). IsSearchState s starts' n) f (subst (λ (x : List ℕ). IsSearchState s x head) e k)
 
 pub decided_free : (t u : TrailValue) (s : Step) → u.steps ≡ t.steps ++ s ∷ [] → is_set t.steps s.literal ≡ false → s.literal < t.size → free (is_set u.steps) t.size + 1 ≡ free (is_set t.steps) t.size
 decided_free t u s e n h = rw e (free_less (is_set t.steps) (is_set (t.steps ++ s ∷ [])) s.literal t.size (all_set_push t.steps s) n h)

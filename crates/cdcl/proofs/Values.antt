@@ -18,7 +18,7 @@ use Rattle.lrat_log.specs.Held.{held_by}
 use Rattle.cdcl.specs.Assigned.{AreAllSet, HasValue}
 use Rattle.cdcl.specs.State.{pairs_of}
 use Rattle.cdcl.specs.Holding.{IsHolding}
-use Rattle.cdcl.specs.Solver.{IsSolver}
+use Rattle.cdcl.specs.Solver.{IsSearch}
 use Rattle.cdcl.specs.Logged.{IsLogged}
 use Rattle.cdcl.proofs.Entries.{held_at}
 use Rattle.cdcl.proofs.Literals.{opposite-even, opposite-odd}
@@ -113,7 +113,7 @@ held_model f es t lines values v tr all g n a = (n, λ k e q. at k e (g.formula 
                 below (inr e) i b = omega arith
 
 -- the truth values of a search of which nothing is left to draw
-pub model : (f : Formula) (s : Search) (lines : List Line) (values : List Bool) → IsSolver s → s.head ≡ length s.state.trail.steps → AreAllSet s.state.trail → IsLogged f s.state.clauses lines
+pub model : (f : Formula) (s : Search) (lines : List Line) (values : List Bool) → IsSearch s → s.head ≡ length s.state.trail.steps → AreAllSet s.state.trail → IsLogged f s.state.clauses lines
     → length values ≡ f.variables → ((i : ℕ) → 0 < i → i ≤ f.variables → 2 * i < s.state.trail.size → value_of values i ≡ is_set s.state.trail.steps (2 * i)) → IsModel f values
 model f s lines values v h all g n a = held_model f s.state.clauses s.state.trail lines values (state_holds s.state v.search.state)
     (λ k c q o. safe_satisfied (is_set s.state.trail.steps) c (pairs_of s.state k) o (let safe = v.search.levels.watching.at_head k c q in rw h at safe)) all g n a

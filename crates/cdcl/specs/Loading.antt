@@ -9,7 +9,7 @@ use Rattle.lrat_log.specs.Learnt.{IsResolvent}
 use Rattle.cdcl.specs.declared.search.Search.{Search}
 use Rattle.cdcl.specs.declared.load.Loaded.{Loaded}
 use Rattle.cdcl.specs.declared.load.Loaded.TheVariants.{Ready, Refuted}
-use Rattle.cdcl.specs.Solver.{IsSolver}
+use Rattle.cdcl.specs.Solver.{IsSearch}
 
 -- the variables of each of the first i clauses are at most n
 abbrev pub AreUpTo : ℕ → List Entry → ℕ → Type 0
@@ -17,7 +17,7 @@ AreUpTo n es i = (k : ℕ) (c : List ℕ) → k < i → get_or es k True ≡ Cla
 
 -- a search at level 0, of which nothing is drawn
 pub record IsAtRoot (s : Search) : Type 0 where
-  pub solver : IsSolver s
+  pub solver : IsSearch s
   pub starts : s.starts.items ≡ []
   pub head : s.head ≡ 0
   pub some : 2 < s.state.trail.size

@@ -17,7 +17,7 @@ pub record IsWatchingLevels (s : State) (starts : List ℕ) (head : ℕ) : Type 
   pub drawn : head ≤ length s.trail.steps
   pub watching : IsWatchingAt s head
 
-pub record IsSearch (s : State) (starts : List ℕ) (head : ℕ) : Type 0 where
+pub record IsSearchState (s : State) (starts : List ℕ) (head : ℕ) : Type 0 where
   pub state : IsState s
   pub decisions : AreStarts s.trail.steps starts
   pub levels : IsWatchingLevels s starts head

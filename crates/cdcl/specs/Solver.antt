@@ -4,10 +4,10 @@ use Rattle.cdcl.specs.declared.search.Search.{Search}
 use Rattle.cdcl.specs.Trail.{reason_at, IsConflict}
 use Rattle.cdcl.specs.State.{held_in, IsState}
 use Rattle.cdcl.specs.Learning.{is_marked}
-use Rattle.cdcl.specs.Search.{IsSearch}
+use Rattle.cdcl.specs.Search.{IsSearchState}
 
-pub record IsSolver (s : Search) : Type 0 where
-  pub search : IsSearch s.state s.starts.items s.head
+pub record IsSearch (s : Search) : Type 0 where
+  pub search : IsSearchState s.state s.starts.items s.head
   pub marked : length s.marks.items ≡ s.state.trail.size
   pub clear : (l : ℕ) → is_marked s.marks.items l ≡ false
 

@@ -26,7 +26,7 @@ pub record IsState (s : State) : Type 0 where
   pub listed : length s.watches.lists.items ≡ s.trail.size
   pub few : length s.clauses < 2 ^ 31
 
--- place s of the trail was safe
+-- the first n literals of the trail left each clause safe
 abbrev pub IsSafeAt : State → ℕ → Type 0
 IsSafeAt s n = WereSafe (held_in s) s.trail.steps (pairs_of s) n
 

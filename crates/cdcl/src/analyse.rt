@@ -31,6 +31,25 @@ pub struct Levels {
     pub top: usize,
 }
 
+/// What an analysis starts from: the id of the clause that is false, the levels, and whether nothing but decisions is
+/// learnt from the top level.
+#[derive(Clone, Copy)]
+pub struct Analysis {
+    pub conflict: u32,
+    pub levels: Levels,
+    pub decisions_only: bool,
+}
+
+/// A marked literal on the way down the trail: its place, how many of the marked literals were set at the top level,
+/// how many learnt ones were, and whether its reason's other literals are marked already.
+#[derive(Clone, Copy)]
+pub struct Met {
+    pub place: usize,
+    pub open: usize,
+    pub tops: usize,
+    pub is_implied: bool,
+}
+
 fn is_left_out(except: &Option<Lit>, l: Lit) -> bool
     ensures { result ≡ is_except except.now l }
 {
@@ -44,7 +63,7 @@ fn newly_open(marks: &[bool], literal: Lit, trail: &Trail, top: usize) -> usize
     requires small { literal < length marks.now }
     requires size { length marks.now ≡ trail.now.size }
 {
-    if !marks[literal.code() as usize] && trail.is_from(literal, top) {
+    if !marks[literal.code() as usize] && trail.was_set_from(literal, top) {
         1
     } else {
         0
@@ -89,7 +108,7 @@ fn is_implied(marks: &[bool], clause: &[Lit], except: Lit, trail: &Trail, root: 
     for l in clause {
         if *l != except {
             let o = l.opposite();
-            if !marks[o.code() as usize] && trail.is_from(o, root) {
+            if !marks[o.code() as usize] && trail.was_set_from(o, root) {
                 return false;
             }
         }
@@ -123,25 +142,18 @@ fn is_reason_implied(
 }
 
 /// Whether a marked literal is learnt and not resolved: always where it was decided.
-fn is_kept(
-    step: &Step,
-    t: usize,
-    levels: Levels,
-    open: usize,
-    tops: usize,
-    decisions_only: bool,
-    is_implied: bool,
-) -> bool
+fn is_kept(step: &Step, met: Met, analysis: Analysis) -> bool
     ensures decision { step.now.reason ≡ 0 → result ≡ true }
-    ensures root { step.now.reason ≢ 0 → t < levels.top → t < levels.root → result ≡ false }
-    ensures only { step.now.reason ≢ 0 → levels.top ≤ t → decisions_only ≡ true → result ≡ false }
+    ensures root { step.now.reason ≢ 0 → met.place < analysis.levels.top → met.place < analysis.levels.root → result ≡ false }
+    ensures only { step.now.reason ≢ 0 → analysis.levels.top ≤ met.place → analysis.decisions_only ≡ true → result ≡ false }
 {
+    let levels = analysis.levels;
     if step.reason == 0 {
         true
-    } else if t >= levels.top {
-        !decisions_only && open == 1 && tops == 0
+    } else if met.place >= levels.top {
+        !analysis.decisions_only && met.open == 1 && met.tops == 0
     } else {
-        t >= levels.root && !is_implied
+        met.place >= levels.root && !met.is_implied
     }
 }
 
@@ -191,32 +203,31 @@ fn analyse(
     trail: &Trail,
     marks: &mut [bool],
     order: &mut Order,
-    levels: Levels,
-    conflict: u32,
-    decisions_only: bool,
+    analysis: Analysis,
 ) -> Mem<Learnt>
     requires tables { IsHolding clauses.now trail.now }
     requires size { length marks.old ≡ trail.now.size }
     requires clear { (l : ℕ) → is_marked marks.old l ≡ false }
-    requires conflict { IsConflict (held_by clauses.now) trail.now.steps conflict }
-    requires decisions { (i : ℕ) → levels.top < i → i < length trail.now.steps → reason_at trail.now.steps i ≢ 0 }
+    requires conflict { IsConflict (held_by clauses.now) trail.now.steps analysis.conflict }
+    requires decisions { (i : ℕ) → analysis.levels.top < i → i < length trail.now.steps → reason_at trail.now.steps i ≢ 0 }
     ensures resolvent { IfOk result (λ w. IsResolvent (held_by clauses.now) w.literals.items (reverse w.hints.items)) }
-    ensures tops { IfOk result (λ w. HasTops trail.now.steps levels.top w.literals.items w.tops) }
-    ensures some { IsQuiet (held_by clauses.now) (was_set trail.now.steps levels.top) → IfOk result (λ w. 0 < w.tops) }
-    ensures root { length trail.now.steps ≤ levels.root → length trail.now.steps ≤ levels.top → ((i : ℕ) → i < length trail.now.steps → reason_at trail.now.steps i ≢ 0) → IfOk result (λ w. w.literals.items ≡ []) }
-    ensures second { IfOk result (λ w. AreBeforeSecond trail.now.steps levels.top w.literals.items w.second) }
-    ensures second_at_most { IfOk result (λ w. w.second ≤ levels.top) }
+    ensures tops { IfOk result (λ w. HasTops trail.now.steps analysis.levels.top w.literals.items w.tops) }
+    ensures some { IsQuiet (held_by clauses.now) (was_set trail.now.steps analysis.levels.top) → IfOk result (λ w. 0 < w.tops) }
+    ensures root { length trail.now.steps ≤ analysis.levels.root → length trail.now.steps ≤ analysis.levels.top → ((i : ℕ) → i < length trail.now.steps → reason_at trail.now.steps i ≢ 0) → IfOk result (λ w. w.literals.items ≡ []) }
+    ensures second { IfOk result (λ w. AreBeforeSecond trail.now.steps analysis.levels.top w.literals.items w.second) }
+    ensures second_at_most { IfOk result (λ w. w.second ≤ analysis.levels.top) }
     ensures second_stands { IfOk result (λ w. IsSecond trail.now.steps w.literals.items w.second) }
     ensures below { IfOk result (λ w. (x : ℕ) → member x w.literals.items ≡ true → IsBelow trail.now.steps (length trail.now.steps) (opposite x)) }
-    ensures one { decisions_only ≡ true → IfOk result (λ w. w.tops ≤ 1) }
+    ensures one { analysis.decisions_only ≡ true → IfOk result (λ w. w.tops ≤ 1) }
     ensures clear { OnOk result ((l : ℕ) → is_marked marks.new l ≡ false) }
 {
+    let levels = analysis.levels;
     let mut found = Vec::new(alloc);
     let mut hints = Vec::new(alloc);
     let mut tops = 0;
     let mut second = 0;
-    hints.push(conflict as u64)?;
-    let clause = clauses.clause(conflict);
+    hints.push(analysis.conflict as u64)?;
+    let clause = clauses.clause(analysis.conflict);
     let mut open = mark_clause(marks, clause, None, trail, levels.top);
     let mut t = trail.len();
     while t > 0 {
@@ -225,8 +236,14 @@ fn analyse(
         if marks[step.literal.code() as usize] {
             unmark(marks, step.literal);
             meet(order, step.literal, t, levels.root);
-            let implied = is_reason_implied(clauses, trail, marks, levels, t, &step);
-            let kept = is_kept(&step, t, levels, open, tops, decisions_only, implied);
+            let is_implied = is_reason_implied(clauses, trail, marks, levels, t, &step);
+            let met = Met {
+                place: t,
+                open,
+                tops,
+                is_implied,
+            };
+            let kept = is_kept(&step, met, analysis);
             open = less_open(open, t, levels.top);
             if kept {
                 tops = count_tops(tops, t, levels.top);
@@ -273,11 +290,21 @@ pub fn learn(
     ensures second_stands { IfOk result (λ w. IsSecond trail.now.steps w.literals.items w.second) }
     ensures clear { OnOk result ((l : ℕ) → is_marked marks.new l ≡ false) }
 {
-    let first = analyse(alloc, clauses, trail, marks, order, levels, conflict, false)?;
+    let to_the_first = Analysis {
+        conflict,
+        levels,
+        decisions_only: false,
+    };
+    let first = analyse(alloc, clauses, trail, marks, order, to_the_first)?;
     if first.tops == 1 {
         return Ok(first);
     }
-    let second = analyse(alloc, clauses, trail, marks, order, levels, conflict, true)?;
+    let to_the_decision = Analysis {
+        conflict,
+        levels,
+        decisions_only: true,
+    };
+    let second = analyse(alloc, clauses, trail, marks, order, to_the_decision)?;
     Ok(second)
 }
 
@@ -297,13 +324,15 @@ pub fn refute(
     ensures { IfOk result (λ hints. IsResolvent (held_by clauses.now) [] (reverse hints.items)) }
 {
     let end = trail.len();
-    let levels = Levels {
-        root: end,
-        top: end,
+    let analysis = Analysis {
+        conflict,
+        levels: Levels {
+            root: end,
+            top: end,
+        },
+        decisions_only: true,
     };
     let mut order = Order::none(alloc);
-    let found = analyse(
-        alloc, clauses, trail, marks, &mut order, levels, conflict, true,
-    )?;
+    let found = analyse(alloc, clauses, trail, marks, &mut order, analysis)?;
     Ok(found.hints)
 }

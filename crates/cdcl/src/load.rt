@@ -6,7 +6,7 @@ ghost use Rattle.cnf_base.specs.Clauses.{IsClause};
 ghost use Rattle.cnf_base.specs.Formulas.{IsFormula};
 ghost use Rattle.lrat_log.specs.Held.{held_of};
 ghost use Rattle.lrat_log.specs.Learnt.{IsResolvent};
-ghost use Rattle.cdcl.specs.Solver.{IsSolver, IsRefuted};
+ghost use Rattle.cdcl.specs.Solver.{IsSearch, IsRefuted};
 ghost use Rattle.cdcl.specs.Loading.{AreUpTo, IsAtRoot, IsLoaded};
 ghost use Rattle.cdcl.specs.Watch.{IsPairOf};
 
@@ -144,10 +144,10 @@ impl Search {
             second: literal,
         };
         self.state.add(clause, pair)?;
-        if self.state.trail.is_true(literal.opposite()) {
+        if self.state.trail.is_set(literal.opposite()) {
             return Ok(Some(id));
         }
-        if self.state.trail.is_true(literal) {
+        if self.state.trail.is_set(literal) {
             return Ok(None);
         }
         self.state.trail.push(literal, id)?;

@@ -20,7 +20,7 @@ pub fn open_literal(trail: &Trail, clause: &[Lit], one: Lit, other: Lit) -> Opti
     ensures { MatchOption result (AreFalseBut (is_set trail.now.steps) clause.now one other) (IsOpen (is_set trail.now.steps) clause.now one other) }
 {
     for l in clause {
-        if *l != one && *l != other && !trail.is_true(l.opposite()) {
+        if *l != one && *l != other && !trail.is_set(l.opposite()) {
             return Some(*l);
         }
     }
@@ -54,7 +54,7 @@ impl State {
         ensures stopped { IfOk result (λ r. IfSome r (λ id. IsVisiting self.new head list.new (i + 1))) }
     {
         let watch = list.get(i);
-        if self.trail.is_true(watch.blocker) {
+        if self.trail.is_set(watch.blocker) {
             return Ok(None);
         }
         let false_one = self.trail.step(head).literal.opposite();
@@ -63,7 +63,7 @@ impl State {
             place: watch.place,
             blocker: other,
         };
-        if self.trail.is_true(other) {
+        if self.trail.is_set(other) {
             list.set(i, kept);
             return Ok(None);
         }
@@ -75,7 +75,7 @@ impl State {
                 Ok(None)
             }
             None => {
-                if self.trail.is_true(other.opposite()) {
+                if self.trail.is_set(other.opposite()) {
                     return Ok(Some(id));
                 }
                 self.trail.push(other, id)?;

@@ -9,7 +9,7 @@ ghost use Rattle.cdcl.specs.Learning.{is_marked, IsSecond};
 ghost use Rattle.cdcl.specs.State.{held_in, IsState};
 ghost use Rattle.cdcl.specs.Found.{IsFound};
 ghost use Rattle.cdcl.specs.Assigned.{IsUnset, AreAllSet};
-ghost use Rattle.cdcl.specs.Solver.{IsSolver, AreRising, WentBack, IsCut};
+ghost use Rattle.cdcl.specs.Solver.{IsSearch, AreRising, WentBack, IsCut};
 
 use crate::analyse::{Learnt, Levels, learn, refute};
 use crate::order::Order;
@@ -41,13 +41,13 @@ pub struct Solver {
 
 impl Model for Solver {
     ghost use Rattle.cdcl.specs.declared.search.Search.{Search};
-    ghost use Rattle.cdcl.specs.Solver.{IsSolver};
+    ghost use Rattle.cdcl.specs.Solver.{IsSearch};
 
     ghost Value = { Search };
 
     ghost view = { λ a. a.search };
 
-    ghost invariant = { λ a. IsSolver a.search };
+    ghost invariant = { λ a. IsSearch a.search };
 }
 
 /// Takes off the starts that are not before a place, at least one; the answer is the lowest of them.
@@ -73,10 +73,10 @@ fn pop_starts(starts: &mut Vec<usize>, second: usize) -> usize
 impl Search {
     /// Begins a level with a literal of an unset variable.
     fn decide(&mut self, variable: u32) -> Mem<()>
-        requires solver { IsSolver self.old }
+        requires solver { IsSearch self.old }
         requires drawn { self.old.head ≡ length self.old.state.trail.steps }
         requires unset { IsUnset self.old.state.trail variable }
-        ensures solver { OnOk result (IsSolver self.new) }
+        ensures solver { OnOk result (IsSearch self.new) }
         ensures clauses { OnOk result (self.new.state.clauses ≡ self.old.state.clauses) }
         ensures size { OnOk result (self.new.state.trail.size ≡ self.old.state.trail.size) }
         ensures fewer { OnOk result (free (is_set self.new.state.trail.steps) self.old.state.trail.size + 1 ≡ free (is_set self.old.state.trail.steps) self.old.state.trail.size) }
@@ -88,8 +88,8 @@ impl Search {
     }
 
     fn propagate(&mut self, alloc: Global) -> Mem<Option<u32>>
-        requires { IsSolver self.old }
-        ensures solver { OnOk result (IsSolver self.new) }
+        requires { IsSearch self.old }
+        ensures solver { OnOk result (IsSearch self.new) }
         ensures clauses { OnOk result (self.new.state.clauses ≡ self.old.state.clauses) }
         ensures size { OnOk result (self.new.state.trail.size ≡ self.old.state.trail.size) }
         ensures fewer { OnOk result (free (is_set self.new.state.trail.steps) self.old.state.trail.size ≤ free (is_set self.old.state.trail.steps) self.old.state.trail.size) }
@@ -102,8 +102,8 @@ impl Search {
 
     /// Decides, and draws the consequences, until a clause is false, whose id is the answer, or all variables are set.
     pub fn descend(&mut self, alloc: Global) -> Mem<Option<u32>>
-        requires { IsSolver self.old }
-        ensures solver { OnOk result (IsSolver self.new) }
+        requires { IsSearch self.old }
+        ensures solver { OnOk result (IsSearch self.new) }
         ensures clauses { OnOk result (self.new.state.clauses ≡ self.old.state.clauses) }
         ensures size { OnOk result (self.new.state.trail.size ≡ self.old.state.trail.size) }
         ensures conflict { IfOk result (λ r. IfSome r (λ id. IsConflict (held_in self.new.state) self.new.state.trail.steps id)) }
@@ -124,10 +124,10 @@ impl Search {
 
     /// Goes back to the lowest level that begins at a place or later.
     pub fn go_back(&mut self, second: usize) -> Mem<()>
-        requires solver { IsSolver self.old }
+        requires solver { IsSearch self.old }
         requires some { 0 < length self.old.starts.items }
         requires last { second ≤ get_or self.old.starts.items (length self.old.starts.items - 1) 0 }
-        ensures solver { OnOk result (IsSolver self.new) }
+        ensures solver { OnOk result (IsSearch self.new) }
         ensures back { OnOk result (WentBack self.old self.new second) }
     {
         let to = pop_starts(&mut self.starts, second);
@@ -152,7 +152,7 @@ impl Search {
     /// Holds a learnt clause, and sets its first literal, whose others are false. Another literal to watch was set just
     /// before `second`.
     fn add_learnt(&mut self, literals: &[Lit], second: usize) -> Mem<()>
-        requires solver { IsSolver self.old }
+        requires solver { IsSearch self.old }
         requires drawn { self.old.head ≡ length self.old.state.trail.steps }
         requires unit { IsUnit (is_set self.old.state.trail.steps) literals.now (get_or literals.now 0 0) }
         requires small { All (λ l. (l < self.old.state.trail.size) × (opposite l < self.old.state.trail.size)) literals.now }
@@ -160,7 +160,7 @@ impl Search {
         requires stands { IsSecond self.old.state.trail.steps literals.now second }
         requires before { (i : ℕ) → i < length self.old.starts.items → get_or self.old.starts.items i 0 < second }
         requires room { length self.old.state.clauses + 1 < 2 ^ 31 }
-        ensures solver { OnOk result (IsSolver self.new) }
+        ensures solver { OnOk result (IsSearch self.new) }
         ensures clauses { OnOk result (self.new.state.clauses ≡ self.old.state.clauses ++ Clause literals.now ∷ []) }
         ensures size { OnOk result (self.new.state.trail.size ≡ self.old.state.trail.size) }
     {
@@ -174,10 +174,10 @@ impl Search {
 
     /// Finds a clause that follows from a conflict.
     fn analyse(&mut self, alloc: Global, conflict: u32) -> Mem<Learnt>
-        requires solver { IsSolver self.old }
+        requires solver { IsSearch self.old }
         requires conflict { IsConflict (held_in self.old.state) self.old.state.trail.steps conflict }
         requires some { 0 < length self.old.starts.items }
-        ensures solver { OnOk result (IsSolver self.new) }
+        ensures solver { OnOk result (IsSearch self.new) }
         ensures same { OnOk result ((self.new.state ≡ self.old.state) × (self.new.starts ≡ self.old.starts)) }
         ensures found { IfOk result (λ w. IsFound self.new w) }
     {
@@ -199,11 +199,11 @@ impl Search {
 
     /// Learns from a conflict above level 0, and goes back to where the learnt clause is unit.
     pub fn learn(&mut self, alloc: Global, conflict: u32) -> Mem<Learnt>
-        requires solver { IsSolver self.old }
+        requires solver { IsSearch self.old }
         requires conflict { IsConflict (held_in self.old.state) self.old.state.trail.steps conflict }
         requires some { 0 < length self.old.starts.items }
         requires room { length self.old.state.clauses + 1 < 2 ^ 31 }
-        ensures solver { OnOk result (IsSolver self.new) }
+        ensures solver { OnOk result (IsSearch self.new) }
         ensures clauses { IfOk result (λ w. self.new.state.clauses ≡ self.old.state.clauses ++ Clause w.literals.items ∷ []) }
         ensures learnt { IfOk result (λ w. IsLearnt (held_in self.old.state) w.literals.items (reverse w.hints.items)) }
     {
@@ -216,8 +216,8 @@ impl Search {
 
     /// Goes back to level 0 now and then.
     pub fn restart(&mut self) -> Mem<()>
-        requires { IsSolver self.old }
-        ensures solver { OnOk result (IsSolver self.new) }
+        requires { IsSearch self.old }
+        ensures solver { OnOk result (IsSearch self.new) }
         ensures clauses { OnOk result (self.new.state.clauses ≡ self.old.state.clauses) }
     {
         if self.restarts.is_due() && !self.starts.is_empty() {

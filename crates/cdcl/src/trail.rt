@@ -67,7 +67,7 @@ impl Trail {
     }
 
     /// Whether a literal is set.
-    pub fn is_true(&self, literal: Lit) -> bool
+    pub fn is_set(&self, literal: Lit) -> bool
         requires { literal < self.now.size }
         ensures { result ≡ is_set self.now.steps literal }
     {
@@ -75,7 +75,7 @@ impl Trail {
     }
 
     /// Whether the variable of a literal was set at a place or later, the last time that it was set.
-    pub fn is_from(&self, literal: Lit, place: usize) -> bool
+    pub fn was_set_from(&self, literal: Lit, place: usize) -> bool
         requires { literal < self.now.size }
     {
         self.places[literal.variable() as usize] >= place

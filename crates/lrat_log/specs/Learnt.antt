@@ -29,7 +29,11 @@ abbrev pub IsQuiet : Held → (ℕ → Bool) → Type 0
 IsQuiet held set =
     (id : ℕ) (c : List ℕ) → held id ≡ Some (Clause c) → (IsFalse set c → ⊥) × ((l : ℕ) → IsUnit set c l → ⊥)
 
--- new to unit propagation: truth values of some variables make the clause unit, where no held clause is false or unit
+-- unit propagation does not refute what is held: truth values of some variables make no held clause false or unit
+abbrev pub IsPropagationConsistent : Held → Type 0
+IsPropagationConsistent held = (set : ℕ → Bool) × IsConsistent set × IsQuiet held set
+
+-- new to unit propagation, which the field calls 1-empowering: truth values of some variables make the clause unit, where no held clause is false or unit
 abbrev pub IsNew : Held → List ℕ → Type 0
 IsNew held ls = (set : ℕ → Bool) × IsConsistent set × ((l : ℕ) × IsUnit set ls l) × IsQuiet held set
 

@@ -14,14 +14,14 @@ pub loop-t-init : goal.loop-t-init
 loop-t-init c =
     let held = held_by c.args.clauses.now in
     let k = c.requires.conflict in
-    let same = some_clause (held c.args.conflict) k.clause c.clause-clause.result.now k.held_as c.clause-clause.ensures in
+    let same = some_clause (held c.args.analysis.conflict) k.clause c.clause-clause.result.now k.held_as c.clause-clause.ensures in
     let marks = begins_marked c.args.marks.now c.mark_clause-open.new.marks k.clause c.clause-clause.result.now c.mark_clause-open.ensures c.requires.clear same in
     record {
       within = omega arith;
       walk = rw (c.len-t.ensures.len, c.new-found.ensures.items, c.in_ok-push.ensures.items, c.new-hints.ensures.items)
-          (walk_begins held c.args.trail.now.steps (is_marked c.mark_clause-open.new.marks) c.args.conflict k.clause k.held_as k.all_false marks);
+          (walk_begins held c.args.trail.now.steps (is_marked c.mark_clause-open.new.marks) c.args.analysis.conflict k.clause k.held_as k.all_false marks);
       tops = rw c.new-found.ensures.items (λ x s. (let t = s in absurd (cc)));
-      left = λ y. open_begins held c.args.trail.now.steps c.args.levels.top c.args.conflict (is_marked c.mark_clause-open.new.marks) k.clause y k.held_as k.all_false marks;
+      left = λ y. open_begins held c.args.trail.now.steps c.args.analysis.levels.top c.args.analysis.conflict (is_marked c.mark_clause-open.new.marks) k.clause y k.held_as k.all_false marks;
       none = λ r t d. c.new-found.ensures.items;
       one = λ o. inl refl;
       before = rw c.new-found.ensures.items (λ x s. (let t = s in absurd (cc)));
@@ -42,7 +42,7 @@ loop-t-preserved-in-Continue-branch-2 c =
     let marked : is_marked c.loop-t.marks (literal_at trail q) ≡ true = rw (← lit, ← c.code.ensures.code) c.if-marks-code.true in
     let unmarked : (l : ℕ) → is_marked c.unmark.new.marks l ≡ (is_marked c.loop-t.marks l && not (eqb l (literal_at trail q))) = λ l. rw (← lit) (c.unmark.ensures l) in
     let from_q : (c.loop-t.second ≡ 0) ⊎ (q + 1 ≤ c.loop-t.second) = from_down_one c.loop-t.t q c.loop-t.second (omega arith) c.loop-t.invariant.from in
-    let next = second_from c.args.levels.top q c.loop-t.second c.second_place-second.result c.second_place-second.ensures.at_top c.second_place-second.ensures.first c.second_place-second.ensures.later from_q c.loop-t.invariant.most in
+    let next = second_from c.args.analysis.levels.top q c.loop-t.second c.second_place-second.result c.second_place-second.ensures.at_top c.second_place-second.ensures.first c.second_place-second.ensures.later from_q c.loop-t.invariant.most in
     let only = rw why at c.is_kept-kept.ensures.only in
     let root = rw why at c.is_kept-kept.ensures.root in
     record {
@@ -50,18 +50,18 @@ loop-t-preserved-in-Continue-branch-2 c =
       walk = rw (c.in_ok-push-2.ensures.items, c.opposite.ensures, lit)
           (walk_keeps held trail q (is_marked c.loop-t.marks) (is_marked c.unmark.new.marks) c.loop-t.found.items (reverse c.loop-t.hints.items) within marked unmarked w);
       tops = rw (c.in_ok-push-2.ensures.items, c.opposite.ensures, lit)
-          (tops_next trail c.args.levels.top q c.loop-t.tops c.count_tops-tops.result c.loop-t.found.items within c.count_tops-tops.ensures.at_top c.count_tops-tops.ensures.below
-          (λ h x m. from_not_below held trail c.args.levels.top q x c.requires.tables.trail h (w.learnt_from x m)) c.loop-t.invariant.tops);
-      left = λ y. open_keeps held trail c.args.levels.top q c.loop-t.tops c.count_tops-tops.result (is_marked c.loop-t.marks) (is_marked c.unmark.new.marks) c.loop-t.found.items (reverse c.loop-t.hints.items)
+          (tops_next trail c.args.analysis.levels.top q c.loop-t.tops c.count_tops-tops.result c.loop-t.found.items within c.count_tops-tops.ensures.at_top c.count_tops-tops.ensures.below
+          (λ h x m. from_not_below held trail c.args.analysis.levels.top q x c.requires.tables.trail h (w.learnt_from x m)) c.loop-t.invariant.tops);
+      left = λ y. open_keeps held trail c.args.analysis.levels.top q c.loop-t.tops c.count_tops-tops.result (is_marked c.loop-t.marks) (is_marked c.unmark.new.marks) c.loop-t.found.items (reverse c.loop-t.hints.items)
           c.requires.tables.trail within w c.count_tops-tops.ensures.at_top c.count_tops-tops.ensures.below (c.loop-t.invariant.left y);
       none = λ r t d. absurd (let f = root (d q within) (omega arith) (omega arith) in let g = c.if-kept.true in cc);
-      one = one_keeps trail c.args.levels.top q c.loop-t.tops c.count_tops-tops.result c.args.decisions_only c.is_kept-kept.result within c.requires.decisions only c.if-kept.true
-          c.count_tops-tops.ensures.at_top c.count_tops-tops.ensures.below (λ o. one_goes_down c.args.levels.top c.loop-t.t (q + 1) c.loop-t.tops (omega arith) (c.loop-t.invariant.one o));
+      one = one_keeps trail c.args.analysis.levels.top q c.loop-t.tops c.count_tops-tops.result c.args.analysis.decisions_only c.is_kept-kept.result within c.requires.decisions only c.if-kept.true
+          c.count_tops-tops.ensures.at_top c.count_tops-tops.ensures.below (λ o. one_goes_down c.args.analysis.levels.top c.loop-t.t (q + 1) c.loop-t.tops (omega arith) (c.loop-t.invariant.one o));
       before = rw (c.in_ok-push-2.ensures.items, c.opposite.ensures, lit)
-          (second_next trail c.args.levels.top q c.loop-t.second c.second_place-second.result c.loop-t.found.items within c.second_place-second.ensures.at_top c.second_place-second.ensures.first c.second_place-second.ensures.later
+          (second_next trail c.args.analysis.levels.top q c.loop-t.second c.second_place-second.result c.loop-t.found.items within c.second_place-second.ensures.at_top c.second_place-second.ensures.first c.second_place-second.ensures.later
           from_q c.loop-t.invariant.before);
       stands = rw (c.in_ok-push-2.ensures.items, c.opposite.ensures, lit)
-          (second_stands trail c.args.levels.top q c.loop-t.second c.second_place-second.result c.loop-t.found.items c.second_place-second.ensures.at_top c.second_place-second.ensures.first c.second_place-second.ensures.later c.loop-t.invariant.stands);
+          (second_stands trail c.args.analysis.levels.top q c.loop-t.second c.second_place-second.result c.loop-t.found.items c.second_place-second.ensures.at_top c.second_place-second.ensures.first c.second_place-second.ensures.later c.loop-t.invariant.stands);
       from = next.0;
       most = next.1;
     }
@@ -86,9 +86,9 @@ loop-t-preserved-else-kept c =
           (walk_resolves held trail q (is_marked c.loop-t.marks) (is_marked c.mark_clause-more.new.marks) c.loop-t.found.items (reverse c.loop-t.hints.items) reason c.requires.tables.trail within
           marked marks w);
       tops = c.loop-t.invariant.tops;
-      left = λ y. open_resolves held trail c.args.levels.top q c.loop-t.tops (is_marked c.loop-t.marks) (is_marked c.mark_clause-more.new.marks) reason c.requires.tables.trail y within marks (c.loop-t.invariant.left y);
+      left = λ y. open_resolves held trail c.args.analysis.levels.top q c.loop-t.tops (is_marked c.loop-t.marks) (is_marked c.mark_clause-more.new.marks) reason c.requires.tables.trail y within marks (c.loop-t.invariant.left y);
       none = c.loop-t.invariant.none;
-      one = λ o. one_goes_down c.args.levels.top c.loop-t.t q c.loop-t.tops (omega arith) (c.loop-t.invariant.one o);
+      one = λ o. one_goes_down c.args.analysis.levels.top c.loop-t.t q c.loop-t.tops (omega arith) (c.loop-t.invariant.one o);
       before = c.loop-t.invariant.before;
       stands = c.loop-t.invariant.stands;
       from = from_down_one c.loop-t.t q c.loop-t.second (omega arith) c.loop-t.invariant.from;
@@ -109,7 +109,7 @@ loop-t-preserved c =
       tops = c.loop-t.invariant.tops;
       left = c.loop-t.invariant.left;
       none = c.loop-t.invariant.none;
-      one = λ o. one_goes_down c.args.levels.top c.loop-t.t q c.loop-t.tops (omega arith) (c.loop-t.invariant.one o);
+      one = λ o. one_goes_down c.args.analysis.levels.top c.loop-t.t q c.loop-t.tops (omega arith) (c.loop-t.invariant.one o);
       before = c.loop-t.invariant.before;
       stands = c.loop-t.invariant.stands;
       from = from_down_one c.loop-t.t q c.loop-t.second (omega arith) c.loop-t.invariant.from;
@@ -128,8 +128,8 @@ returns-clause-below c =
     learnt_below (held_by c.args.clauses.now) c.args.trail.now.steps (is_marked c.loop-t.marks) c.loop-t.found.items (reverse c.loop-t.hints.items)
     (rw zero_is at c.loop-t.invariant.walk)
 
-pub is_reason_implied-implied-requires-clause-held : goal.is_reason_implied-implied-requires-clause-held
-is_reason_implied-implied-requires-clause-held c =
+pub is_reason_implied-is_implied-requires-clause-held : goal.is_reason_implied-is_implied-requires-clause-held
+is_reason_implied-is_implied-requires-clause-held c =
     let within : c.loop-t.t - 1 < length c.args.trail.now.steps = (let h = c.loop-t.invariant.within in let g = c.loop-t-test.true in omega arith) in
     let why : c.step-step.result.reason ≡ reason_at c.args.trail.now.steps (c.loop-t.t - 1) = ap (λ (x : Step). x.reason) c.step-step.ensures.step in
     rw why (reason_or_clause (held_by c.args.clauses.now) c.args.trail.now.steps (c.loop-t.t - 1) (c.requires.tables.trail.reasons (c.loop-t.t - 1) within))

@@ -10,14 +10,14 @@ abbrev pub invariant-loop-t : goal.invariant-loop-t
 invariant-loop-t l = record {
   within : l.t ≤ length l.trail.steps;
   walk : IsWalk (held_by l.clauses) l.trail.steps l.t (is_marked l.marks) l.found.items (reverse l.hints.items);
-  tops : HasTops l.trail.steps l.levels.top l.found.items l.tops;
-  left : IsQuiet (held_by l.clauses) (was_set l.trail.steps l.levels.top) → HasOpen l.trail.steps l.levels.top (is_marked l.marks) l.tops;
-  none : length l.trail.steps ≤ l.levels.root → length l.trail.steps ≤ l.levels.top → ((i : ℕ) → i < length l.trail.steps → reason_at l.trail.steps i ≡ 0 → ⊥) → l.found.items ≡ [];
-  one : l.decisions_only ≡ true → HasOneTop l.levels.top l.t l.tops;
-  before : AreBeforeSecond l.trail.steps l.levels.top l.found.items l.second;
+  tops : HasTops l.trail.steps l.fn.analysis.levels.top l.found.items l.tops;
+  left : IsQuiet (held_by l.clauses) (was_set l.trail.steps l.fn.analysis.levels.top) → HasOpen l.trail.steps l.fn.analysis.levels.top (is_marked l.marks) l.tops;
+  none : length l.trail.steps ≤ l.fn.analysis.levels.root → length l.trail.steps ≤ l.fn.analysis.levels.top → ((i : ℕ) → i < length l.trail.steps → reason_at l.trail.steps i ≡ 0 → ⊥) → l.found.items ≡ [];
+  one : l.fn.analysis.decisions_only ≡ true → HasOneTop l.fn.analysis.levels.top l.t l.tops;
+  before : AreBeforeSecond l.trail.steps l.fn.analysis.levels.top l.found.items l.second;
   stands : IsSecond l.trail.steps l.found.items l.second;
   from : (l.second ≡ 0) ⊎ (l.t ≤ l.second);
-  most : l.second ≤ l.levels.top;
+  most : l.second ≤ l.fn.analysis.levels.top;
 }
 
 abbrev pub decreases-loop-t : goal.decreases-loop-t
