@@ -7,9 +7,9 @@ use Rattle.std.proofs.lemmas.Bool.{cases_eq}
 use Rattle.cnf_base.specs.declared.cnf.Entry.{Entry}
 use Rattle.cnf_base.specs.declared.cnf.Entry.TheVariants.{Clause}
 use Rattle.cdcl.specs.declared.trail.Step.{Step}
-use Rattle.cdcl.specs.Trail.{held_by, reason_at, HasReason, IsTrail}
+use Rattle.cdcl.specs.Trail.{reason_at, HasReason, IsTrail}
 use Rattle.cdcl.proofs.Entries.{held_old, held_new, held_either, held_place}
-use Rattle.lrat_log.specs.Held.{Held}
+use Rattle.lrat_log.specs.Held.{Held, held_by}
 use Rattle.cdcl.specs.declared.watches.Pair.{Pair}
 use Rattle.cdcl.specs.declared.watches.Watch.{Watch}
 use Rattle.cdcl.specs.declared.watches.Watches.{Watches}

@@ -6,13 +6,13 @@ use Rattle.std.specs.List.{All}
 use Rattle.cnf_base.specs.declared.cnf.Entry.{Entry}
 use Rattle.cnf_base.specs.declared.cnf.Entry.TheVariants.{Clause}
 use Rattle.cnf_base.specs.Literals.{opposite, member}
-use Rattle.lrat_log.specs.Held.{Held}
+use Rattle.lrat_log.specs.Held.{Held, held_by}
 use Rattle.lrat_log.specs.Learnt.{IsUnit, IsResolvent}
 use Rattle.cdcl.specs.declared.trail.Step.{Step}
 use Rattle.cdcl.specs.declared.watches.Pair.{Pair}
 use Rattle.cdcl.specs.declared.state.State.{State}
 use Rattle.cdcl.specs.TrailValue.{TrailValue}
-use Rattle.cdcl.specs.Trail.{held_by, literal_at, IsBelow, IsFrom, IsTrail, was_set, is_set}
+use Rattle.cdcl.specs.Trail.{literal_at, IsBelow, IsFrom, IsTrail, was_set, is_set}
 use Rattle.cdcl.specs.Growth.{Extends}
 use Rattle.cdcl.specs.Learning.{HasTops, AreBeforeSecond, IsSecond}
 use Rattle.cdcl.specs.Watch.{IsPairOf, IsSafe, AreSafe}

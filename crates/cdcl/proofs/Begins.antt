@@ -1,5 +1,5 @@
 -- The clauses of a formula, held one after another.
-use Rattle.std.proofs.Common.{◌≡◌, ℕ, zero, suc, ◌+◌, ◌*◌, ◌<◌, ◌≤◌, Bool, List, [], ◌∷◌, ◌++◌, length, get_or, take, slice_get, arith, ap, sym, subst, ◌∙◌, Some}
+use Rattle.std.proofs.Common.{◌≡◌, ℕ, zero, suc, ◌+◌, ◌*◌, ◌<◌, Bool, List, [], ◌∷◌, ◌++◌, length, get_or, take, slice_get, arith, ap, sym, subst, ◌∙◌, Some}
 use Rattle.std.proofs.lemmas.List.{take_more}
 use Rattle.std.specs.List.{All}
 use Rattle.cnf_base.specs.declared.cnf.Entry.{Entry}
@@ -7,11 +7,8 @@ use Rattle.cnf_base.specs.declared.cnf.Entry.TheVariants.{Clause, True}
 use Rattle.cnf_base.specs.Literals.{opposite, AreLiterals}
 use Rattle.cnf_base.specs.Clauses.{IsClause}
 use Rattle.cnf_base.specs.Formulas.{Formula, AreEntries, IsFormula}
-use Rattle.lrat_log.specs.declared.line.Line.{Line}
-use Rattle.lrat_log.specs.Held.{Held}
+use Rattle.lrat_log.specs.Held.{Held, held_by}
 use Rattle.lrat_log.specs.Learnt.{StandsInHint, IsChain, IsResolvent}
-use Rattle.lrat_log.specs.Refutations.{IsRefutation}
-use Rattle.cdcl.specs.Trail.{held_by}
 use Rattle.cdcl.specs.Loading.{AreUpTo}
 use Rattle.cdcl.specs.Logged.{IsLogged}
 use Rattle.cdcl.proofs.Literals.{opposite-below}
@@ -96,14 +93,3 @@ logged_begins f held q a = record {
     over : (id : ℕ) (c : List ℕ) → held_by f.clauses id ≡ Some (Clause c) → AreLiterals f.variables c
     over zero c h = absurd (cc)
     over (suc k) c h = (entries_at f.variables f.clauses k c a (sym (held_at f.clauses k) ∙ ap (held_by f.clauses) (let s : k + 1 ≡ suc k = omega arith in s) ∙ h)).1
-
-pub within_budget : (f : Formula) (n budget : ℕ) (lines : List Line) → n ≤ budget → IsRefutation f n lines → IsRefutation f budget lines
-within_budget f n budget lines h r = record {
-  before = r.before;
-  id = r.id;
-  hints = r.hints;
-  ends = r.ends;
-  within = (let w = r.within in omega arith);
-  learnt = r.learnt;
-  accepted = r.accepted;
-}

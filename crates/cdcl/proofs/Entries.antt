@@ -3,7 +3,7 @@ use Rattle.std.proofs.Common.{◌≡◌, ℕ, zero, suc, ◌+◌, ◌-◌, ◌<�
 use Rattle.std.proofs.lemmas.Grind.{common_steps}
 use Rattle.std.proofs.lemmas.Option.{slice_get_within}
 use Rattle.cnf_base.specs.declared.cnf.Entry.{Entry}
-use Rattle.cdcl.specs.Trail.{held_by}
+use Rattle.lrat_log.specs.Held.{held_by}
 
 pub held_at : (es : List Entry) (k : ℕ) → held_by es (k + 1) ≡ slice_get es k
 held_at es k =

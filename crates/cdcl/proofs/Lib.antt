@@ -21,3 +21,4 @@ pub mod Loads
 pub mod Logging
 pub mod Values
 pub mod Begins
+pub mod GrowthLaws

@@ -11,7 +11,8 @@ use Rattle.cdcl.specs.declared.watches.Pair.{Pair}
 use Rattle.cdcl.specs.declared.watches.Watch.{Watch}
 use Rattle.cdcl.specs.declared.state.State.{State}
 use Rattle.cdcl.specs.TrailValue.{TrailValue}
-use Rattle.cdcl.specs.Trail.{held_by, reason_at, IsTrail, IsConflict, was_set, is_set}
+use Rattle.cdcl.specs.Trail.{reason_at, IsTrail, IsConflict, was_set, is_set}
+use Rattle.lrat_log.specs.Held.{held_by}
 use Rattle.cdcl.specs.Growth.{Extends}
 use Rattle.cdcl.specs.Watch.{list_at, IsPairOf}
 use Rattle.cdcl.specs.Added.{IsAdded}

@@ -10,13 +10,15 @@ use Rattle.cnf_base.specs.Literals.{member, IsLiteral, AreLiterals}
 use Rattle.cnf_base.specs.Clauses.{has_opposites}
 use Rattle.cnf_base.specs.Formulas.{Formula}
 use Rattle.lrat_log.specs.declared.line.Line.{Line}
-use Rattle.lrat_log.specs.declared.line.Line.TheVariants.{Add, Delete}
-use Rattle.lrat_log.specs.Held.{Held, held_of, added_entry, after_line, after_lines}
-use Rattle.lrat_log.specs.Accepted.{last_id, IsFit}
-use Rattle.lrat_log.specs.Learnt.{IsChain, IsResolvent, IsLearnt, AreLearntFrom}
-use Rattle.lrat_log.specs.Logs.{AreIds, IsLineOver, IsLogOver}
-use Rattle.cdcl.specs.Trail.{held_by}
+use Rattle.lrat_log.specs.declared.line.Line.TheVariants.{Add}
+use Rattle.lrat_log.specs.Held.{Held, held_of, added_entry, after_lines, held_by}
+use Rattle.lrat_log.specs.declared.outcome.Outcome.TheVariants.{Accepted}
+use Rattle.lrat_log.specs.Accepted.{last_id, outcome_of, IsAccepted}
+use Rattle.lrat_log.specs.Learnt.{IsChain, IsResolvent, IsLearnt}
+use Rattle.lrat_log.specs.Refutations.{IsRefutation}
+use Rattle.lrat_log.specs.Logs.{AreIds, IsLineOver}
 use Rattle.cdcl.specs.Logged.{IsLogged}
+use Rattle.cdcl.proofs.GrowthLaws.{AreGrowthLaws}
 use Rattle.cdcl.proofs.Entries.{held_id, held_at, held_old, held_new, held_either, get_old}
 
 -- each hint of a chain is the id of a held clause
@@ -41,38 +43,9 @@ literals_all : (n : ℕ) (ls : List ℕ) → ((x : ℕ) → member x ls ≡ true
 literals_all n [] f = tt
 literals_all n (l ∷ ls) f = (f l (grind (arith, common_steps)), literals_all n ls (λ x m. f x (grind (arith, common_steps, m))))
 
-literals_wider : (n m : ℕ) (ls : List ℕ) → n ≤ m → AreLiterals n ls → AreLiterals m ls
-literals_wider n m [] h a = tt
-literals_wider n m (l ∷ ls) h a = let x = a.0.1 in ((a.0.0, omega arith), literals_wider n m ls h a.1)
-
 -- the literals of a resolvent are those of the held clauses
 pub resolvent_over : (n : ℕ) (held : Held) (ls hints : List ℕ) → ((id : ℕ) (c : List ℕ) → held id ≡ Some (Clause c) → AreLiterals n c) → IsResolvent held ls hints → AreLiterals n ls
 resolvent_over n held ls hints o r = literals_all n ls (λ x m. (let d = r.drawn x m in literal_in n d.1 x (o d.0 d.1 d.3) d.4))
-
-learnt_push : (n : ℕ) (held : Held) (last : ℕ) (lines : List Line) (id : ℕ) (ls hints : List ℕ) → AreLearntFrom n held last lines
-    → IsFit n (last_id last lines) (Add id ls hints) → IsLearnt (after_lines held lines) ls hints → AreLearntFrom n held last (lines ++ Add id ls hints ∷ [])
-learnt_push n held last [] id ls hints a f l = (f, l, tt)
-learnt_push n held last (Add k ms gs ∷ lines) id ls hints a f l = (a.0, a.1, learnt_push n (after_line held (Add k ms gs)) k lines id ls hints a.2 f l)
-learnt_push n held last (Delete k ids ∷ lines) id ls hints a f l = absurd a
-
-after_push : (held : Held) (lines : List Line) (line : Line) → after_lines held (lines ++ line ∷ []) ≡ after_line (after_lines held lines) line
-after_push held [] line = refl
-after_push held (k ∷ lines) line = after_push (after_line held k) lines line
-
-last_push : (last : ℕ) (lines : List Line) (id : ℕ) (ls hints : List ℕ) → last_id last (lines ++ Add id ls hints ∷ []) ≡ id
-last_push last [] id ls hints = refl
-last_push last (Add k ms gs ∷ lines) id ls hints = last_push k lines id ls hints
-last_push last (Delete k ids ∷ lines) id ls hints = last_push last lines id ls hints
-
-last_more : (a b : ℕ) (lines : List Line) → a ≤ b → last_id a lines ≤ last_id b lines
-last_more a b [] h = h
-last_more a b (Add k ms gs ∷ lines) h = last_more k k lines (omega arith)
-last_more a b (Delete k ids ∷ lines) h = last_more a b lines h
-
-log_push : (n last : ℕ) (lines : List Line) (id : ℕ) (ls hints : List ℕ) → IsLogOver n last lines → IsLineOver n (last_id last lines) (Add id ls hints) → IsLogOver n last (lines ++ Add id ls hints ∷ [])
-log_push n last [] id ls hints a f = (f, tt)
-log_push n last (Add k ms gs ∷ lines) id ls hints a f = (a.0, log_push n k lines id ls hints a.1 f)
-log_push n last (Delete k ids ∷ lines) id ls hints a f = (a.0, log_push n last lines id ls hints a.1 f)
 
 held_push : (es : List Entry) (e : Entry) (k : ℕ) → held_by (es ++ e ∷ []) k ≡ cond (eqb k (length es + 1)) (Some e) (held_by es k)
 held_push es e k = at (eqb k (length es + 1)) refl
@@ -97,60 +70,64 @@ held_push es e k = at (eqb k (length es + 1)) refl
 added_is : (ls : List ℕ) → has_opposites ls ≡ false → added_entry ls ≡ Clause ls
 added_is ls n = ap (λ (b : Bool). if b then True else Clause ls) n
 
--- a learnt clause is held and logged
-pub logged_push : (f : Formula) (es fs : List Entry) (lines : List Line) (id : ℕ) (ls hints : List ℕ) → IsLogged f es lines → fs ≡ es ++ Clause ls ∷ [] → id ≡ length es + 1 → length es < 2147483647 → f.variables ≤ 2147483647
-    → IsLearnt (held_by es) ls hints → IsLogged f fs (lines ++ Add id ls hints ∷ [])
-logged_push f es fs lines id ls hints g more n few vars l = record {
-  learnt = learnt_push f.variables (held_of f) (length f.clauses) lines id ls hints g.learnt fit (subst (λ (h : Held). IsLearnt h ls hints) (sym (fun_ext g.after)) l);
-  after = λ k. ap (λ (h : Held). h k) (after_push (held_of f) lines (Add id ls hints)) ∙ same k;
-  last = last_push (length f.clauses) lines id ls hints ∙ n ∙ sym len;
-  count = (let a = len in let b = g.count in let d = length-append lines (Add id ls hints ∷ []) in omega arith);
-  log = log_push 2147483647 0 lines id ls hints g.log line;
-  over = λ k c h. at k c (held_either es (Clause ls) (Clause c) k (ap (λ (x : List Entry). held_by x k) (sym more) ∙ h));
-  formula = λ k e h. ap (λ (x : List Entry). held_by x k) more ∙ held_old es (Clause ls) e k (g.formula k e h);
-}
-  where
-    len : length fs ≡ length es + 1
-    len = ap length more ∙ length-append es (Clause ls ∷ [])
-
-    literals : AreLiterals f.variables ls
-    literals = resolvent_over f.variables (held_by es) ls hints g.over l.resolvent
-
-    fit : IsFit f.variables (last_id (length f.clauses) lines) (Add id ls hints)
-    fit = ((let a = g.last in omega arith), literals)
-
-    line : IsLineOver 2147483647 (last_id 0 lines) (Add id ls hints)
-    line = (
-      (let a = g.last in let b = last_more 0 (length f.clauses) lines (omega arith) in omega arith),
+-- one more line, by the laws of logs
+module _ (laws : AreGrowthLaws) where
+  module _ (f : Formula) (es : List Entry) (lines : List Line) (id : ℕ) (g : IsLogged f es lines) (n : id ≡ length es + 1) (few : length es < 2147483647) where
+    -- the line of a resolvent is in range
+    pub resolvent_line : (ls hints : List ℕ) → IsResolvent (held_by es) ls hints → IsLineOver f.variables (last_id (length f.clauses) lines) (Add id ls hints)
+    resolvent_line ls hints r = (
+      (let a = g.last in omega arith),
       (omega arith, omega arith),
-      literals_wider f.variables 2147483647 ls vars literals,
-      chain_ids es hints (Rattle.lrat_log.specs.Accepted.all_false ls) (omega arith) l.resolvent.chain,
+      resolvent_over f.variables (held_by es) ls hints g.over r,
+      chain_ids es hints (Rattle.lrat_log.specs.Accepted.all_false ls) (omega arith) r.chain,
     )
 
-    same : (k : ℕ) → cond (eqb k id) (Some (added_entry ls)) (after_lines (held_of f) lines k) ≡ held_by fs k
-    same k =
-        ap (λ (e : Entry). cond (eqb k id) (Some e) (after_lines (held_of f) lines k)) (added_is ls l.no_opposites)
-        ∙ ap (λ (o : Option Entry). cond (eqb k id) (Some (Clause ls)) o) (g.after k)
-        ∙ ap (λ (m : ℕ). cond (eqb k m) (Some (Clause ls)) (held_by es k)) n
-        ∙ sym (held_push es (Clause ls) k) ∙ ap (λ (x : List Entry). held_by x k) (sym more)
+    pub resolvent_after : (ls hints : List ℕ) → IsResolvent (held_by es) ls hints → IsResolvent (after_lines (held_of f) lines) ls hints
+    resolvent_after ls hints = subst (λ (h : Held). IsResolvent h ls hints) (sym (fun_ext g.after))
 
-    at : (k : ℕ) (c : List ℕ) → (held_by es k ≡ Some (Clause c)) ⊎ ((k ≡ length es + 1) × (Clause ls ≡ Clause c)) → AreLiterals f.variables c
-    at k c (inl q) = g.over k c q
-    at k c (inr q) = let e : ls ≡ c = clause_is ls c q.1 in subst (AreLiterals f.variables) e literals
+    -- a learnt clause is held and logged
+    pub logged_push : (fs : List Entry) (ls hints : List ℕ) → fs ≡ es ++ Clause ls ∷ [] → IsLearnt (held_by es) ls hints → IsLogged f fs (lines ++ Add id ls hints ∷ [])
+    logged_push fs ls hints more l = record {
+      learnt = laws.learnt f.variables (held_of f) (length f.clauses) lines id ls hints g.learnt (line.0, line.2) (subst (λ (h : Held). IsLearnt h ls hints) (sym (fun_ext g.after)) l);
+      after = λ k. ap (λ (h : Held). h k) (laws.held (held_of f) lines (Add id ls hints)) ∙ same k;
+      last = laws.last (length f.clauses) lines (Add id ls hints) ∙ n ∙ sym len;
+      count = (let a = len in let b = g.count in let d = length-append lines (Add id ls hints ∷ []) in omega arith);
+      log = laws.log f.variables (length f.clauses) lines (Add id ls hints) g.log line;
+      over = λ k c h. at k c (held_either es (Clause ls) (Clause c) k (ap (λ (x : List Entry). held_by x k) (sym more) ∙ h));
+      formula = λ k e h. ap (λ (x : List Entry). held_by x k) more ∙ held_old es (Clause ls) e k (g.formula k e h);
+    }
       where
-        clause_is : (c d : List ℕ) → Clause c ≡ Clause d → c ≡ d
-        clause_is c d e = cc
+        len : length fs ≡ length es + 1
+        len = ap length more ∙ length-append es (Clause ls ∷ [])
 
--- the line of the empty clause
-pub empty_line : (f : Formula) (es : List Entry) (lines : List Line) (id : ℕ) (hints : List ℕ) → IsLogged f es lines → id ≡ length es + 1 → length es < 2147483647 → IsResolvent (held_by es) [] hints
-    → IsLogOver 2147483647 0 (lines ++ Add id [] hints ∷ []) × IsFit f.variables (last_id (length f.clauses) lines) (Add id [] hints) × IsResolvent (after_lines (held_of f) lines) [] hints
-empty_line f es lines id hints g n few r = (
-  log_push 2147483647 0 lines id [] hints g.log (
-    (let a = g.last in let b = last_more 0 (length f.clauses) lines (omega arith) in omega arith),
-    (omega arith, omega arith),
-    tt,
-    chain_ids es hints (Rattle.lrat_log.specs.Accepted.all_false []) (omega arith) r.chain,
-  ),
-  ((let a = g.last in omega arith), tt),
-  subst (λ (h : Held). IsResolvent h [] hints) (sym (fun_ext g.after)) r,
-)
+        line : IsLineOver f.variables (last_id (length f.clauses) lines) (Add id ls hints)
+        line = resolvent_line ls hints l.resolvent
+
+        same : (k : ℕ) → cond (eqb k id) (Some (added_entry ls)) (after_lines (held_of f) lines k) ≡ held_by fs k
+        same k =
+            ap (λ (e : Entry). cond (eqb k id) (Some e) (after_lines (held_of f) lines k)) (added_is ls l.no_opposites)
+            ∙ ap (λ (o : Option Entry). cond (eqb k id) (Some (Clause ls)) o) (g.after k)
+            ∙ ap (λ (m : ℕ). cond (eqb k m) (Some (Clause ls)) (held_by es k)) n
+            ∙ sym (held_push es (Clause ls) k) ∙ ap (λ (x : List Entry). held_by x k) (sym more)
+
+        at : (k : ℕ) (c : List ℕ) → (held_by es k ≡ Some (Clause c)) ⊎ ((k ≡ length es + 1) × (Clause ls ≡ Clause c)) → AreLiterals f.variables c
+        at k c (inl q) = g.over k c q
+        at k c (inr q) = let e : ls ≡ c = clause_is ls c q.1 in subst (AreLiterals f.variables) e line.2
+          where
+            clause_is : (c d : List ℕ) → Clause c ≡ Clause d → c ≡ d
+            clause_is c d e = cc
+
+    -- the empty clause behind learnt clauses refutes the formula
+    pub refutation : (hints : List ℕ) → IsResolvent (held_by es) [] hints → IsAccepted f lines → outcome_of (after_lines (held_of f) lines) (Add id [] hints) ≡ Accepted
+        → IsRefutation f (length lines) (lines ++ Add id [] hints ∷ [])
+    refutation hints r a o =
+        let line = resolvent_line [] hints r in
+        record {
+          before = lines;
+          id = id;
+          hints = hints;
+          ends = refl;
+          within = omega arith;
+          learnt = g.learnt;
+          accepted = laws.accepted f.variables (held_of f) (length f.clauses) lines (Add id [] hints) a (line.0, line.2) o;
+        }

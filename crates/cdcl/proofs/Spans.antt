@@ -6,7 +6,7 @@ use Rattle.cnf_base.specs.declared.cnf.Entry.TheVariants.{Clause, True}
 use Rattle.cdcl.specs.declared.clauses.Span.{Span}
 use Rattle.std.specs.Bool.{OnTrue, OnFalse}
 use Rattle.base.proofs.Lists.{slice_range-append, slice_range-seam}
-use Rattle.cdcl.specs.Trail.{held_by}
+use Rattle.lrat_log.specs.Held.{held_by}
 use Rattle.cdcl.proofs.Entries.{held_at}
 use Rattle.cdcl.specs.ClausesView.{entry_of_span, IsWithin}
 

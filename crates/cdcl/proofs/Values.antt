@@ -1,5 +1,5 @@
 -- Truth values that satisfy a formula.
-use Rattle.std.proofs.Common.{◌≡◌, ℕ, ◌+◌, ◌-◌, ◌*◌, ◌/◌, ◌%◌, ◌<◌, ◌≤◌, ◌⊎◌, not, Bool, true, false, List, [], ◌∷◌, ◌++◌, length, get_or, eqb, refl, arith, ap, sym, ◌∙◌, inl, inr, Some}
+use Rattle.std.proofs.Common.{◌≡◌, ℕ, ◌+◌, ◌-◌, ◌*◌, ◌/◌, ◌%◌, ◌<◌, ◌≤◌, ◌⊎◌, not, Bool, true, false, List, [], ◌∷◌, ◌++◌, length, get_or, arith, ap, sym, ◌∙◌, inl, inr, Some}
 use Rattle.std.proofs.lemmas.Grind.{common_steps}
 use Rattle.std.proofs.lemmas.Bool.{cases_lt}
 use Rattle.std.proofs.Math.ListN.{get_or-append}
@@ -10,10 +10,11 @@ use Rattle.cnf_base.specs.Literals.{variable_of, opposite, member, is_true, IsLi
 use Rattle.cnf_base.specs.Clauses.{SatisfiesEntry}
 use Rattle.cnf_base.specs.Formulas.{Formula, IsModel, value_of}
 use Rattle.lrat_log.specs.declared.line.Line.{Line}
-use Rattle.lrat_log.specs.Learnt.{IsConsistent, IsFalse}
+use Rattle.lrat_log.specs.Learnt.{IsConsistent}
 use Rattle.cdcl.specs.declared.search.Search.{Search}
 use Rattle.cdcl.specs.TrailValue.{TrailValue}
-use Rattle.cdcl.specs.Trail.{held_by, is_set, HasTrue}
+use Rattle.cdcl.specs.Trail.{is_set, HasTrue}
+use Rattle.lrat_log.specs.Held.{held_by}
 use Rattle.cdcl.specs.Assigned.{AreAllSet, HasValue}
 use Rattle.cdcl.specs.State.{pairs_of}
 use Rattle.cdcl.specs.Holding.{IsHolding}

@@ -3,7 +3,8 @@ use Rattle.std.specs.Prelude.{ℕ, ◌^◌, ◌<◌, ◌≡◌, List, length, So
 use Rattle.cnf_base.specs.declared.cnf.Entry.{Entry}
 use Rattle.cnf_base.specs.declared.cnf.Entry.TheVariants.{Clause}
 use Rattle.cnf_base.specs.Literals.{opposite}
-use Rattle.cdcl.specs.Trail.{held_by, IsTrail}
+use Rattle.cdcl.specs.Trail.{IsTrail}
+use Rattle.lrat_log.specs.Held.{held_by}
 use Rattle.cdcl.specs.TrailValue.{TrailValue}
 
 -- The literals of each clause have values, and each literal of the trail is a decision or has its reason.

@@ -2,10 +2,10 @@
 use Rattle.std.specs.Prelude.{ℕ, ◌^◌, ◌<◌, ◌≤◌, ◌≡◌, List, length, Some, All}
 use Rattle.cnf_base.specs.declared.cnf.Entry.TheVariants.{Clause}
 use Rattle.cnf_base.specs.Literals.{opposite}
-use Rattle.lrat_log.specs.Held.{Held}
+use Rattle.lrat_log.specs.Held.{Held, held_by}
 use Rattle.cdcl.specs.declared.state.State.{State}
 use Rattle.cdcl.specs.declared.watches.Watch.{Watch}
-use Rattle.cdcl.specs.Trail.{held_by, literal_at, IsTrail}
+use Rattle.cdcl.specs.Trail.{literal_at, IsTrail}
 use Rattle.cdcl.specs.Growth.{Extends}
 use Rattle.cdcl.specs.Watch.{Pairs, Lists, pair_at, list_at, WereSafe, IsWatching, AreVisited}
 

@@ -1,14 +1,9 @@
--- The clauses that are held, and the literals that are set, in the order in which they were set.
-use Rattle.std.specs.Prelude.{ℕ, zero, suc, ◌+◌, ◌-◌, ◌<◌, ◌≤◌, ◌≡◌, ◌==◌, ◌⊎◌, ◌||◌, eqb, Bool, true, false, if◌then◌else◌, List, length, get_or, Some, None, slice_get}
-use Rattle.cnf_base.specs.declared.cnf.Entry.{Entry}
+-- The literals that are set, in the order in which they were set.
+use Rattle.std.specs.Prelude.{ℕ, zero, suc, ◌+◌, ◌<◌, ◌≤◌, ◌≡◌, ◌⊎◌, ◌||◌, eqb, Bool, true, false, if◌then◌else◌, List, length, get_or, Some}
 use Rattle.cnf_base.specs.declared.cnf.Entry.TheVariants.{Clause}
 use Rattle.cnf_base.specs.Literals.{opposite, member}
 use Rattle.lrat_log.specs.Held.{Held}
 use Rattle.cdcl.specs.declared.trail.Step.{Step}
-
--- the clause at place k has the id k + 1
-abbrev pub held_by : List Entry → Held
-held_by entries id = if id == 0 then None else slice_get entries (id - 1)
 
 abbrev pub no_step : Step
 no_step = record { literal = 0; reason = 0 }

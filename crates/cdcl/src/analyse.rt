@@ -3,7 +3,8 @@ ghost use Rattle.std.specs.Prelude.{List, ◌≡◌, ◌≢◌, ◌⊎◌, ℕ, 
 ghost use Rattle.cnf_base.specs.declared.cnf.Entry.TheVariants.{Clause};
 ghost use Rattle.cnf_base.specs.Literals.{opposite, member};
 ghost use Rattle.lrat_log.specs.Learnt.{IsResolvent, IsQuiet, IsLearnt};
-ghost use Rattle.cdcl.specs.Trail.{held_by, reason_at, was_set, IsBelow, IsConflict};
+ghost use Rattle.cdcl.specs.Trail.{reason_at, was_set, IsBelow, IsConflict};
+ghost use Rattle.lrat_log.specs.Held.{held_by};
 ghost use Rattle.cdcl.specs.Learning.{is_marked, is_except, HasTops, AreBeforeSecond, IsSecond};
 ghost use Rattle.cdcl.specs.Holding.{IsHolding};
 

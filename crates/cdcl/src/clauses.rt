@@ -2,7 +2,7 @@
 ghost use Rattle.std.specs.Prelude.{List, ◌≡◌, ℕ, ◌+◌, ◌<◌, ◌≤◌, [], ◌∷◌, ◌++◌, length, OnOk, Some};
 ghost use Rattle.cnf_base.specs.declared.cnf.Entry.TheVariants.{Clause, True};
 ghost use Rattle.std.specs.Bool.{OnTrue, OnFalse};
-ghost use Rattle.cdcl.specs.Trail.{held_by};
+ghost use Rattle.lrat_log.specs.Held.{held_by};
 
 use base::Mem;
 use cnf_base::{Entry, Lit};

@@ -1,9 +1,11 @@
 //! A solver for clauses with two watched literals and first-UIP learning. Each answer carries its evidence: a model of
-//! the formula, a refutation as a log, or a log of as many learnt clauses as the budget has.
+//! the formula, a refutation as a log, or a log of as many learnt clauses as the budget has. The lines of the log are
+//! handed over as they are learnt.
 #![tactic(auto)]
 
 mod analyse;
 mod clauses;
+mod kept;
 mod load;
 mod order;
 mod phases;
@@ -16,4 +18,4 @@ mod trail;
 mod truth;
 mod watches;
 
-pub use solver::{Solved, solve};
+pub use solver::{Answer, Solved, solve, solve_into};

@@ -2,7 +2,8 @@
 ghost use Rattle.std.specs.Prelude.{List, ◌≡◌, ◌≢◌, ◌⊎◌, ℕ, Bool, true, false, ◌+◌, ◌-◌, ◌*◌, ◌^◌, ◌<◌, ◌≤◌, [], ◌∷◌, ◌++◌, length, All, IfOk, OnOk, MatchOption, IfSome, IfNone, get_or, set, Some};
 ghost use Rattle.cnf_base.specs.declared.cnf.Entry.TheVariants.{Clause};
 ghost use Rattle.cnf_base.specs.Literals.{opposite, member};
-ghost use Rattle.cdcl.specs.Trail.{held_by, is_set, literal_at, IsTrail, IsConflict};
+ghost use Rattle.cdcl.specs.Trail.{is_set, literal_at, IsTrail, IsConflict};
+ghost use Rattle.lrat_log.specs.Held.{held_by};
 ghost use Rattle.cdcl.specs.Visit.{AreFalseBut, IsOpen};
 ghost use Rattle.cdcl.specs.State.{held_in, IsState, Grows, IsVisiting, IsWatchingAt};
 

@@ -1,24 +1,28 @@
 // The solver.
-ghost use Rattle.std.specs.Prelude.{List, ◌≡◌, ◌≢◌, ℕ, Bool, true, false, ◌+◌, ◌-◌, ◌*◌, ◌^◌, ◌<◌, ◌≤◌, [], ◌∷◌, ◌++◌, length, IfOk, OnOk, get_or};
+ghost use Rattle.std.specs.Prelude.{List, ◌≡◌, ◌≢◌, ℕ, Bool, true, false, ◌+◌, ◌-◌, ◌*◌, ◌^◌, ◌<◌, ◌≤◌, [], ◌∷◌, ◌++◌, length, IfOk, OnOk, OnErr, get_or, reverse};
 ghost use Rattle.cnf_base.specs.declared.cnf.Entry.{Entry};
 ghost use Rattle.cnf_base.specs.Formulas.{value_of, IsModel};
-ghost use Rattle.lrat_log.specs.Learnt.{IsResolvent};
-ghost use Rattle.lrat_log.specs.Refutations.{IsRefutation, IsSpent};
-ghost use Rattle.std.specs.Prelude.{reverse};
+ghost use Rattle.lrat_log.specs.declared.line.Line.{Line};
 ghost use Rattle.lrat_log.specs.declared.line.Line.TheVariants.{Add};
-ghost use Rattle.cdcl.specs.Trail.{held_by, is_set, IsConflict};
+ghost use Rattle.lrat_log.specs.Held.{held_by};
+ghost use Rattle.lrat_log.specs.Accepted.{IsAccepted};
+ghost use Rattle.lrat_log.specs.Learnt.{IsResolvent};
+ghost use Rattle.lrat_log.specs.Logs.{IsLogOver};
+ghost use Rattle.lrat_log.specs.Refutations.{IsRefutation};
+ghost use Rattle.cdcl.specs.Trail.{is_set, IsConflict};
 ghost use Rattle.cdcl.specs.State.{held_in};
 ghost use Rattle.cdcl.specs.Assigned.{AreAllSet};
 ghost use Rattle.cdcl.specs.Logged.{IsLogged};
-ghost use Rattle.cdcl.specs.Answered.{IsAnswer, IsTurn};
+ghost use Rattle.cdcl.specs.Answered.{IsAnswer, IsSolved, IsTurn};
 
 use crate::analyse::Learnt;
+use crate::kept::Kept;
 use crate::load::{Loaded, load};
 use crate::search::Solver;
 use crate::truth::truth_values;
 use base::{Mem, Row};
 use cnf_base::{Cnf, Values};
-use lrat_log::{Line, Log, growth_laws, learnt_laws};
+use lrat_log::{Line, Log, Sink, growth_laws, learnt_laws, range_laws};
 use std::alloc::Global;
 
 /// What a search under a budget of learnt clauses ends with: truth values that satisfy the formula, a refutation, or
@@ -28,6 +32,14 @@ pub enum Solved {
     Sat(Values),
     Unsat(Log),
     Spent(Log),
+}
+
+/// As `Solved`, where the lines of the log were handed over.
+#[derive(Drop)]
+pub enum Answer {
+    Sat(Values),
+    Unsat,
+    Spent,
 }
 
 /// How a search stands where it cannot go down further: all variables are set, the formula is refuted, or a clause is
@@ -58,10 +70,10 @@ impl Solver {
     }
 
     /// The truth values of a search in which all variables are set.
-    fn values(&self, alloc: Global, cnf: &Cnf, lines: &[Line]) -> Mem<Values>
+    fn values(&self, alloc: Global, cnf: &Cnf) -> Mem<Values>
         requires drawn { self.now.head ≡ length self.now.state.trail.steps }
         requires set { AreAllSet self.now.state.trail }
-        requires logged { IsLogged cnf.now self.now.state.clauses lines.now }
+        requires logged { (lines : List Line) × IsLogged cnf.now self.now.state.clauses lines }
         requires few { cnf.now.variables ≤ 2147483647 }
         ensures { IfOk result (IsModel cnf.now) }
     {
@@ -88,90 +100,109 @@ pub fn line_of(id: u64, learnt: Learnt) -> Line
     }
 }
 
-/// A log that spends the budget.
-pub fn spent_log(cnf: &Cnf, lines: Vec<Line>) -> Log
-    requires logged { (held : List Entry) × IsLogged cnf.now held lines.items }
-    ensures { IsSpent cnf.now (length lines.items) result }
-{
-    learnt_laws();
-    Log::new(Row::from_vec(lines))
-}
-
-/// Learns from a conflict, and logs what is learnt.
-fn learn_line(
+/// Learns from a conflict, and hands over what is learnt, under the next id.
+fn learn_line<S: Sink>(
     alloc: Global,
-    cnf: &Cnf,
     solver: Solver,
-    lines: &mut Vec<Line>,
+    sink: &mut S,
     conflict: u32,
+    id: u64,
 ) -> Mem<Solver>
     requires some { 0 < length solver.starts.items }
     requires conflict { IsConflict (held_in solver.state) solver.state.trail.steps conflict }
-    requires logged { IsLogged cnf.now solver.state.clauses lines.old.items }
-    requires few { cnf.now.variables ≤ 2147483647 }
-    requires room { length cnf.now.clauses + length lines.old.items < 2147483646 }
-    ensures logged { IfOk result (λ s. IsLogged cnf.now s.state.clauses lines.new.items) }
-    ensures count { OnOk result (length lines.new.items ≡ length lines.old.items + 1) }
+    requires logged { IsLogged (S.formula sink.old) solver.state.clauses (S.lines sink.old) }
+    requires few { (S.formula sink.old).variables ≤ 2147483647 }
+    requires id { id ≡ length (S.formula sink.old).clauses + length (S.lines sink.old) + 1 }
+    requires room { length (S.formula sink.old).clauses + length (S.lines sink.old) < 2147483646 }
+    ensures formula { S.formula sink.new ≡ S.formula sink.old }
+    ensures logged { IfOk result (λ s. IsLogged (S.formula sink.old) s.state.clauses (S.lines sink.new)) }
+    ensures count { OnOk result (length (S.lines sink.new) ≡ length (S.lines sink.old) + 1) }
+    ensures kept { OnErr result (S.lines sink.new ≡ S.lines sink.old) }
 {
-    let id = cnf.clauses().len() as u64 + lines.len() as u64 + 1;
+    growth_laws();
+    learnt_laws();
     let Solver { mut search } = solver;
     let learnt = search.learn(alloc, conflict)?;
-    lines.push(line_of(id, learnt))?;
     search.restart()?;
+    sink.take(line_of(id, learnt))?;
     Ok(Solver { search })
 }
 
-/// A log that ends with the empty clause.
-pub fn refutation(alloc: Global, cnf: &Cnf, lines: Vec<Line>, hints: Vec<u64>) -> Mem<Log>
-    requires logged { (held : List Entry) × IsLogged cnf.now held lines.items × IsResolvent (held_by held) [] hints.items }
-    requires room { length cnf.now.clauses + length lines.items ≤ 2147483646 }
-    ensures { IfOk result (λ log. IsRefutation cnf.now (length lines.items) log) }
+/// Hands the empty clause over, under the next id.
+fn refute<S: Sink>(alloc: Global, sink: &mut S, hints: Vec<u64>, id: u64) -> Mem<()>
+    requires logged { (held : List Entry) × IsLogged (S.formula sink.old) held (S.lines sink.old) × IsResolvent (held_by held) [] hints.items }
+    requires id { id ≡ length (S.formula sink.old).clauses + length (S.lines sink.old) + 1 }
+    requires room { length (S.formula sink.old).clauses + length (S.lines sink.old) ≤ 2147483646 }
+    ensures formula { S.formula sink.new ≡ S.formula sink.old }
+    ensures refuted { OnOk result (IsRefutation (S.formula sink.old) (length (S.lines sink.old)) (S.lines sink.new)) }
+    ensures range { OnOk result (IsLogOver (S.formula sink.old).variables (length (S.formula sink.old).clauses) (S.lines sink.new)) }
+    ensures kept { OnErr result (S.lines sink.new ≡ S.lines sink.old) }
 {
-    learnt_laws();
     growth_laws();
-    let mut lines = lines;
-    let id = cnf.clauses().len() as u64 + lines.len() as u64 + 1;
+    learnt_laws();
     let empty = Line::Add {
         id,
         lits: Row::new(alloc),
         hints: Row::from_vec(hints),
     };
-    lines.push(empty)?;
-    Ok(Log::new(Row::from_vec(lines)))
+    sink.take(empty)?;
+    Ok(())
 }
 
-/// Searches for truth values that satisfy a formula. With each answer comes its evidence: the truth values, the log of a
-/// refutation, or the log of just so many learnt clauses as the budget has.
-pub fn solve(alloc: Global, cnf: &Cnf, budget: u64) -> Mem<Solved>
-    requires few { cnf.now.variables ≤ 2147483647 }
-    requires room { length cnf.now.clauses + budget ≤ 2147483646 }
-    ensures { IfOk result (IsAnswer cnf.now budget) }
+/// Searches for truth values that satisfy the formula of a sink, and hands each line of the log over as it is made.
+/// With each answer comes its evidence: the truth values, or the lines that were handed over, which refute the formula,
+/// or are just so many learnt clauses as the budget has. After want of memory too they are lines that are accepted.
+pub fn solve_into<S: Sink>(alloc: Global, sink: &mut S, budget: u64) -> Mem<Answer>
+    requires begins { S.lines sink.old ≡ [] }
+    requires few { (S.formula sink.old).variables ≤ 2147483647 }
+    requires room { length (S.formula sink.old).clauses + budget ≤ 2147483646 }
+    ensures answer { IfOk result (IsAnswer (S.formula sink.old) budget (S.lines sink.new)) }
+    ensures formula { S.formula sink.new ≡ S.formula sink.old }
+    ensures accepted { IsAccepted (S.formula sink.old) (S.lines sink.new) }
+    ensures range { IsLogOver (S.formula sink.old).variables (length (S.formula sink.old).clauses) (S.lines sink.new) }
 {
-    let mut solver = match load(alloc, cnf)? {
+    learnt_laws();
+    let clauses = sink.formula().clauses().len() as u64;
+    let mut solver = match load(alloc, sink.formula())? {
         Loaded::Ready(solver) => solver,
         Loaded::Refuted(hints) => {
-            let log = refutation(alloc, cnf, Vec::new(alloc), hints)?;
-            return Ok(Solved::Unsat(log));
+            refute(alloc, sink, hints, clauses + 1)?;
+            return Ok(Answer::Unsat);
         }
     };
-    let mut lines = Vec::new(alloc);
     for spent in 0..budget + 1 {
         match solver.turn(alloc)? {
             Turn::Satisfied(full) => {
-                let values = full.values(alloc, cnf, lines.as_slice())?;
-                return Ok(Solved::Sat(values));
+                let values = full.values(alloc, sink.formula())?;
+                return Ok(Answer::Sat(values));
             }
             Turn::Refuted(hints) => {
-                let log = refutation(alloc, cnf, lines, hints)?;
-                return Ok(Solved::Unsat(log));
+                refute(alloc, sink, hints, clauses + spent + 1)?;
+                return Ok(Answer::Unsat);
             }
             Turn::Conflict(stopped, id) => {
                 if spent == budget {
-                    return Ok(Solved::Spent(spent_log(cnf, lines)));
+                    return Ok(Answer::Spent);
                 }
-                solver = learn_line(alloc, cnf, stopped, &mut lines, id)?;
+                solver = learn_line(alloc, stopped, sink, id, clauses + spent + 1)?;
             }
         }
     }
     unreachable!()
+}
+
+/// As `solve_into`, with a log of the lines.
+pub fn solve(alloc: Global, cnf: &Cnf, budget: u64) -> Mem<Solved>
+    requires few { cnf.now.variables ≤ 2147483647 }
+    requires room { length cnf.now.clauses + budget ≤ 2147483646 }
+    ensures { IfOk result (IsSolved cnf.now budget) }
+{
+    range_laws();
+    let mut kept = Kept::new(alloc, cnf);
+    let solved = match solve_into(alloc, &mut kept, budget)? {
+        Answer::Sat(values) => Solved::Sat(values),
+        Answer::Unsat => Solved::Unsat(kept.into_log()),
+        Answer::Spent => Solved::Spent(kept.into_log()),
+    };
+    Ok(solved)
 }

@@ -1,5 +1,5 @@
 -- A clause that grows at its end.
-use Rattle.std.proofs.Common.{◌≡◌, ℕ, ◌||◌, eqb, Bool, true, false, List, [], ◌∷◌, ◌++◌, refl, ◌∙◌, ap, cond}
+use Rattle.std.proofs.Common.{◌≡◌, ℕ, eqb, Bool, true, false, List, [], ◌∷◌, ◌++◌, refl, ◌∙◌, ap, cond}
 use Rattle.std.proofs.lemmas.Bool.{or_parts, or_from}
 use Rattle.cnf_base.specs.declared.cnf.Entry.TheVariants.{True}
 use Rattle.cnf_base.specs.Literals.{opposite, member}

@@ -1,5 +1,5 @@
 // Numbers in front of some bytes, in one pass. What is not found here may still be a number.
-ghost use Rattle.std.specs.Prelude.{◌≡◌, ◌<◌, ◌≤◌, ◌+◌, ◌^◌, true, length, drop, Some, IfSome};
+ghost use Rattle.std.specs.Prelude.{◌≡◌, ◌↔◌, ◌<◌, ◌≤◌, ◌+◌, ◌^◌, length, drop, Some, IfSome, IsTrue};
 ghost use Rattle.cnf_base.specs.Words.{word_of};
 ghost use Rattle.cnf_base.specs.Fronts.{word_len};
 ghost use Rattle.cnf_base.specs.Numerals.{with_digits, digits_value, number_of};
@@ -36,7 +36,7 @@ pub fn front_digits<'a>(bytes: &'a [u8]) -> (&'a [u8], usize, u32)
 
 /// Whether a word ends before these bytes.
 pub fn ends_word(bytes: &[u8]) -> bool
-    ensures { result ≡ true → word_len bytes.now ≡ 0 }
+    ensures { IsTrue result ↔ (word_len bytes.now ≡ 0) }
 {
     match bytes {
         [] => true,

@@ -10,13 +10,14 @@ ghost use Rattle.fol_eval.specs.Safe.{SafeForm, SafeForms, SafeTerm, SafeTerms};
 
 use crate::Env;
 use fol_formula::{Formula, Term};
-use fol_sig::{Sort, Structure};
+use fol_sig::{Sort, Structure, range_laws};
 
 /// Whether the formula is true.
 pub fn holds(structure: &Structure, formula: &Formula, env: &Env) -> bool
     requires { HasTruth structure.now (form formula.now) (elements env.now) }
     ensures { result ≡ truth (reading structure.now) (form formula.now) (elements env.now) }
 {
+    range_laws();
     is_true(structure, formula, env)
 }
 
@@ -25,6 +26,7 @@ pub fn value(structure: &Structure, term: &Term, env: &Env) -> u32
     requires { HasValue structure.now (term_view term.now) (elements env.now) }
     ensures { result ≡ value_of (reading structure.now) (term_view term.now) (elements env.now) }
 {
+    range_laws();
     evaluate(structure, term, env)
 }
 

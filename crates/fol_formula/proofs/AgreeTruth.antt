@@ -1,7 +1,7 @@
 -- A formula that fits has one truth in structures that agree.
 use Rattle.std.proofs.Common.{◌≡◌, ℕ, ◌<◌, Bool, true, false, not, cond, List, [], ◌∷◌, get_or, refl, sym, ap, ◌∙◌, subst, arith}
 use Rattle.fol_sig.specs.Tables.{Reading, InRange, Tables, reading, fun_at, size_at}
-use Rattle.fol_sig.proofs.Places.{InRange-at, fun_at-within}
+use Rattle.fol_sig.specs.Ranges.{RangesAreAlong, FunctionsStayInRange}
 use Rattle.fol_formula.specs.Syntax.{FormTree, FormTrees, TermTree, TermTrees, top, bottom, rel, equal, negation, conjunction, disjunction, implication, equivalence, for_all, for_some, no_forms, form_then, bound, app, ite, no_terms, term_then}
 use Rattle.fol_formula.specs.Truth.{truth, all_true, any_true, value, values}
 use Rattle.fol_formula.specs.Fits.{FitsForm, FitsForms, FitsTerm, FitsTerms}
@@ -13,7 +13,7 @@ either_below : (c : Bool) (x y n : ℕ) → x < n → y < n → cond c x y < n
 either_below true x y n p q = p
 either_below false x y n p q = q
 
-module _ (sig : Symbols) (sizes : List ℕ) (a b : Reading) (agree : Agree sig sizes a b) where
+module _ (along : RangesAreAlong) (sig : Symbols) (sizes : List ℕ) (a b : Reading) (agree : Agree sig sizes a b) where
   record SameValue (t : TermTree) (env : List ℕ) (k : ℕ) : Type 0 where
     same : value a t env ≡ value b t env
     within : value a t env < get_or sizes k 0
@@ -50,7 +50,7 @@ module _ (sig : Symbols) (sizes : List ℕ) (a b : Reading) (agree : Agree sig s
     any_true-agree (form_then p ps) sorts env h e = let v = truth-agree p sorts env h.0 e in let w = any_true-agree ps sorts env h.1 e in cc (v, w)
 
     value-agree : (t : TermTree) (sorts env : List ℕ) (k : ℕ) → FitsTerm sig sorts t k → InRange sizes sorts env → SameValue t env k
-    value-agree (bound i) sorts env k h e = record { same = refl; within = subst (λ m. get_or env i 0 < get_or sizes m 0) h.1 (InRange-at sizes sorts env i e h.0) }
+    value-agree (bound i) sorts env k h e = record { same = refl; within = subst (λ m. get_or env i 0 < get_or sizes m 0) h.1 ((along sizes sorts env e).each i h.0) }
     value-agree (app f args) sorts env k h e =
         let v = values-agree args sorts env (sig.from_of f) h.3 e in
         record {
@@ -74,26 +74,24 @@ module _ (sig : Symbols) (sizes : List ℕ) (a b : Reading) (agree : Agree sig s
         let same1 = v.same in let same2 = w.same in
         record { same = cc (same1, same2); within = (v.within, w.within) }
 
-pub truth_agrees : TruthAgrees
-truth_agrees sig sizes a b p sorts env agree h e = truth-agree sig sizes a b agree p sorts env h e
+pub truth_agrees : RangesAreAlong → TruthAgrees
+truth_agrees along sig sizes a b p sorts env agree h e = truth-agree along sig sizes a b agree p sorts env h e
 
-pub values_agree : ValuesAgree
-values_agree sig sizes a b t sorts env k agree h e = (value-agree sig sizes a b agree t sorts env k h e).same
+pub values_agree : RangesAreAlong → ValuesAgree
+values_agree along sig sizes a b t sorts env k agree h e = (value-agree along sig sizes a b agree t sorts env k h e).same
 
 -- a structure's reading agrees with itself
-pub reading-agree : (sig : Symbols) (s : Tables) → FitsStructure sig s → Agree sig s.sizes (reading s) (reading s)
-reading-agree sig s f = record {
+reading-agree : FunctionsStayInRange → (sig : Symbols) (s : Tables) → FitsStructure sig s → Agree sig s.sizes (reading s) (reading s)
+reading-agree stay sig s f = record {
   size = λ k lt. refl;
   same_size = λ k lt. refl;
   rel = λ r xs lt h. refl;
   fun = λ g xs lt h. refl;
   within = λ g xs lt h.
-      subst (λ m. fun_at s g xs < size_at s m) (sym (f.into_of g lt)) (fun_at-within s g xs f.whole (subst (λ n. g < n) f.functions lt) (subst (λ ks. InRange s.sizes ks xs) (f.from_of g lt) h));
+      subst (λ m. fun_at s g xs < size_at s m) (sym (f.into_of g lt))
+      (stay s g xs f.whole (subst (λ n. g < n) f.functions lt) (subst (λ ks. InRange s.sizes ks xs) (f.from_of g lt) h));
 }
 
--- the value of a term that fits is an element of its sort
-pub value-within : (sig : Symbols) (s : Tables) (t : TermTree) (sorts env : List ℕ) (k : ℕ) → FitsStructure sig s → FitsTerm sig sorts t k → InRange s.sizes sorts env → value (reading s) t env < size_at s k
-value-within sig s t sorts env k f h e = (value-agree sig s.sizes (reading s) (reading s) (reading-agree sig s f) t sorts env k h e).within
-
-pub values_in_range : ValuesAreInRange
-values_in_range sig s t sorts env k f h e = value-within sig s t sorts env k f h e
+pub values_in_range : RangesAreAlong → FunctionsStayInRange → ValuesAreInRange
+values_in_range along stay sig s t sorts env k f h e =
+    (value-agree along sig s.sizes (reading s) (reading s) (reading-agree stay sig s f) t sorts env k h e).within

@@ -1,14 +1,14 @@
 -- Where a formula is witnessed it is true; without existentials the two are the same.
-use Rattle.std.proofs.Common.{◌≡◌, ℕ, suc, ◌+◌, ◌<◌, Bool, true, ◌&&◌, ◌||◌, List, [], ◌∷◌, ◌++◌, refl, ap, ◌∙◌, ⊎_elim}
+use Rattle.std.proofs.Common.{◌≡◌, ℕ, suc, ◌+◌, ◌<◌, Bool, true, ◌&&◌, ◌||◌, List, [], ◌∷◌, ◌++◌, refl, ap, ◌∙◌, subst, ⊎_elim}
 use Rattle.std.specs.Prelude.{slice_index, nat_lt}
 use Rattle.std.proofs.lemmas.Bool.{ltb-true, or_cases, or_left, or_right, and_parts, and_from}
 use Rattle.fol_sig.specs.Tables.{Reading}
 use Rattle.fol_formula.specs.Syntax.{FormTree, FormTrees, top, bottom, rel, equal, negation, conjunction, disjunction, implication, equivalence, for_all, for_some, no_forms, form_then}
 use Rattle.fol_formula.specs.Truth.{truth, all_true, any_true}
 use Rattle.fol_formula.specs.NormalForms.{normal_form, HasNoExistential, HaveNoExistential}
-use Rattle.fol_formula.specs.Witnesses.{some_sorts, some_sorts_of, some_count, is_witnessed, are_witnessed, one_is_witnessed, WitnessedIsTrue, NeedsNoWitness, WithoutExistentials, UniversalNeedsNoWitness}
+use Rattle.fol_formula.specs.Witnesses.{some_sorts, some_sorts_of, some_count, is_witnessed, are_witnessed, one_is_witnessed, WitnessedIsTrue, NeedsNoWitness, WithoutExistentials, UniversalNeedsNoWitness, UniversalNormalNeedsNoWitness}
 use Rattle.fol_formula.proofs.Below.{all_below-same, all_below-each, all_below-of_each, any_below-of_one}
-use Rattle.fol_formula.proofs.NormalForms.{universal_by_normal_form}
+use Rattle.fol_formula.proofs.NormalForms.{universal_by_normal_form, normal_form_stays}
 
 module _ (s : Reading) (ws : List ℕ) where
   mutual
@@ -101,3 +101,6 @@ without_existentials p h = record { sorts = none-sorts p h; witnessed = λ s ws 
 
 pub universal_needs_no_witness : UniversalNeedsNoWitness
 universal_needs_no_witness positive p h = without_existentials (normal_form positive p) ((universal_by_normal_form positive p).0 h)
+
+pub universal_normal_needs_no_witness : UniversalNormalNeedsNoWitness
+universal_normal_needs_no_witness p h n = subst NeedsNoWitness (normal_form_stays p n) (universal_needs_no_witness true p h)

@@ -3,7 +3,7 @@ use Rattle.std.specs.Prelude.{◌≡◌, ℕ, suc, ◌+◌, nat_lt, Bool, true, 
 use Rattle.fol_sig.specs.Tables.{Reading}
 use Rattle.fol_formula.specs.Syntax.{FormTree, FormTrees, top, bottom, rel, equal, negation, conjunction, disjunction, implication, equivalence, for_all, for_some, no_forms, form_then}
 use Rattle.fol_formula.specs.Truth.{truth, all_below}
-use Rattle.fol_formula.specs.Fragments.{IsUniversal}
+use Rattle.fol_formula.specs.Fragments.{IsUniversal, IsNormalForm}
 use Rattle.fol_formula.specs.NormalForms.{normal_form, HasNoExistential, HasNoExistentialUnderUniversal}
 
 -- The sorts of the existentials of a formula as it is written, in prefix order; those of terms don't count. The place of
@@ -78,3 +78,6 @@ WithoutExistentials = (p : FormTree) → HasNoExistential p → NeedsNoWitness p
 
 abbrev pub UniversalNeedsNoWitness : Type 0
 UniversalNeedsNoWitness = (positive : Bool) (p : FormTree) → IsUniversal positive p → NeedsNoWitness (normal_form positive p)
+
+abbrev pub UniversalNormalNeedsNoWitness : Type 0
+UniversalNormalNeedsNoWitness = (p : FormTree) → IsUniversal true p → IsNormalForm p → NeedsNoWitness p

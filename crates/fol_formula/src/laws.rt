@@ -7,7 +7,7 @@ ghost use Rattle.fol_formula.specs.Growing.{FittingIsKept, TruthReadsItsOwn};
 ghost use Rattle.fol_formula.specs.Inclusions.{NegationExchanges, UniversalIsExistsForall, UniversalIsEa, UniversalIsAe, NormalIsEa, NormalHasPlainTerms, QuantifierFreeIsUniversal};
 ghost use Rattle.fol_formula.specs.Lists.{FormLists, TermLists, FormTurns, TermTurns, RowsAreLists};
 ghost use Rattle.fol_formula.specs.Quantified.{AllBelow, AnyBelow};
-ghost use Rattle.fol_formula.specs.Witnesses.{WitnessedIsTrue, WitnessesExist, WithoutExistentials, UniversalNeedsNoWitness};
+ghost use Rattle.fol_formula.specs.Witnesses.{WitnessedIsTrue, WitnessesExist, WithoutExistentials, UniversalNeedsNoWitness, UniversalNormalNeedsNoWitness};
 
 /// Structures that agree wherever a formula looks give it one truth, and the value of a term is an
 /// element of its sort.
@@ -15,7 +15,9 @@ pub fn agreement()
     ensures truth { TruthAgrees }
     ensures values { ValuesAgree }
     ensures in_range { ValuesAreInRange }
-{}
+{
+    fol_sig::range_laws();
+}
 
 /// A formula reads no element beyond those of its indices, and what fits has an index for each.
 pub fn indices()
@@ -74,6 +76,7 @@ pub fn witnesses()
     ensures exist { WitnessesExist }
     ensures none { WithoutExistentials }
     ensures universal { UniversalNeedsNoWitness }
+    ensures normal { UniversalNormalNeedsNoWitness }
 {}
 
 /// What fits a signature fits one that grew from it, and truth reads no relation and no function that the

@@ -110,6 +110,14 @@ first_cycle sig f known before g c = record {
   before = before;
 }
 
+-- the functions have the cycle too
+pub is_on_cycle : (sig : Symbols) (f : ℕ) → IsFirstCycle sig f → IsOnCycle sig f
+is_on_cycle sig f h = record {
+  sort = h.closes.sort;
+  rest = h.closes.rest;
+  closed = let known = h.known in walk-more sig (f + 1) sig.functions h.closes.sort (f ∷ h.closes.rest) h.closes.sort (omega (arith, known)) h.closes.closed;
+}
+
 earlier : (sig : Symbols) (f g : ℕ) → IsFirstCycle sig f → IsFirstCycle sig g → f < g → ⊥
 earlier sig f g hf hg lt =
     hg.before f (record { sort = hf.closes.sort; rest = hf.closes.rest; closed = walk-more sig (f + 1) g hf.closes.sort (f ∷ hf.closes.rest) hf.closes.sort (omega (arith, lt)) hf.closes.closed })

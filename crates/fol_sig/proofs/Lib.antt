@@ -1,4 +1,8 @@
+pub mod Joined
 pub mod Places
+pub mod Ranges
+pub mod TuplePlaces
+pub mod TupleTurns
 pub mod Updates
 pub mod Sets
 pub mod Blank

@@ -110,6 +110,19 @@ pub place_of-room : (sizes ks xs : List ℕ) → InRange sizes ks xs → place_o
 unfolding place_of
 place_of-room sizes ks xs h = omega (arith, place_from-room sizes ks xs 0 h)
 
+pub place_from-base : (sizes ks xs : List ℕ) (base : ℕ) → InRange sizes ks xs → place_from sizes base ks xs ≡ base * tuple_count sizes ks + place_from sizes 0 ks xs
+place_from-base sizes [] [] base h = omega arith
+place_from-base sizes [] (x ∷ xs) base h = absurd h
+place_from-base sizes (k ∷ ks) [] base h = absurd h
+place_from-base sizes (k ∷ ks) (x ∷ xs) base h =
+    let n = get_or sizes k 0 in
+    let one = place_from-base sizes ks xs (base * n + x) h.1 in
+    let two = place_from-base sizes ks xs (0 * n + x) h.1 in
+    omega (arith, one, two)
+
+pub place_from-below : (sizes ks xs : List ℕ) → InRange sizes ks xs → place_from sizes 0 ks xs < tuple_count sizes ks
+place_from-below sizes ks xs h = omega (arith, place_from-room sizes ks xs 0 h)
+
 pub InRange-at : (sizes ks xs : List ℕ) (i : ℕ) → InRange sizes ks xs → i < length ks → get_or xs i 0 < get_or sizes (get_or ks i 0) 0
 InRange-at sizes [] xs i h lt = absurd (omega arith)
 InRange-at sizes (k ∷ ks) [] i h lt = absurd h

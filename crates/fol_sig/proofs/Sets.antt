@@ -5,7 +5,7 @@ use Rattle.std.proofs.lemmas.List.{get_or-set_same, get_or-set_other, get_or_rea
 use Rattle.std.proofs.lemmas.List.Elements.{All-get_or}
 use Rattle.std.proofs.lemmas.Bool.{cases_eq}
 use Rattle.fol_sig.specs.Tables.{tuple_count, TableOf, FunctionTable, IsStructure, IsFullRelation, IsFullFunction, with_cell, Tables, RelationTable, InRange, place_of, relation_at, function_at, rel_at, fun_at}
-use Rattle.fol_sig.specs.Updates.{SetsRelation, SetsFunction, with_relation_cells, with_function_cells}
+use Rattle.fol_sig.specs.Updates.{SetsRelation, SetsFunction, with_relation_cells, with_function_cells, with_rel_at, with_fun_at}
 use Rattle.fol_sig.proofs.Places.{same_place, place_of-room}
 use Rattle.fol_sig.proofs.Updates.{no_table, no_function_table}
 
@@ -81,20 +81,26 @@ sets_function s g xs v known in_range full =
     }
 
 -- the same, from what the code reads and writes
-pub relation_is_set : (s inside : Tables) (r : ℕ) (xs : List ℕ) (v : Bool) (sizes : List ℕ) (t written : RelationTable) → inside ≡ s → IsStructure inside → t ≡ get_or inside.relations r t → sizes ≡ inside.sizes → written ≡ with_cell sizes t xs v → r < length s.relations → InRange s.sizes (relation_at s r).sorts xs → SetsRelation s (record { sizes = inside.sizes; relations = set inside.relations r written; functions = inside.functions }) r xs v
-relation_is_set s inside r xs v sizes t written is ok read same_sizes wrote =
-    subst (λ z. r < length z.relations → InRange z.sizes (relation_at z r).sorts xs → SetsRelation z (record { sizes = inside.sizes; relations = set inside.relations r written; functions = inside.functions }) r xs v) is (λ known in_range.
+pub relation_is_written : (s inside : Tables) (r : ℕ) (xs : List ℕ) (v : Bool) (sizes : List ℕ) (t written : RelationTable) → inside ≡ s → t ≡ get_or inside.relations r t → sizes ≡ inside.sizes → written ≡ with_cell sizes t xs v → r < length s.relations → record { sizes = inside.sizes; relations = set inside.relations r written; functions = inside.functions } ≡ with_rel_at s r xs v
+relation_is_written s inside r xs v sizes t written is read same_sizes wrote =
+    let whole : RelationTable → Tables = (λ w. record { sizes = inside.sizes; relations = set inside.relations r w; functions = inside.functions }) in
+    subst (λ z. r < length z.relations → whole written ≡ with_rel_at z r xs v) is (λ known.
     let found : t ≡ relation_at inside r = get_or_read inside.relations r t known read no_table in
-    let full = (All-get_or (IsFullRelation inside.sizes) inside.relations r no_table known ok.relations_full).full in
-    let table : written ≡ with_cell inside.sizes (relation_at inside r) xs v = wrote ∙ ap (λ ns. with_cell ns t xs v) same_sizes ∙ ap (λ z. with_cell inside.sizes z xs v) found in
-    subst (λ z. SetsRelation inside (record { sizes = inside.sizes; relations = set inside.relations r z; functions = inside.functions }) r xs v) (sym table) (sets_relation inside r xs v known in_range full))
+    ap whole (wrote ∙ ap (λ ns. with_cell ns t xs v) same_sizes ∙ ap (λ z. with_cell inside.sizes z xs v) found))
 
-pub function_is_set : (s inside : Tables) (g : ℕ) (xs : List ℕ) (v : ℕ) (sizes : List ℕ) (t : FunctionTable) (written : TableOf ℕ) → inside ≡ s → IsStructure inside → t ≡ get_or inside.functions g t → sizes ≡ inside.sizes → written ≡ with_cell sizes (record { sorts = t.sorts; cells = t.cells }) xs v → g < length s.functions → InRange s.sizes (function_at s g).sorts xs → SetsFunction s (record { sizes = inside.sizes; relations = inside.relations; functions = set inside.functions g (record { sorts = written.sorts; into = t.into; cells = written.cells }) }) g xs v
-function_is_set s inside g xs v sizes t written is ok read same_sizes wrote =
+pub function_is_written : (s inside : Tables) (g : ℕ) (xs : List ℕ) (v : ℕ) (sizes : List ℕ) (t : FunctionTable) (written : TableOf ℕ) → inside ≡ s → t ≡ get_or inside.functions g t → sizes ≡ inside.sizes → written ≡ with_cell sizes (record { sorts = t.sorts; cells = t.cells }) xs v → g < length s.functions → record { sizes = inside.sizes; relations = inside.relations; functions = set inside.functions g (record { sorts = written.sorts; into = t.into; cells = written.cells }) } ≡ with_fun_at s g xs v
+function_is_written s inside g xs v sizes t written is read same_sizes wrote =
     let with_into : TableOf ℕ → FunctionTable → FunctionTable = (λ w z. record { sorts = w.sorts; into = z.into; cells = w.cells }) in
     let plain : FunctionTable → TableOf ℕ = (λ z. record { sorts = z.sorts; cells = z.cells }) in
-    subst (λ z. g < length z.functions → InRange z.sizes (function_at z g).sorts xs → SetsFunction z (record { sizes = inside.sizes; relations = inside.relations; functions = set inside.functions g (with_into written t) }) g xs v) is (λ known in_range.
+    let whole : FunctionTable → Tables = (λ w. record { sizes = inside.sizes; relations = inside.relations; functions = set inside.functions g w }) in
+    subst (λ z. g < length z.functions → whole (with_into written t) ≡ with_fun_at z g xs v) is (λ known.
     let found : t ≡ function_at inside g = get_or_read inside.functions g t known read no_function_table in
-    let full = (All-get_or (IsFullFunction inside.sizes) inside.functions g no_function_table known ok.functions_full).full in
-    let table : with_into written t ≡ with_into (with_cell inside.sizes (plain (function_at inside g)) xs v) (function_at inside g) = ap (λ w. with_into w t) (wrote ∙ ap (λ ns. with_cell ns (plain t) xs v) same_sizes) ∙ ap (λ z. with_into (with_cell inside.sizes (plain z) xs v) z) found in
-    subst (λ z. SetsFunction inside (record { sizes = inside.sizes; relations = inside.relations; functions = set inside.functions g z }) g xs v) (sym table) (sets_function inside g xs v known in_range full))
+    ap whole (ap (λ w. with_into w t) (wrote ∙ ap (λ ns. with_cell ns (plain t) xs v) same_sizes) ∙ ap (λ z. with_into (with_cell inside.sizes (plain z) xs v) z) found))
+
+pub relation_is_set : (s new : Tables) (r : ℕ) (xs : List ℕ) (v : Bool) → new ≡ with_rel_at s r xs v → IsStructure s → r < length s.relations → InRange s.sizes (relation_at s r).sorts xs → SetsRelation s new r xs v
+relation_is_set s new r xs v is ok known in_range =
+    subst (λ z. SetsRelation s z r xs v) (sym is) (sets_relation s r xs v known in_range (All-get_or (IsFullRelation s.sizes) s.relations r no_table known ok.relations_full).full)
+
+pub function_is_set : (s new : Tables) (g : ℕ) (xs : List ℕ) (v : ℕ) → new ≡ with_fun_at s g xs v → IsStructure s → g < length s.functions → InRange s.sizes (function_at s g).sorts xs → SetsFunction s new g xs v
+function_is_set s new g xs v is ok known in_range =
+    subst (λ z. SetsFunction s z g xs v) (sym is) (sets_function s g xs v known in_range (All-get_or (IsFullFunction s.sizes) s.functions g no_function_table known ok.functions_full).full)

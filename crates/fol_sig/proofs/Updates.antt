@@ -1,59 +1,19 @@
 -- A structure with another table for one symbol.
-use Rattle.std.proofs.Common.{◌≡◌, ℕ, zero, suc, ◌+◌, ◌-◌, ◌*◌, ◌<◌, ◌≤◌, Bool, false, List, [], ◌∷◌, length, get_or, refl, sym, ap, ◌∙◌, subst, ⊎_elim, length-set, length-append, arith, All}
+use Rattle.std.proofs.Common.{◌≡◌, ℕ, zero, suc, ◌+◌, ◌*◌, ◌<◌, Bool, false, List, [], ◌∷◌, length, get_or, refl, sym, ap, ◌∙◌, subst, ⊎_elim, length-set, arith, All}
 use Rattle.std.specs.Prelude.{reverse}
 use mathlib.Core.List.{reverse_aux}
-use Rattle.std.proofs.Math.Nat.{mul-le-mul_right}
-use Rattle.std.proofs.lemmas.List.{get_or-set_same, get_or-set_other, get_or_append_left, get_or-append_right}
-use Rattle.std.proofs.lemmas.Bool.{cases_lt, cases_eq}
-use Rattle.std.proofs.lemmas.List.Elements.{All-get_or, All-set, All-append}
+use Rattle.std.proofs.lemmas.List.{get_or-set_same, get_or-set_other}
+use Rattle.std.proofs.lemmas.Bool.{cases_eq}
+use Rattle.std.proofs.lemmas.List.Elements.{All-get_or, All-set}
 use Rattle.fol_sig.specs.Tables.{Tables, RelationTable, FunctionTable, IsFullRelation, IsFullFunction, InRange, tuple_count, place_from, place_of, relation_at, function_at, size_at}
 use Rattle.fol_sig.specs.Symbols.{Symbols, FitsStructure}
-use Rattle.fol_sig.specs.Updates.{join_below, cells_from, with_relation_cells, with_function_cells, with_relation, with_function, UpdatesRelation, UpdatesFunction}
-
-pub length-join_below : {A : Type 0} (n size : ℕ) (f : ℕ → List A) → ((x : ℕ) → length (f x) ≡ size) → length (join_below n f) ≡ n * size
-length-join_below zero size f h = omega arith
-length-join_below (suc n) size f h = omega (arith, length-append (join_below n f) (f n), length-join_below n size f h, h n)
+use Rattle.fol_sig.proofs.Joined.{length-join_below, get_or-join_below, All-join_below}
+use Rattle.fol_sig.proofs.Places.{place_from-base, place_from-below}
+use Rattle.fol_sig.specs.Updates.{cells_from, with_relation_cells, with_function_cells, with_relation, with_function, UpdatesRelation, UpdatesFunction}
 
 pub length-cells_from : {A : Type 0} (sizes : List ℕ) (f : List ℕ → A) (ks before : List ℕ) → length (cells_from sizes f ks before) ≡ tuple_count sizes ks
 length-cells_from sizes f [] before = refl
 length-cells_from sizes f (k ∷ ks) before = length-join_below (get_or sizes k 0) (tuple_count sizes ks) _ (λ x. length-cells_from sizes f ks (x ∷ before))
-
-pub get_or-join_below : {A : Type 0} (n size x j : ℕ) (f : ℕ → List A) (d : A) → ((x : ℕ) → length (f x) ≡ size) → x < n → j < size → get_or (join_below n f) (x * size + j) d ≡ get_or (f x) j d
-get_or-join_below zero size x j f d h lt lj = absurd (omega arith)
-get_or-join_below (suc n) size x j f d h lt lj =
-    ⊎_elim
-    (λ below.
-    let row : (x + 1) * size ≤ n * size = mul-le-mul_right size (omega arith) in
-    let inside : x * size + j < length (join_below n f) = omega (arith, length-join_below n size f h, row) in
-    get_or_append_left (join_below n f) (f n) d (x * size + j) inside ∙ get_or-join_below n size x j f d h below lj)
-    (λ last.
-    let e : x ≡ n = omega arith in
-    let same : x * size ≡ n * size = ap (λ m. m * size) e in
-    let off : (x * size + j) - n * size ≡ j = omega arith in
-    get_or-append_right (join_below n f) (f n) (n * size) (x * size + j) d (length-join_below n size f h) (omega arith)
-    ∙ ap (λ i. get_or (f n) i d) off
-    ∙ ap (λ m. get_or (f m) j d) (sym e))
-    (cases_lt x n)
-
-pub place_from-base : (sizes ks xs : List ℕ) (base : ℕ) → InRange sizes ks xs → place_from sizes base ks xs ≡ base * tuple_count sizes ks + place_from sizes 0 ks xs
-place_from-base sizes [] [] base h = omega arith
-place_from-base sizes [] (x ∷ xs) base h = absurd h
-place_from-base sizes (k ∷ ks) [] base h = absurd h
-place_from-base sizes (k ∷ ks) (x ∷ xs) base h =
-    let n = get_or sizes k 0 in
-    let one = place_from-base sizes ks xs (base * n + x) h.1 in
-    let two = place_from-base sizes ks xs (0 * n + x) h.1 in
-    omega (arith, one, two)
-
-pub place_from-below : (sizes ks xs : List ℕ) → InRange sizes ks xs → place_from sizes 0 ks xs < tuple_count sizes ks
-place_from-below sizes [] [] h = omega arith
-place_from-below sizes [] (x ∷ xs) h = absurd h
-place_from-below sizes (k ∷ ks) [] h = absurd h
-place_from-below sizes (k ∷ ks) (x ∷ xs) h =
-    let n = get_or sizes k 0 in
-    let rest = tuple_count sizes ks in
-    let row : (x + 1) * rest ≤ n * rest = mul-le-mul_right rest (omega (arith, h.0)) in
-    omega (arith, place_from-base sizes ks xs (0 * n + x) h.1, place_from-below sizes ks xs h.1, row)
 
 pub cells_from-at : {A : Type 0} (sizes : List ℕ) (f : List ℕ → A) (ks xs before : List ℕ) (d : A) → InRange sizes ks xs → get_or (cells_from sizes f ks before) (place_from sizes 0 ks xs) d ≡ f (reverse_aux xs before)
 cells_from-at sizes f [] [] before d h = refl
@@ -67,10 +27,6 @@ cells_from-at sizes f (k ∷ ks) (x ∷ xs) before d h =
     ∙ cells_from-at sizes f ks xs (x ∷ before) d h.1
 
 -- what is so of f at each tuple is so of each cell
-All-join_below : {A : Type 0} (P : A → Type 0) (n : ℕ) (f : ℕ → List A) → ((x : ℕ) → x < n → All P (f x)) → All P (join_below n f)
-All-join_below P zero f h = λ k d lt. absurd (omega arith)
-All-join_below P (suc n) f h = All-append P (join_below n f) (f n) (All-join_below P n f (λ x lt. h x (omega arith))) (h n (omega arith))
-
 one_cell : {A : Type 0} (P : A → Type 0) (a : A) → P a → All P (a ∷ [])
 one_cell P a h zero d lt = h
 one_cell P a h (suc k) d lt = absurd (omega arith)

@@ -1,7 +1,8 @@
 -- A structure with one cell, or the whole table, of one symbol changed.
-use Rattle.std.specs.Prelude.{◌≡◌, ℕ, zero, suc, ◌<◌, Bool, List, [], ◌∷◌, ◌++◌, length, reverse, slice_index, slice_set, All}
+use Rattle.std.specs.Prelude.{◌≡◌, ℕ, ◌<◌, Bool, List, [], ◌∷◌, length, reverse, slice_index, slice_set, All}
 use Rattle.fol_sig.specs.Symbols.{Symbols, FitsStructure}
-use Rattle.fol_sig.specs.Tables.{Tables, InRange, tuple_count, relation_at, function_at, size_at, rel_at, fun_at}
+use Rattle.fol_sig.specs.Tables.{Tables, InRange, tuple_count, place_of, relation_at, function_at, size_at, rel_at, fun_at}
+use Rattle.fol_sig.specs.Tuples.{join_below}
 
 -- one cell is set, and no other
 pub record SetsRelation (old new : Tables) (r : ℕ) (xs : List ℕ) (v : Bool) : Type 0 where
@@ -20,11 +21,6 @@ pub record SetsFunction (old new : Tables) (g : ℕ) (xs : List ℕ) (v : ℕ) :
   pub into : (h : ℕ) → (function_at new h).into ≡ (function_at old h).into
   pub set : fun_at new g xs ≡ v
   pub others : (h : ℕ) (ys : List ℕ) → InRange old.sizes (function_at old h).sorts ys → (h ≡ g → ys ≡ xs → ⊥) → fun_at new h ys ≡ fun_at old h ys
-
--- the lists of the numbers below n, one after another
-abbrev pub join_below : {A : Type 0} → ℕ → (ℕ → List A) → List A
-join_below zero f = []
-join_below (suc n) f = join_below n f ++ f n
 
 -- The values of f at the tuples of these sorts, in lexicographic order. f takes a tuple with its last element first,
 -- as formulas do, and behind it the elements before.
@@ -46,6 +42,13 @@ with_function_cells s g cells = record {
   relations = s.relations;
   functions = slice_set s.functions g (record { sorts = (function_at s g).sorts; into = (function_at s g).into; cells = cells });
 }
+
+-- the structure with this value of r, or of g, at one tuple
+abbrev pub with_rel_at : Tables → ℕ → List ℕ → Bool → Tables
+with_rel_at s r xs v = with_relation_cells s r (slice_set (relation_at s r).cells (place_of s.sizes (relation_at s r).sorts xs) v)
+
+abbrev pub with_fun_at : Tables → ℕ → List ℕ → ℕ → Tables
+with_fun_at s g xs v = with_function_cells s g (slice_set (function_at s g).cells (place_of s.sizes (function_at s g).sorts xs) v)
 
 -- the structure where r is true of the tuples of which f is, each taken with its last element first
 abbrev pub with_relation : Tables → ℕ → (List ℕ → Bool) → Tables

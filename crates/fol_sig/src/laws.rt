@@ -1,9 +1,11 @@
-// What follows from the definitions alone.
-ghost use Rattle.std.specs.Prelude.{ℕ, List, Bool, ◌<◌, length};
-ghost use Rattle.fol_sig.specs.Tables.{Tables, IsStructure, InRange, function_at, fun_at, size_at};
+// What follows from the definitions alone. Each function is its contract, and does nothing.
+ghost use Rattle.std.specs.Prelude.{ℕ, List, Bool};
+ghost use Rattle.fol_sig.specs.Tables.{Tables};
+ghost use Rattle.fol_sig.specs.Ranges.{RangesAreAlong, AlongIsInRange, RangesAppend, RangesSplit, FunctionsStayInRange};
 ghost use Rattle.fol_sig.specs.Strata.{OrderHasNoCycle, FirstCycleIsOne};
 ghost use Rattle.fol_sig.specs.Cycles.{CycleHasFirst};
 ghost use Rattle.fol_sig.specs.Growing.{SignaturesGrow, SortsAreKept, StructuresExtend, StructuresReduce, StructuresAreExtensions};
+ghost use Rattle.fol_sig.specs.Tuples.{TuplesAreNumbered};
 ghost use Rattle.fol_sig.specs.Updates.{UpdatesRelation, UpdatesFunction};
 
 /// An updated symbol has the new value at each tuple, each other symbol is as before, and the updated
@@ -13,9 +15,18 @@ pub fn update_laws()
     ensures functions { (s : Tables) (g : ℕ) (f : List ℕ → ℕ) → UpdatesFunction s g f }
 {}
 
-/// What a function gives is an element of its sort.
-pub fn value_law()
-    ensures { (s : Tables) (f : ℕ) (xs : List ℕ) → IsStructure s → f < length s.functions → InRange s.sizes (function_at s f).sorts xs → fun_at s f xs < size_at s (function_at s f).into }
+/// Each tuple has one number, and each number one tuple.
+pub fn tuple_laws()
+    ensures { TuplesAreNumbered }
+{}
+
+/// A tuple in range has an element of its sort at each place, and what a function gives is one of its sort.
+pub fn range_laws()
+    ensures along { RangesAreAlong }
+    ensures whole { AlongIsInRange }
+    ensures append { RangesAppend }
+    ensures split { RangesSplit }
+    ensures values { FunctionsStayInRange }
 {}
 
 /// Where there are strata no function stands on a cycle, and at most one function is the first that

@@ -14,23 +14,28 @@ mod signature;
 mod sorts;
 mod structure;
 mod table;
+mod tuple;
+mod tuples;
 
 pub use growing::with_constants;
-pub use laws::{cycle_law, growth_laws, strata_laws, update_laws, value_law};
+pub use laws::{cycle_law, growth_laws, range_laws, strata_laws, tuple_laws, update_laws};
 pub use order::{Cycle, Strata};
 pub use passes::strata;
 pub use signature::Signature;
 pub use sorts::Sorts;
-pub use structure::Structure;
+pub use structure::{Function, Structure};
+pub use table::Table;
+pub use tuple::Tuple;
+pub use tuples::{count_tuples, number_of_tuple, tuple_of_number};
 
 /// A sort, by its place in the signature.
-#[derive(Clone, Copy, PartialEq, Eq, Debug, Default)]
+#[derive(Clone, Copy, PartialEq, Eq, Hash, Debug, Default)]
 pub struct Sort(pub u32);
 
 /// A relation, by its place in the signature.
-#[derive(Clone, Copy, PartialEq, Eq, Debug)]
+#[derive(Clone, Copy, PartialEq, Eq, Hash, Debug)]
 pub struct RelId(pub u32);
 
 /// A function, by its place in the signature. A function without arguments is a variable.
-#[derive(Clone, Copy, PartialEq, Eq, Debug)]
+#[derive(Clone, Copy, PartialEq, Eq, Hash, Debug)]
 pub struct FunId(pub u32);

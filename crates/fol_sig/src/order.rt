@@ -8,7 +8,7 @@ use std::marker::Model;
 /// All sorts of a signature, each once and behind the argument sorts of the functions into it.
 #[derive(Drop, Debug)]
 pub struct Strata {
-    order: Vec<Sort>,
+    pub(crate) order: Vec<Sort>,
 }
 
 impl Model for Strata {
@@ -21,12 +21,6 @@ impl Model for Strata {
 }
 
 impl Strata {
-    pub(crate) fn new(order: Vec<Sort>) -> Strata
-        ensures { result ≡ numbers order.items }
-    {
-        Strata { order }
-    }
-
     pub fn order(&self) -> &[Sort]
         ensures { numbers result.now ≡ self.now }
     {

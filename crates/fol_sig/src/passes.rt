@@ -16,6 +16,7 @@ pub fn strata(alloc: Global, signature: &Signature) -> Result<Strata, Refused<Cy
     ensures order { IfOk result (IsStrata (symbols signature.now)) }
     ensures acyclic { IfOk result (λ _. (f : ℕ) → IsOnCycle (symbols signature.now) f → ⊥) }
     ensures cycle { IfErr result (Because (λ cycle. IsFirstCycle (symbols signature.now) cycle.function.0)) }
+    ensures cyclic { IfErr result (Because (λ cycle. IsOnCycle (symbols signature.now) cycle.function.0)) }
 {
     match order_of(alloc, signature, signature.function_count())? {
         Some(strata) => Ok(strata),
@@ -28,7 +29,8 @@ pub fn strata(alloc: Global, signature: &Signature) -> Result<Strata, Refused<Cy
 // Halves the functions between those that have an order and those that have none.
 fn first_cycle(alloc: Global, signature: &Signature) -> Mem<FunId>
     requires { (f : ℕ) × IsOnCycle (symbols signature.now) f }
-    ensures { IfOk result (λ f. IsFirstCycle (symbols signature.now) f.0) }
+    ensures first { IfOk result (λ f. IsFirstCycle (symbols signature.now) f.0) }
+    ensures cyclic { IfOk result (λ f. IsOnCycle (symbols signature.now) f.0) }
 {
     let mut ordered = 0;
     let mut cyclic = signature.function_count();
@@ -63,7 +65,7 @@ fn order_of(alloc: Global, signature: &Signature, functions: u32) -> Mem<Option<
             if placed.contains(&false) {
                 return Ok(None);
             }
-            return Ok(Some(Strata::new(order)));
+            return Ok(Some(Strata { order }));
         }
     }
 }

@@ -1,9 +1,9 @@
 // Finite structures.
 ghost use Rattle.std.specs.Prelude.{◌≡◌, ◌<◌, [], ◌∷◌, ◌++◌, length, All, IfOk, OnOk, OnErr, map};
-ghost use Rattle.fol_sig.specs.Tables.{numbers, AreSorts, InRange, tuple_count, size_at, rel_at, fun_at, relation_at, function_at, blank_relation, blank_function, blank};
+ghost use Rattle.fol_sig.specs.Tables.{numbers, AreSorts, InRange, tuple_count, size_at, rel_at, fun_at, relation_at, function_at, blank_relation, blank_function, blank, IsStructure};
 ghost use Rattle.fol_sig.specs.Symbols.{Symbols, FitsStructure, symbols};
 ghost use Rattle.fol_sig.specs.Constants.{constant_table, constant_tables, with_constants, reduct};
-ghost use Rattle.fol_sig.specs.Updates.{SetsRelation, SetsFunction, with_relation_cells, with_function_cells};
+ghost use Rattle.fol_sig.specs.Updates.{SetsRelation, SetsFunction, with_relation_cells, with_function_cells, with_rel_at, with_fun_at};
 
 use crate::table::Table;
 use crate::{FunId, RelId, Signature, Sort, Sorts};
@@ -11,9 +11,9 @@ use base::Mem;
 use std::alloc::Global;
 use std::marker::Model;
 
-/// The table of a function.
+/// The table of a function, whose cells are elements of one sort.
 #[derive(Drop, Debug)]
-struct Function {
+pub struct Function {
     table: Table<u32>,
     into: Sort,
 }
@@ -24,6 +24,14 @@ impl Model for Function {
     ghost Value = { FunctionTable };
 
     ghost view = { λ t. record { sorts = t.table.sorts; into = t.into.0; cells = t.table.cells } };
+}
+
+impl Function {
+    pub fn new(table: Table<u32>, into: Sort) -> Function
+        ensures { result ≡ record { sorts = table.sorts; into = into.0; cells = table.cells } }
+    {
+        Function { table, into }
+    }
 }
 
 /// A finite structure of a signature. The elements of a sort are the numbers below its size.
@@ -61,6 +69,22 @@ impl Structure {
             relations,
             functions,
         })
+    }
+
+    /// The structure of these sizes and tables.
+    pub fn of_tables(
+        sizes: Vec<u32>,
+        relations: Vec<Table<bool>>,
+        functions: Vec<Function>,
+    ) -> Structure
+        requires { IsStructure (record { sizes = sizes.items; relations = relations.items; functions = functions.items }) }
+        ensures { result ≡ record { sizes = sizes.items; relations = relations.items; functions = functions.items } }
+    {
+        Structure {
+            sizes,
+            relations,
+            functions,
+        }
     }
 
     pub fn copy(&self, alloc: Global) -> Mem<Structure>
@@ -102,9 +126,11 @@ impl Structure {
             .cell(&self.sizes, tuple)
     }
 
+    /// Sets one cell of a relation's table.
     pub fn set_rel(&mut self, rel: RelId, tuple: &[u32], value: bool)
         requires known { rel.0 < length self.old.relations }
         requires in_range { InRange self.old.sizes (relation_at self.old rel.0).sorts tuple.now }
+        ensures value { self.new ≡ with_rel_at self.old rel.0 tuple.now value }
         ensures set { SetsRelation self.old self.new rel.0 tuple.now value }
         ensures fits { (sig : Symbols) → FitsStructure sig self.old → FitsStructure sig self.new }
     {
@@ -112,10 +138,12 @@ impl Structure {
         table.set_cell(&self.sizes, tuple, value);
     }
 
+    /// Sets one cell of a function's table.
     pub fn set_fun(&mut self, fun: FunId, tuple: &[u32], value: u32)
         requires known { fun.0 < length self.old.functions }
         requires in_range { InRange self.old.sizes (function_at self.old fun.0).sorts tuple.now }
         requires within { value < size_at self.old (function_at self.old fun.0).into }
+        ensures value { self.new ≡ with_fun_at self.old fun.0 tuple.now value }
         ensures set { SetsFunction self.old self.new fun.0 tuple.now value }
         ensures fits { (sig : Symbols) → FitsStructure sig self.old → FitsStructure sig self.new }
     {

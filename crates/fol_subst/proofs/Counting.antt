@@ -6,14 +6,13 @@ use Rattle.std.proofs.lemmas.Bool.Decides.{nat_tests}
 use Rattle.std.proofs.Math.Nat.{mul-le-mul_right}
 use Rattle.std.proofs.lemmas.List.{reverse-append, length-reverse}
 use Rattle.fol_formula.specs.Syntax.{FormTree, FormTrees, TermTree, TermTrees, top, bottom, rel, equal, negation, conjunction, disjunction, implication, equivalence, for_all, for_some, no_forms, form_then, bound, app, ite, no_terms, term_then, list_of, size_of}
-use Rattle.fol_formula.specs.Fits.{BoundForm, BoundTerm}
 use Rattle.fol_formula.specs.Counts.{form_nodes, forms_nodes, term_nodes, terms_nodes, form_depth, forms_depth, term_depth, terms_depth}
-use Rattle.fol_subst.specs.Replace.{put_form, put_term, Change, change_rel, change_fun, change_const, rel_instance, app_instance, changed_form, changed_forms, changed_term, changed_terms}
+use Rattle.fol_subst.specs.Replace.{put_form, put_term, Change, change_rel, change_fun, change_const, rel_instance, app_instance, changing, changed_form, changed_forms, changed_term, changed_terms}
 use Rattle.fol_subst.specs.Limits.{is_too_large, IndicesFit, IndicesFitAll, IndicesFitTerm, IndicesFitTerms}
-use Rattle.fol_subst.specs.Room.{RelReady, AppReady, ReadyForm, ReadyForms, ReadyTerm, ReadyTerms}
+use Rattle.fol_subst.specs.Room.{AppTakes, ReadyForm, ReadyForms, ReadyTerm, ReadyTerms}
 use Rattle.fol_subst.specs.Extents.{capped, extent, none, one, beside, over, under, put_in, places_form, places_forms, places_term, places_terms, places_of, extent_form, extent_forms, extent_term, extent_terms, extent_instance, is_over}
 use Rattle.fol_subst.specs.declared.extent.Extent.{Extent}
-use Rattle.fol_subst.proofs.ReplaceTruth.{length-list_of, size_of-changed}
+use Rattle.fol_subst.proofs.Truth.{length-list_of, size_of-by}
 use Rattle.fol_subst.proofs.Sizes.{uses_form, uses_forms, uses_term, uses_terms, below, reach_form, reach_forms, reach_term, reach_terms, weighted, weighted-same, deepened, highest, highest-same, nodes-put, depth-put, term_nodes-put, term_depth-put, nodes-positive, depth-positive}
 
 pub beside-extent : (a b c d : ℕ) → beside (extent a b) (extent c d) ≡ extent (a + c) (max b d)
@@ -225,24 +224,24 @@ abbrev HasExtents : Change → TermTrees → TermTrees → Type 0
 HasExtents c ts new =
     (whole : Extent) (a b : ℕ) → 1 ≤ a → whole ≡ extent a b → extent_instance c whole ts ≡ extent (a + weighted_args (uses_of c) new) (max b (highest_args (reach_of c) new))
 
-nodes-by : (by : FormTree) (new : TermTrees) → BoundForm (size_of new) by → form_nodes (put_form 0 (reverse (list_of new)) by) ≡ form_nodes by + weighted_args (λ i. uses_form i by) new
-nodes-by by new h =
-    nodes-put (reverse (list_of new)) by 0 (size_of new) (let e = length-reversed new in omega (arith, e)) h
+nodes-by : (by : FormTree) (new : TermTrees) → form_nodes (put_form 0 (reverse (list_of new)) by) ≡ form_nodes by + weighted_args (λ i. uses_form i by) new
+nodes-by by new =
+    nodes-put (reverse (list_of new)) by 0
     ∙ ap (λ n. form_nodes by + n) (weighted-same (λ j. uses_form (j + 0) by) (λ j. uses_form j by) (reverse (list_of new)) (λ j. ap (λ m. uses_form m by) (omega arith)) ∙ weighted-reverse (λ i. uses_form i by) new)
 
-depth-by : (by : FormTree) (new : TermTrees) → BoundForm (size_of new) by → form_depth (put_form 0 (reverse (list_of new)) by) ≡ max (form_depth by) (highest_args (λ i. reach_form i by) new)
-depth-by by new h =
-    depth-put (reverse (list_of new)) by 0 (size_of new) (let e = length-reversed new in omega (arith, e)) h
+depth-by : (by : FormTree) (new : TermTrees) → form_depth (put_form 0 (reverse (list_of new)) by) ≡ max (form_depth by) (highest_args (λ i. reach_form i by) new)
+depth-by by new =
+    depth-put (reverse (list_of new)) by 0
     ∙ ap (λ n. max (form_depth by) n) (highest-same (λ j. reach_form (j + 0) by) (λ j. reach_form j by) (reverse (list_of new)) (λ j. ap (λ m. reach_form m by) (omega arith)) ∙ highest-reverse (λ i. reach_form i by) new)
 
-term_nodes-by : (by : TermTree) (new : TermTrees) → BoundTerm (size_of new) by → term_nodes (put_term 0 (reverse (list_of new)) by) ≡ term_nodes by + weighted_args (λ i. uses_term i by) new
-term_nodes-by by new h =
-    term_nodes-put (reverse (list_of new)) by 0 (size_of new) (let e = length-reversed new in omega (arith, e)) h
+term_nodes-by : (by : TermTree) (new : TermTrees) → term_nodes (put_term 0 (reverse (list_of new)) by) ≡ term_nodes by + weighted_args (λ i. uses_term i by) new
+term_nodes-by by new =
+    term_nodes-put (reverse (list_of new)) by 0
     ∙ ap (λ n. term_nodes by + n) (weighted-same (λ j. uses_term (j + 0) by) (λ j. uses_term j by) (reverse (list_of new)) (λ j. ap (λ m. uses_term m by) (omega arith)) ∙ weighted-reverse (λ i. uses_term i by) new)
 
-term_depth-by : (by : TermTree) (new : TermTrees) → BoundTerm (size_of new) by → term_depth (put_term 0 (reverse (list_of new)) by) ≡ max (term_depth by) (highest_args (λ i. reach_term i by) new)
-term_depth-by by new h =
-    term_depth-put (reverse (list_of new)) by 0 (size_of new) (let e = length-reversed new in omega (arith, e)) h
+term_depth-by : (by : TermTree) (new : TermTrees) → term_depth (put_term 0 (reverse (list_of new)) by) ≡ max (term_depth by) (highest_args (λ i. reach_term i by) new)
+term_depth-by by new =
+    term_depth-put (reverse (list_of new)) by 0
     ∙ ap (λ n. max (term_depth by) n) (highest-same (λ j. reach_term (j + 0) by) (λ j. reach_term j by) (reverse (list_of new)) (λ j. ap (λ m. reach_term m by) (omega arith)) ∙ highest-reverse (λ i. reach_term i by) new)
 
 form_nodes-positive : (p : FormTree) → 1 ≤ form_nodes p
@@ -259,30 +258,28 @@ form_nodes-positive (for_all k p) = omega arith
 form_nodes-positive (for_some k p) = omega arith
 
 -- an atom and an application, where the arguments are counted already
-extent-atom : (c : Change) (q : ℕ) (args new : TermTrees) → RelReady c q (size_of new) → extent_terms c args ≡ extent (terms_nodes new) (terms_depth new) → HasExtents c args new → extent_form c (rel q args) ≡ extent (form_nodes (rel_instance c q new)) (form_depth (rel_instance c q new))
-extent-atom (change_rel r by) q args new ready plain inside = which (q == r) refl
+extent-atom : (c : Change) (q : ℕ) (args new : TermTrees) → extent_terms c args ≡ extent (terms_nodes new) (terms_depth new) → HasExtents c args new → extent_form c (rel q args) ≡ extent (form_nodes (rel_instance c q new)) (form_depth (rel_instance c q new))
+extent-atom (change_rel r by) q args new plain inside = which (q == r) refl
   where
     which : (b : Bool) → (q == r) ≡ b → cond b (extent_instance (change_rel r by) (extent (form_nodes by) (form_depth by)) args) (over (extent_terms (change_rel r by) args)) ≡ extent (form_nodes (cond b (put_form 0 (reverse (list_of new)) by) (rel q new))) (form_depth (cond b (put_form 0 (reverse (list_of new)) by) (rel q new)))
     which true e =
-        let h = ready (eqb-true q r e) in
-        let e1 = nodes-by by new h in
-        let e2 = depth-by by new h in
+        let e1 = nodes-by by new in
+        let e2 = depth-by by new in
         inside (extent (form_nodes by) (form_depth by)) (form_nodes by) (form_depth by) (form_nodes-positive by) refl
         ∙ ap (λ n. extent n (max (form_depth by) (highest_args (λ i. reach_form i by) new))) (sym e1)
         ∙ ap (λ n. extent (form_nodes (put_form 0 (reverse (list_of new)) by)) n) (sym e2)
     which false e = over-one _ _ _ plain
-extent-atom (change_fun g by) q args new ready plain inside = over-one _ _ _ plain
-extent-atom (change_const g index) q args new ready plain inside = over-one _ _ _ plain
+extent-atom (change_fun g by) q args new plain inside = over-one _ _ _ plain
+extent-atom (change_const g index) q args new plain inside = over-one _ _ _ plain
 
-extent-application : (c : Change) (d f : ℕ) (args new : TermTrees) → size_of new ≡ size_of args → AppReady c f (size_of new) → extent_terms c args ≡ extent (terms_nodes new) (terms_depth new) → HasExtents c args new → extent_term c (app f args) ≡ extent (term_nodes (app_instance c d f new)) (term_depth (app_instance c d f new))
+extent-application : (c : Change) (d f : ℕ) (args new : TermTrees) → size_of new ≡ size_of args → AppTakes c f (size_of new) → extent_terms c args ≡ extent (terms_nodes new) (terms_depth new) → HasExtents c args new → extent_term c (app f args) ≡ extent (term_nodes (app_instance c d f new)) (term_depth (app_instance c d f new))
 extent-application (change_rel r by) d f args new count ready plain inside = over-one _ _ _ plain
 extent-application (change_fun g by) d f args new count ready plain inside = which (f == g) refl
   where
     which : (b : Bool) → (f == g) ≡ b → cond b (extent_instance (change_fun g by) (extent (term_nodes by) (term_depth by)) args) (over (extent_terms (change_fun g by) args)) ≡ extent (term_nodes (cond b (put_term 0 (reverse (list_of new)) by) (app f new))) (term_depth (cond b (put_term 0 (reverse (list_of new)) by) (app f new)))
     which true e =
-        let h = ready (eqb-true f g e) in
-        let e1 = term_nodes-by by new h in
-        let e2 = term_depth-by by new h in
+        let e1 = term_nodes-by by new in
+        let e2 = term_depth-by by new in
         inside (extent (term_nodes by) (term_depth by)) (term_nodes by) (term_depth by) (nodes-positive by) refl
         ∙ ap (λ n. extent n (max (term_depth by) (highest_args (λ i. reach_term i by) new))) (sym e1)
         ∙ ap (λ n. extent (term_nodes (put_term 0 (reverse (list_of new)) by)) n) (sym e2)
@@ -303,7 +300,7 @@ module _ (c : Change) where
     extent-form top d h = refl
     extent-form bottom d h = refl
     extent-form (rel q args) d h =
-        extent-atom c q args (changed_terms c d args) (subst (RelReady c q) (sym (size_of-changed c d args)) h.1) (extent-terms args d h.2) (λ whole a b. extent-instance args d h.2 whole a b)
+        extent-atom c q args (changed_terms c d args) (extent-terms args d h.1) (λ whole a b. extent-instance args d h.1 whole a b)
     extent-form (equal a b) d h = over-two _ _ _ _ _ _ (extent-term a d h.0) (extent-term b d h.1)
     extent-form (negation p) d h = over-one _ _ _ (extent-form p d h)
     extent-form (conjunction ps) d h = over-one _ _ _ (extent-forms ps d h)
@@ -320,7 +317,7 @@ module _ (c : Change) where
     extent-term : (t : TermTree) (d : ℕ) → ReadyTerm c t → extent_term c t ≡ extent (term_nodes (changed_term c d t)) (term_depth (changed_term c d t))
     extent-term (bound n) d h = refl
     extent-term (app f args) d h =
-        extent-application c d f args (changed_terms c d args) (size_of-changed c d args) (subst (AppReady c f) (sym (size_of-changed c d args)) h.1) (extent-terms args d h.2) (λ whole a b. extent-instance args d h.2 whole a b)
+        extent-application c d f args (changed_terms c d args) (size_of-by (changing c) d args) (subst (AppTakes c f) (sym (size_of-by (changing c) d args)) h.0.1) (extent-terms args d h.1) (λ whole a b. extent-instance args d h.1 whole a b)
     extent-term (ite p a b) d h = over-three _ _ _ _ _ _ _ _ _ (extent-form p d h.0) (extent-term a d h.1) (extent-term b d h.2)
 
     extent-terms : (ts : TermTrees) (d : ℕ) → ReadyTerms c ts → extent_terms c ts ≡ extent (terms_nodes (changed_terms c d ts)) (terms_depth (changed_terms c d ts))
@@ -334,8 +331,8 @@ module _ (c : Change) where
         let new = changed_term c d t in
         let i = size_of ts in
         let j = size_of (changed_terms c d ts) in
-        let e1 : uses_of c i ≡ uses_of c j = ap (uses_of c) (sym (size_of-changed c d ts)) in
-        let e2 : reach_of c i ≡ reach_of c j = ap (reach_of c) (sym (size_of-changed c d ts)) in
+        let e1 : uses_of c i ≡ uses_of c j = ap (uses_of c) (sym (size_of-by (changing c) d ts)) in
+        let e2 : reach_of c i ≡ reach_of c j = ap (reach_of c) (sym (size_of-by (changing c) d ts)) in
         let e3 : put_in whole (places_of c i) (extent_term c t) ≡ extent (a + uses_of c j * (term_nodes new - 1)) (max b (deepened (reach_of c j) (term_depth new))) =
         ap (λ z. put_in z (places_of c i) (extent_term c t)) is
         ∙ ap (λ z. put_in (extent a b) z (extent_term c t)) (places-of c i)

@@ -1,12 +1,12 @@
 -- A replaced symbol and a changed structure give a formula one truth.
-use Rattle.std.proofs.Common.{◌≡◌, ℕ, ◌<◌, Bool, true, false, ◌==◌, cond, List, length, get_or, refl, sym, ap, ◌∙◌, subst}
+use Rattle.std.proofs.Common.{◌≡◌, ℕ, ◌<◌, Bool, true, false, ◌==◌, cond, List, get_or, refl, sym, ap, ◌∙◌, subst}
 use Rattle.std.specs.Prelude.{reverse}
 use Rattle.std.proofs.lemmas.Bool.{eqb-true, eqb-false}
-use Rattle.fol_sig.specs.Tables.{Tables, IsStructure, InRange, reading, relation_at, function_at, rel_at, fun_at, size_at}
+use Rattle.fol_sig.specs.Tables.{Tables, InRange, reading, relation_at, function_at, rel_at, fun_at, size_at}
 use Rattle.fol_sig.specs.Symbols.{Symbols, FitsStructure}
 use Rattle.fol_sig.specs.Updates.{with_relation, with_function}
 use Rattle.fol_sig.specs.Updates.{UpdatesRelation, UpdatesFunction}
-use Rattle.fol_sig.proofs.Places.{InRange-at}
+use Rattle.fol_sig.specs.Ranges.{RangesAreAlong, FunctionsStayInRange}
 use Rattle.fol_formula.specs.Syntax.{FormTree, TermTree}
 use Rattle.fol_formula.specs.Truth.{truth, value}
 use Rattle.fol_formula.specs.Agree.{Agree, TruthAgrees, ValuesAreInRange}
@@ -17,7 +17,8 @@ use Rattle.fol_subst.specs.Structures.{changed_structure, IsReplacedInStructures
 pub record Updates : Type 0 where
   pub relations : (s : Tables) (r : ℕ) (f : List ℕ → Bool) → UpdatesRelation s r f
   pub functions : (s : Tables) (g : ℕ) (f : List ℕ → ℕ) → UpdatesFunction s g f
-  pub elements : (s : Tables) (f : ℕ) (xs : List ℕ) → IsStructure s → f < length s.functions → InRange s.sizes (function_at s f).sorts xs → fun_at s f xs < size_at s (function_at s f).into
+  pub along : RangesAreAlong
+  pub elements : FunctionsStayInRange
   pub agree : TruthAgrees
   pub in_range : ValuesAreInRange
 
@@ -69,7 +70,7 @@ module _ (laws : Updates) (sig : Symbols) (s : Tables) (fits : FitsStructure sig
   index-fits : (g index : ℕ) (sorts env : List ℕ) → CanChange sig sorts (change_const g index) → InRange s.sizes sorts env → FitsStructure sig (with_function s g (λ tuple. get_or env index 0))
   index-fits g index sorts env can inside =
       (laws.functions s g (λ tuple. get_or env index 0)).fits sig can.0
-      (λ xs h. subst (λ m. get_or env index 0 < size_at s m) (can.3 ∙ fits.into_of g can.0) (InRange-at s.sizes sorts env index inside can.2))
+      (λ xs h. subst (λ m. get_or env index 0 < size_at s m) (can.3 ∙ fits.into_of g can.0) ((laws.along s.sizes sorts env inside).each index can.2))
       fits
 
   agree : (c : Change) (sorts env : List ℕ) → CanChange sig sorts c → InRange s.sizes sorts env → Agree sig s.sizes (updated (reading s) c env) (reading (changed_structure s c env))

@@ -1,5 +1,5 @@
-mod ShiftTruth
-mod ReplaceTruth
+mod Truth
+mod Ready
 mod Fitting
 mod Sizes
 mod Counting

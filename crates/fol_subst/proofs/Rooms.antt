@@ -3,7 +3,7 @@ use Rattle.std.proofs.Common.{◌≡◌, ℕ, zero, suc, ◌+◌, ◌-◌, ◌<�
 use Rattle.std.specs.Prelude.{reverse}
 use Rattle.std.proofs.lemmas.Bool.{cases_lt, eqb-true, eq-eqb, ne_eqb}
 use Rattle.std.proofs.lemmas.Bool.Decides.{nat_tests}
-use Rattle.std.proofs.lemmas.List.{reverse-append, length-reverse, length-map, get_or_append_left, get_or-append-add, get_or-map}
+use Rattle.std.proofs.lemmas.List.{reverse-append, length-reverse, length-map, get_or_append_left, get_or-append-add, get_or-map, get_or_default}
 use Rattle.fol_formula.specs.Syntax.{FormTree, FormTrees, TermTree, TermTrees, top, bottom, rel, equal, negation, conjunction, disjunction, implication, equivalence, for_all, for_some, no_forms, form_then, bound, app, ite, no_terms, term_then, list_of, terms_then, size_of}
 use Rattle.fol_formula.specs.View.{term, terms}
 use Rattle.fol_formula.specs.declared.Term.{Term}
@@ -11,17 +11,16 @@ use Rattle.fol_formula.specs.Fits.{BoundForm, BoundForms, BoundTerm, BoundTerms}
 use Rattle.fol_formula.specs.Counts.{form_nodes, form_depth, forms_depth, term_depth, terms_depth}
 use Rattle.fol_formula.specs.Lists.{TermLists, RowsAreLists}
 use Rattle.fol_subst.specs.Shift.{raised, shift_form, shift_forms, shift_term, shift_terms}
-use Rattle.fol_subst.specs.Replace.{picked, put_form, put_forms, put_term, put_terms, Change, change_rel, change_fun, rel_instance, app_instance, changed_form, changed_terms, changed_term}
+use Rattle.fol_subst.specs.Replace.{picked, put_form, put_forms, put_term, put_terms, Change, change_rel, change_fun, rel_instance, app_instance, changing, changed_form, changed_terms, changed_term}
 use Rattle.fol_subst.specs.Limits.{is_too_large, IndicesFit, IndicesFitAll, IndicesFitTerm, IndicesFitTerms}
-use Rattle.fol_subst.specs.Room.{RoomForm, RoomForms, RoomTerm, RoomTerms, ReadyTerm, ReadyTerms, RelReady, AppReady}
+use Rattle.fol_subst.specs.Room.{RoomForm, RoomForms, RoomTerm, RoomTerms, ReadyTerm, ReadyTerms, RelTakes, AppTakes}
 use Rattle.fol_subst.specs.Extents.{places_of, put_in, extent_term, extent_instance}
 use Rattle.fol_subst.specs.declared.extent.Extent.{Extent}
 use Rattle.fol_subst.specs.Kept.{kept, kept_one}
 use Rattle.fol_formula.specs.Closed.{FitsIsBound}
-use Rattle.fol_subst.specs.Outcome.{ShortListsSuffice}
+use Rattle.fol_subst.specs.Outcome.{ShortListsSuffice, ShortListsAllowShifts}
 use Rattle.fol_subst.proofs.Fitting.{changed-fits}
-use Rattle.fol_subst.proofs.ShiftTruth.{raised-below, raised-above}
-use Rattle.fol_subst.proofs.ReplaceTruth.{picked-below, picked-above, length-list_of, size_of-changed, reversed_args}
+use Rattle.fol_subst.proofs.Truth.{raised-below, raised-above, argument, picked-below, picked-above, length-list_of, map-reverse, size_of-by}
 use Rattle.fol_subst.proofs.Sizes.{below, reach_form, reach_forms, reach_term, reach_terms, under_suc}
 use Rattle.fol_subst.proofs.Counting.{reach_of, places-of}
 
@@ -143,8 +142,11 @@ index-reach i n h = which (i == n) refl h
     which true e l = eqb-true i n e
     which false e l = absurd (omega arith)
 
+argument-inside : (xs : List TermTree) (j : ℕ) → j < length xs → argument xs j ≡ get_or xs j (bound 0)
+argument-inside xs j inside = get_or_default xs j _ (bound 0) inside
+
 -- an argument that is put in has room where the whole has
-module _ (xs : List TermTree) (j d : ℕ) where
+module _ (xs : List TermTree) (j d : ℕ) (inside : j < length xs) where
   abbrev Argument : Type 0
   Argument = RoomTerm d (get_or xs j (bound 0))
 
@@ -170,8 +172,8 @@ module _ (xs : List TermTree) (j d : ℕ) where
     used-term (bound i) e h u =
         let is = index-reach i (j + e) u in
         let at : i - e ≡ j = omega (arith, is) in
-        subst (λ n. RoomTerm d (get_or xs n (bound 0))) at
-        (unshifted-term (get_or xs (i - e) (bound 0)) 0 e d (less-term _ d (d + e) (subst (RoomTerm (d + e)) (picked-above e xs i (omega (arith, is))) h) (omega arith)))
+        subst (RoomTerm d) (ap (argument xs) at ∙ argument-inside xs j inside)
+        (unshifted-term (argument xs (i - e)) 0 e d (less-term _ d (d + e) (subst (RoomTerm (d + e)) (picked-above e xs i (omega (arith, is))) h) (omega arith)))
     used-term (app f args) e h u = used-terms args e h (some-below _ u)
     used-term (ite p a b) e h u =
         ⊎_elim
@@ -186,7 +188,7 @@ module _ (xs : List TermTree) (j d : ℕ) where
 -- arguments that agree wherever they are used make one result
 module _ (xs ys : List TermTree) where
   abbrev AgreeAt : (ℕ → ℕ) → Type 0
-  AgreeAt f = (j : ℕ) → j < length xs → 0 < f j → get_or xs j (bound 0) ≡ get_or ys j (bound 0)
+  AgreeAt f = (j : ℕ) → j < length xs → 0 < f j → argument xs j ≡ argument ys j
 
   mutual
     same-form : (p : FormTree) (e n : ℕ) → n ≡ e + length xs → BoundForm n p → AgreeAt (λ j. reach_form (j + e) p) → put_form e xs p ≡ put_form e ys p
@@ -240,6 +242,10 @@ module _ (xs ys : List TermTree) where
         let e2 = same-terms ts e n is h.1 (λ j lt u. s j lt (omega (arith, u))) in
         cc (e1, e2)
 
+-- the arguments in reverse order
+reversed_args : RowsAreLists → (ts : List Term) (a : TermTrees) → terms ts ≡ a → map term (reverse ts) ≡ reverse (list_of a)
+reversed_args rows ts a e = map-reverse term ts ∙ ap reverse (sym (rows.term_list ts) ∙ ap list_of e)
+
 size_of-kept : (c : Change) (ts : TermTrees) → size_of (kept c ts) ≡ size_of ts
 size_of-kept c no_terms = refl
 size_of-kept c (term_then t ts) = ap suc (size_of-kept c ts)
@@ -282,6 +288,13 @@ kept-argument c (term_then t ts) j lt u =
     ∙ ap (λ n. get_or (reverse (list_of (term_then t ts))) n (bound 0)) (sym at))
     (cases_lt j (size_of ts))
 
+kept-same : (c : Change) (ts : TermTrees) (j : ℕ) → j < length (reverse (list_of (kept c ts))) → 0 < reach_of c j → argument (reverse (list_of (kept c ts))) j ≡ argument (reverse (list_of ts)) j
+kept-same c ts j lt u =
+    let n = length-reversed (kept c ts) in
+    let m = size_of-kept c ts in
+    let l = length-reversed ts in
+    argument-inside (reverse (list_of (kept c ts))) j lt ∙ kept-argument c ts j (omega (arith, lt, n, m)) u ∙ sym (argument-inside (reverse (list_of ts)) j (omega (arith, lt, n, m, l)))
+
 kept-room : (c : Change) (d : ℕ) (ts : TermTrees) → ((j : ℕ) → j < size_of ts → 0 < reach_of c j → RoomTerm d (get_or (reverse (list_of ts)) j (bound 0))) → RoomTerms d (kept c ts)
 kept-room c d no_terms h = tt
 kept-room c d (term_then t ts) h =
@@ -321,7 +334,7 @@ built-form rows r by depth new all ts ready room is made =
     let args : map term ts ≡ reverse (list_of (kept c new)) = ap (map term) is ∙ reversed_args rows all (kept c new) made in
     let same : put_form 0 (reverse (list_of (kept c new))) by ≡ put_form 0 (reverse (list_of new)) by =
     same-form (reverse (list_of (kept c new))) (reverse (list_of new)) by 0 (size_of new) (let e1 = length-reversed (kept c new) in let e2 = size_of-kept c new in omega (arith, e1, e2)) ready
-    (λ j lt u. kept-argument c new j (let e1 = length-reversed (kept c new) in let e2 = size_of-kept c new in omega (arith, e1, e2, lt)) (subst (λ m. 0 < reach_form m by) (let e : j + 0 ≡ j = omega arith in e) u)) in
+    (λ j lt u. kept-same c new j lt (subst (λ m. 0 < reach_form m by) (let e : j + 0 ≡ j = omega arith in e) u)) in
     let whole : put_form 0 (map term ts) by ≡ put_form 0 (reverse (list_of new)) by = ap (λ z. put_form 0 z by) args ∙ same in
     record {
       bound = subst (λ n. BoundForm n by) (reversed-length rows c all ts new is made) ready;
@@ -335,7 +348,7 @@ built-term rows g by depth new all ts ready room is made =
     let args : map term ts ≡ reverse (list_of (kept c new)) = ap (map term) is ∙ reversed_args rows all (kept c new) made in
     let same : put_term 0 (reverse (list_of (kept c new))) by ≡ put_term 0 (reverse (list_of new)) by =
     same-term (reverse (list_of (kept c new))) (reverse (list_of new)) by 0 (size_of new) (let e1 = length-reversed (kept c new) in let e2 = size_of-kept c new in omega (arith, e1, e2)) ready
-    (λ j lt u. kept-argument c new j (let e1 = length-reversed (kept c new) in let e2 = size_of-kept c new in omega (arith, e1, e2, lt)) (subst (λ m. 0 < reach_term m by) (let e : j + 0 ≡ j = omega arith in e) u)) in
+    (λ j lt u. kept-same c new j lt (subst (λ m. 0 < reach_term m by) (let e : j + 0 ≡ j = omega arith in e) u)) in
     let whole : put_term 0 (map term ts) by ≡ put_term 0 (reverse (list_of new)) by = ap (λ z. put_term 0 z by) args ∙ same in
     record {
       bound = subst (λ n. BoundTerm n by) (reversed-length rows c all ts new is made) ready;
@@ -347,17 +360,17 @@ built-term rows g by depth new all ts ready room is made =
 pub kept_room-form : (r : ℕ) (by : FormTree) (depth : ℕ) (new : TermTrees) → RoomForm depth (put_form 0 (reverse (list_of new)) by) → RoomTerms depth (kept (change_rel r by) new)
 kept_room-form r by depth new room =
     kept-room (change_rel r by) depth new (λ j lt u.
-    used-form (reverse (list_of new)) j depth by 0 (subst (λ n. RoomForm n (put_form 0 (reverse (list_of new)) by)) (let e : depth ≡ depth + 0 = omega arith in e) room) (subst (λ m. 0 < reach_form m by) (let e : j ≡ j + 0 = omega arith in e) u))
+    used-form (reverse (list_of new)) j depth (let e = length-reversed new in omega (arith, lt, e)) by 0 (subst (λ n. RoomForm n (put_form 0 (reverse (list_of new)) by)) (let e : depth ≡ depth + 0 = omega arith in e) room) (subst (λ m. 0 < reach_form m by) (let e : j ≡ j + 0 = omega arith in e) u))
 
 pub kept_room-term : (g : ℕ) (by : TermTree) (depth : ℕ) (new : TermTrees) → RoomTerm depth (put_term 0 (reverse (list_of new)) by) → RoomTerms depth (kept (change_fun g by) new)
 kept_room-term g by depth new room =
     kept-room (change_fun g by) depth new (λ j lt u.
-    used-term (reverse (list_of new)) j depth by 0 (subst (λ n. RoomTerm n (put_term 0 (reverse (list_of new)) by)) (let e : depth ≡ depth + 0 = omega arith in e) room) (subst (λ m. 0 < reach_term m by) (let e : j ≡ j + 0 = omega arith in e) u))
+    used-term (reverse (list_of new)) j depth (let e = length-reversed new in omega (arith, lt, e)) by 0 (subst (λ n. RoomTerm n (put_term 0 (reverse (list_of new)) by)) (let e : depth ≡ depth + 0 = omega arith in e) room) (subst (λ m. 0 < reach_term m by) (let e : j ≡ j + 0 = omega arith in e) u))
 
 -- the argument that an index means
 pub picked-room : (depth i : ℕ) (args : List Term) (x : Term) → depth ≤ i → i - depth < length args → x ≡ get_or args (i - depth) x → RoomTerm depth (picked depth (map term args) i) → RoomTerm 0 (shift_term 0 depth (term x))
 picked-room depth i args x above inside is room =
-    let at : get_or (map term args) (i - depth) (bound 0) ≡ term x = get_or-map term args (i - depth) x (bound 0) inside ∙ ap term (sym is) in
+    let at : argument (map term args) (i - depth) ≡ term x = get_or-map term args (i - depth) x _ inside ∙ ap term (sym is) in
     less-term (shift_term 0 depth (term x)) 0 depth (subst (RoomTerm depth) (picked-above depth (map term args) i above ∙ ap (shift_term 0 depth) at) room) (omega arith)
 
 -- for the change as the code has it
@@ -369,19 +382,19 @@ pub kept_room-application : (c : Change) (g f depth : ℕ) (by : TermTree) (new 
 kept_room-application c g f depth by new is at room =
     subst (λ z. RoomTerms depth (kept z new)) (sym is) (kept_room-term g by depth new (subst (RoomTerm depth) (ap (λ z. app_instance z depth f new) is ∙ ap (λ b. cond b (put_term 0 (reverse (list_of new)) by) (app f new)) (eq-eqb f g at)) room))
 
-pub built-atom : RowsAreLists → (c : Change) (r q depth : ℕ) (by : FormTree) (args : TermTrees) (all ts : List Term) → c ≡ change_rel r by → q ≡ r → RelReady c q (size_of args) → RoomForm depth (rel_instance c q (changed_terms c depth args)) → ts ≡ reverse all → terms all ≡ kept c (changed_terms c depth args) → BuiltForm by ts (rel_instance c q (changed_terms c depth args))
+pub built-atom : RowsAreLists → (c : Change) (r q depth : ℕ) (by : FormTree) (args : TermTrees) (all ts : List Term) → c ≡ change_rel r by → q ≡ r → RelTakes c q (size_of args) → RoomForm depth (rel_instance c q (changed_terms c depth args)) → ts ≡ reverse all → terms all ≡ kept c (changed_terms c depth args) → BuiltForm by ts (rel_instance c q (changed_terms c depth args))
 built-atom rows c r q depth by args all ts is at ready room rev made =
     let new = changed_terms c depth args in
     let here : rel_instance c q new ≡ put_form 0 (reverse (list_of new)) by = ap (λ z. rel_instance z q new) is ∙ ap (λ b. cond b (put_form 0 (reverse (list_of new)) by) (rel q new)) (eq-eqb q r at) in
     subst (BuiltForm by ts) (sym here)
-    (built-form rows r by depth new all ts (subst (λ n. BoundForm n by) (sym (size_of-changed c depth args)) (subst (λ z. RelReady z q (size_of args)) is ready at)) (subst (RoomForm depth) here room) rev (made ∙ ap (λ z. kept z new) is))
+    (built-form rows r by depth new all ts (subst (λ n. BoundForm n by) (sym (size_of-by (changing c) depth args)) (subst (λ z. RelTakes z q (size_of args)) is ready at)) (subst (RoomForm depth) here room) rev (made ∙ ap (λ z. kept z new) is))
 
-pub built-application : RowsAreLists → (c : Change) (g f depth : ℕ) (by : TermTree) (args : TermTrees) (all ts : List Term) → c ≡ change_fun g by → f ≡ g → AppReady c f (size_of args) → RoomTerm depth (app_instance c depth f (changed_terms c depth args)) → ts ≡ reverse all → terms all ≡ kept c (changed_terms c depth args) → BuiltTerm by ts (app_instance c depth f (changed_terms c depth args))
+pub built-application : RowsAreLists → (c : Change) (g f depth : ℕ) (by : TermTree) (args : TermTrees) (all ts : List Term) → c ≡ change_fun g by → f ≡ g → AppTakes c f (size_of args) → RoomTerm depth (app_instance c depth f (changed_terms c depth args)) → ts ≡ reverse all → terms all ≡ kept c (changed_terms c depth args) → BuiltTerm by ts (app_instance c depth f (changed_terms c depth args))
 built-application rows c g f depth by args all ts is at ready room rev made =
     let new = changed_terms c depth args in
     let here : app_instance c depth f new ≡ put_term 0 (reverse (list_of new)) by = ap (λ z. app_instance z depth f new) is ∙ ap (λ b. cond b (put_term 0 (reverse (list_of new)) by) (app f new)) (eq-eqb f g at) in
     subst (BuiltTerm by ts) (sym here)
-    (built-term rows g by depth new all ts (subst (λ n. BoundTerm n by) (sym (size_of-changed c depth args)) (subst (λ z. AppReady z f (size_of args)) is ready at)) (subst (RoomTerm depth) here room) rev (made ∙ ap (λ z. kept z new) is))
+    (built-term rows g by depth new all ts (subst (λ n. BoundTerm n by) (sym (size_of-by (changing c) depth args)) (subst (λ z. AppTakes z f (size_of args)) is ready at)) (subst (RoomTerm depth) here room) rev (made ∙ ap (λ z. kept z new) is))
 
 -- one turn of the loop over the arguments
 pub args-drop : RowsAreLists → (ts : List Term) (index i : ℕ) (t : Term) → length ts ≤ 8 → index + i ≡ length ts → i < length ts → size_of (terms (drop (i + 1) ts)) ≡ index - 1
@@ -392,7 +405,7 @@ kept-more lists c depth ts all all' i j t x whole lt is size pushed made before 
     let rest = changed_terms c depth (terms (drop (i + 1) ts)) in
     ap (λ z. terms_then (map term z) (kept c rest)) pushed
     ∙ lists.pushed all x (kept c rest)
-    ∙ ap (λ z. terms_then (map term all) (term_then z (kept c rest))) (made ∙ ap (λ n. kept_one c n (changed_term c depth (term t))) (sym size ∙ sym (size_of-changed c depth (terms (drop (i + 1) ts)))))
+    ∙ ap (λ z. terms_then (map term all) (term_then z (kept c rest))) (made ∙ ap (λ n. kept_one c n (changed_term c depth (term t))) (sym size ∙ sym (size_of-by (changing c) depth (terms (drop (i + 1) ts)))))
     ∙ ap (λ z. terms_then (map term all) (kept c (changed_terms c depth z))) (sym (lists.left ts i t lt is))
     ∙ before
 
@@ -405,7 +418,7 @@ pub turn-room : TermLists → (c : Change) (depth : ℕ) (ts : List Term) (i j :
 turn-room lists c depth ts i j t lt is size room =
     let h = subst (λ z. RoomTerms depth (kept c (changed_terms c depth z))) (lists.left ts i t lt is) room in
     record {
-      here = subst (λ n. RoomTerm depth (kept_one c n (changed_term c depth (term t)))) (size_of-changed c depth (terms (drop (i + 1) ts)) ∙ size) h.0;
+      here = subst (λ n. RoomTerm depth (kept_one c n (changed_term c depth (term t)))) (size_of-by (changing c) depth (terms (drop (i + 1) ts)) ∙ size) h.0;
       rest = h.1;
     }
 
@@ -457,14 +470,54 @@ mutual
   bound-indices-terms no_terms n h l = tt
   bound-indices-terms (term_then t ts) n h l = (bound-indices-term t n h.0 (omega arith), bound-indices-terms ts n h.1 (omega arith))
 
+-- a shift raises no index by more than it shifts
+raised-within : (from by i n m : ℕ) → m ≡ n + by → i < n → raised from by i < m
+raised-within from by i n m is lt =
+    ⊎_elim
+    (λ (l : i < from). let e = raised-below from by i l in omega (arith, e))
+    (λ (l : from ≤ i). let e = raised-above from by i l in omega (arith, e))
+    (cases_lt i from)
+
+module _ (by : ℕ) where
+  mutual
+    bound-shifted : (p : FormTree) (from n m : ℕ) → m ≡ n + by → BoundForm n p → BoundForm m (shift_form from by p)
+    bound-shifted top from n m is h = tt
+    bound-shifted bottom from n m is h = tt
+    bound-shifted (rel r args) from n m is h = bound_terms-shifted args from n m is h
+    bound-shifted (equal a b) from n m is h = (bound_term-shifted a from n m is h.0, bound_term-shifted b from n m is h.1)
+    bound-shifted (negation p) from n m is h = bound-shifted p from n m is h
+    bound-shifted (conjunction ps) from n m is h = bound_forms-shifted ps from n m is h
+    bound-shifted (disjunction ps) from n m is h = bound_forms-shifted ps from n m is h
+    bound-shifted (implication p q) from n m is h = (bound-shifted p from n m is h.0, bound-shifted q from n m is h.1)
+    bound-shifted (equivalence p q) from n m is h = (bound-shifted p from n m is h.0, bound-shifted q from n m is h.1)
+    bound-shifted (for_all k p) from n m is h = bound-shifted p (suc from) (suc n) (suc m) (omega arith) h
+    bound-shifted (for_some k p) from n m is h = bound-shifted p (suc from) (suc n) (suc m) (omega arith) h
+
+    bound_forms-shifted : (ps : FormTrees) (from n m : ℕ) → m ≡ n + by → BoundForms n ps → BoundForms m (shift_forms from by ps)
+    bound_forms-shifted no_forms from n m is h = tt
+    bound_forms-shifted (form_then p ps) from n m is h = (bound-shifted p from n m is h.0, bound_forms-shifted ps from n m is h.1)
+
+    bound_term-shifted : (t : TermTree) (from n m : ℕ) → m ≡ n + by → BoundTerm n t → BoundTerm m (shift_term from by t)
+    bound_term-shifted (bound i) from n m is h = raised-within from by i n m is h
+    bound_term-shifted (app f args) from n m is h = bound_terms-shifted args from n m is h
+    bound_term-shifted (ite p a b) from n m is h = (bound-shifted p from n m is h.0, bound_term-shifted a from n m is h.1, bound_term-shifted b from n m is h.2)
+
+    bound_terms-shifted : (ts : TermTrees) (from n m : ℕ) → m ≡ n + by → BoundTerms n ts → BoundTerms m (shift_terms from by ts)
+    bound_terms-shifted no_terms from n m is h = tt
+    bound_terms-shifted (term_then t ts) from n m is h = (bound_term-shifted t from n m is h.0, bound_terms-shifted ts from n m is h.1)
+
+small_indices : (p : FormTree) (n : ℕ) → BoundForm n p → n + 1000 ≤ 2 ^ 32 → is_too_large p ≡ false → IndicesFit p
+small_indices p n h l small = let e = shallow (form_nodes p) (form_depth p) small in bound-indices p n h (omega (arith, e, l))
+
 pub short_lists_suffice : FitsIsBound → ShortListsSuffice
 short_lists_suffice bound_form sig sorts within c h can l = record {
   sig = sig;
   sorts = sorts;
   within_fits = h;
   change_fits = can;
-  indices = λ small.
-      let new = changed_form c 0 within in
-      let e = shallow (form_nodes new) (form_depth new) small in
-      bound-indices new (length sorts) (bound_form sig sorts new (changed-fits sig sorts c can within [] h)) (omega (arith, e, l));
+  indices = λ small. small_indices (changed_form c 0 within) (length sorts) (bound_form sig sorts (changed_form c 0 within) (changed-fits sig sorts c can within h)) l small;
 }
+
+pub short_lists_allow_shifts : FitsIsBound → ShortListsAllowShifts
+short_lists_allow_shifts bound_form sig sorts within from by h l = λ small.
+    small_indices (shift_form from by within) (length sorts + by) (bound-shifted by within from (length sorts) (length sorts + by) refl (bound_form sig sorts within h)) l small

@@ -1,68 +1,105 @@
--- How large a formula is where arguments stand in the place of parameters.
-use Rattle.std.proofs.Common.{◌≡◌, ℕ, zero, suc, ◌+◌, ◌-◌, ◌*◌, ◌<◌, ◌≤◌, ◌==◌, cond, max, List, [], ◌∷◌, length, get_or, refl, ap, ◌∙◌, ⊎_elim, arith}
-use Rattle.std.proofs.lemmas.Bool.{cases_lt, eq-eqb, ne_eqb}
+-- How large a formula is that is shifted, or where arguments stand in the place of parameters.
+use Rattle.std.proofs.Common.{◌≡◌, ℕ, zero, suc, ◌+◌, ◌-◌, ◌*◌, ◌<◌, ◌≤◌, ◌==◌, cond, max, List, [], ◌∷◌, length, get_or, Bool, true, false, refl, sym, ap, ◌∙◌, subst, ⊎_elim, arith}
+use Rattle.std.proofs.lemmas.Bool.{cases_lt, eq-eqb, eqb-true, ne_eqb}
 use Rattle.std.proofs.Math.Nat.{add-mul}
-use Rattle.fol_formula.specs.Syntax.{FormTree, FormTrees, TermTree, TermTrees, top, bottom, rel, equal, negation, conjunction, disjunction, implication, equivalence, for_all, for_some, no_forms, form_then, bound, app, ite, no_terms, term_then}
-use Rattle.fol_formula.specs.Fits.{BoundForm, BoundForms, BoundTerm, BoundTerms}
+use Rattle.fol_formula.specs.Syntax.{FormTree, FormTrees, TermTree, TermTrees, top, bottom, rel, equal, negation, conjunction, disjunction, implication, equivalence, for_all, for_some, no_forms, form_then, bound, app, ite, no_terms, term_then, size_of}
 use Rattle.fol_formula.specs.Counts.{form_nodes, forms_nodes, term_nodes, terms_nodes, form_depth, forms_depth, term_depth, terms_depth}
-use Rattle.fol_subst.specs.Shift.{shift_form, shift_forms, shift_term, shift_terms}
-use Rattle.fol_subst.specs.Replace.{picked, put_form, put_forms, put_term, put_terms}
-use Rattle.fol_subst.proofs.ReplaceTruth.{picked-below, picked-above}
+use Rattle.fol_subst.specs.Rules.{Rules, form_by, forms_by, term_by, terms_by, EachForm, EachForms, EachTerm, EachTerms}
+use Rattle.fol_subst.specs.Shift.{shifting, shift_form, shift_term}
+use Rattle.fol_subst.specs.Replace.{picked, put_form, put_forms, put_term, put_terms, change_const, changing, changed_form}
+use Rattle.fol_subst.specs.Room.{RelReady, AppReady, ReadyForm}
+use Rattle.fol_subst.proofs.Truth.{argument, picked-below, picked-above, size_of-by, Any, any-form, any-term}
 
--- shifting keeps the size
-mutual
-  pub nodes-shift : (p : FormTree) (from by : ℕ) → form_nodes (shift_form from by p) ≡ form_nodes p
-  nodes-shift top from by = refl
-  nodes-shift bottom from by = refl
-  nodes-shift (rel r args) from by = ap (λ n. n + 1) (terms_nodes-shift args from by)
-  nodes-shift (equal a b) from by = let e1 = term_nodes-shift a from by in let e2 = term_nodes-shift b from by in cc (e1, e2)
-  nodes-shift (negation p) from by = ap (λ n. n + 1) (nodes-shift p from by)
-  nodes-shift (conjunction ps) from by = ap (λ n. n + 1) (forms_nodes-shift ps from by)
-  nodes-shift (disjunction ps) from by = ap (λ n. n + 1) (forms_nodes-shift ps from by)
-  nodes-shift (implication p q) from by = let e1 = nodes-shift p from by in let e2 = nodes-shift q from by in cc (e1, e2)
-  nodes-shift (equivalence p q) from by = let e1 = nodes-shift p from by in let e2 = nodes-shift q from by in cc (e1, e2)
-  nodes-shift (for_all k p) from by = ap (λ n. n + 1) (nodes-shift p (suc from) by)
-  nodes-shift (for_some k p) from by = ap (λ n. n + 1) (nodes-shift p (suc from) by)
+-- these nodes and this depth are those
+pub record Same (n d n' d' : ℕ) : Type 0 where
+  pub nodes : n ≡ n'
+  pub depth : d ≡ d'
 
-  forms_nodes-shift : (ps : FormTrees) (from by : ℕ) → forms_nodes (shift_forms from by ps) ≡ forms_nodes ps
-  forms_nodes-shift no_forms from by = refl
-  forms_nodes-shift (form_then p ps) from by = let e1 = nodes-shift p from by in let e2 = forms_nodes-shift ps from by in cc (e1, e2)
+followed : {n d n' d' m e : ℕ} → Same n d n' d' → Same n' d' m e → Same n d m e
+followed x y = record { nodes = x.nodes ∙ y.nodes; depth = x.depth ∙ y.depth }
 
-  pub term_nodes-shift : (t : TermTree) (from by : ℕ) → term_nodes (shift_term from by t) ≡ term_nodes t
-  term_nodes-shift (bound i) from by = refl
-  term_nodes-shift (app f args) from by = ap (λ n. n + 1) (terms_nodes-shift args from by)
-  term_nodes-shift (ite p a b) from by = let e1 = nodes-shift p from by in let e2 = term_nodes-shift a from by in let e3 = term_nodes-shift b from by in cc (e1, e2, e3)
+over : {n d n' d' : ℕ} → Same n d n' d' → Same (n + 1) (d + 1) (n' + 1) (d' + 1)
+over x = record { nodes = ap (λ z. z + 1) x.nodes; depth = ap (λ z. z + 1) x.depth }
 
-  terms_nodes-shift : (ts : TermTrees) (from by : ℕ) → terms_nodes (shift_terms from by ts) ≡ terms_nodes ts
-  terms_nodes-shift no_terms from by = refl
-  terms_nodes-shift (term_then t ts) from by = let e1 = term_nodes-shift t from by in let e2 = terms_nodes-shift ts from by in cc (e1, e2)
+beside : {n d n' d' m e m' e' : ℕ} → Same n d n' d' → Same m e m' e' → Same (n + m) (max d e) (n' + m') (max d' e')
+beside {n' = n'} {d' = d'} {m = m} {e = e} x y = record {
+  nodes = ap (λ z. z + m) x.nodes ∙ ap (λ z. n' + z) y.nodes;
+  depth = ap (λ z. max z e) x.depth ∙ ap (λ z. max d' z) y.depth;
+}
 
-mutual
-  pub depth-shift : (p : FormTree) (from by : ℕ) → form_depth (shift_form from by p) ≡ form_depth p
-  depth-shift top from by = refl
-  depth-shift bottom from by = refl
-  depth-shift (rel r args) from by = ap (λ n. n + 1) (terms_depth-shift args from by)
-  depth-shift (equal a b) from by = let e1 = term_depth-shift a from by in let e2 = term_depth-shift b from by in cc (e1, e2)
-  depth-shift (negation p) from by = ap (λ n. n + 1) (depth-shift p from by)
-  depth-shift (conjunction ps) from by = ap (λ n. n + 1) (forms_depth-shift ps from by)
-  depth-shift (disjunction ps) from by = ap (λ n. n + 1) (forms_depth-shift ps from by)
-  depth-shift (implication p q) from by = let e1 = depth-shift p from by in let e2 = depth-shift q from by in cc (e1, e2)
-  depth-shift (equivalence p q) from by = let e1 = depth-shift p from by in let e2 = depth-shift q from by in cc (e1, e2)
-  depth-shift (for_all k p) from by = ap (λ n. n + 1) (depth-shift p (suc from) by)
-  depth-shift (for_some k p) from by = ap (λ n. n + 1) (depth-shift p (suc from) by)
+-- rules that keep nodes and depth
+pub record KeepsSize (rules : Rules) (R F : ℕ → ℕ → Type 0) : Type 0 where
+  pub index : (depth i : ℕ) → Same (term_nodes (rules.index depth i)) (term_depth (rules.index depth i)) 1 1
+  pub relation : (q : ℕ) (args : TermTrees) → R q (size_of args) → Same (form_nodes (rules.relation q args)) (form_depth (rules.relation q args)) (terms_nodes args + 1) (terms_depth args + 1)
+  pub function : (depth f : ℕ) (args : TermTrees) → F f (size_of args) → Same (term_nodes (rules.function depth f args)) (term_depth (rules.function depth f args)) (terms_nodes args + 1) (terms_depth args + 1)
 
-  forms_depth-shift : (ps : FormTrees) (from by : ℕ) → forms_depth (shift_forms from by ps) ≡ forms_depth ps
-  forms_depth-shift no_forms from by = refl
-  forms_depth-shift (form_then p ps) from by = let e1 = depth-shift p from by in let e2 = forms_depth-shift ps from by in cc (e1, e2)
+module _ (rules : Rules) (R F : ℕ → ℕ → Type 0) (keeps : KeepsSize rules R F) where
+  mutual
+    pub size-by : (p : FormTree) (depth : ℕ) → EachForm R F p → Same (form_nodes (form_by rules depth p)) (form_depth (form_by rules depth p)) (form_nodes p) (form_depth p)
+    size-by top depth h = record { nodes = refl; depth = refl }
+    size-by bottom depth h = record { nodes = refl; depth = refl }
+    size-by (rel q args) depth h =
+        followed (keeps.relation q (terms_by rules depth args) (subst (R q) (sym (size_of-by rules depth args)) h.0)) (over (size_terms-by args depth h.1))
+    size-by (equal a b) depth h = over (beside (size_term-by a depth h.0) (size_term-by b depth h.1))
+    size-by (negation p) depth h = over (size-by p depth h)
+    size-by (conjunction ps) depth h = over (size_forms-by ps depth h)
+    size-by (disjunction ps) depth h = over (size_forms-by ps depth h)
+    size-by (implication p q) depth h = over (beside (size-by p depth h.0) (size-by q depth h.1))
+    size-by (equivalence p q) depth h = over (beside (size-by p depth h.0) (size-by q depth h.1))
+    size-by (for_all k p) depth h = over (size-by p (suc depth) h)
+    size-by (for_some k p) depth h = over (size-by p (suc depth) h)
 
-  pub term_depth-shift : (t : TermTree) (from by : ℕ) → term_depth (shift_term from by t) ≡ term_depth t
-  term_depth-shift (bound i) from by = refl
-  term_depth-shift (app f args) from by = ap (λ n. n + 1) (terms_depth-shift args from by)
-  term_depth-shift (ite p a b) from by = let e1 = depth-shift p from by in let e2 = term_depth-shift a from by in let e3 = term_depth-shift b from by in cc (e1, e2, e3)
+    size_forms-by : (ps : FormTrees) (depth : ℕ) → EachForms R F ps → Same (forms_nodes (forms_by rules depth ps)) (forms_depth (forms_by rules depth ps)) (forms_nodes ps) (forms_depth ps)
+    size_forms-by no_forms depth h = record { nodes = refl; depth = refl }
+    size_forms-by (form_then p ps) depth h = beside (size-by p depth h.0) (size_forms-by ps depth h.1)
 
-  terms_depth-shift : (ts : TermTrees) (from by : ℕ) → terms_depth (shift_terms from by ts) ≡ terms_depth ts
-  terms_depth-shift no_terms from by = refl
-  terms_depth-shift (term_then t ts) from by = let e1 = term_depth-shift t from by in let e2 = terms_depth-shift ts from by in cc (e1, e2)
+    pub size_term-by : (t : TermTree) (depth : ℕ) → EachTerm R F t → Same (term_nodes (term_by rules depth t)) (term_depth (term_by rules depth t)) (term_nodes t) (term_depth t)
+    size_term-by (bound i) depth h = keeps.index depth i
+    size_term-by (app f args) depth h =
+        followed (keeps.function depth f (terms_by rules depth args) (subst (F f) (sym (size_of-by rules depth args)) h.0)) (over (size_terms-by args depth h.1))
+    size_term-by (ite p a b) depth h =
+        let x = size-by p depth h.0 in
+        let y = beside (size_term-by a depth h.1) (size_term-by b depth h.2) in
+        record { nodes = let e = x.nodes in let e' = y.nodes in omega (arith, e, e'); depth = (over (beside x y)).depth }
+
+    size_terms-by : (ts : TermTrees) (depth : ℕ) → EachTerms R F ts → Same (terms_nodes (terms_by rules depth ts)) (terms_depth (terms_by rules depth ts)) (terms_nodes ts) (terms_depth ts)
+    size_terms-by no_terms depth h = record { nodes = refl; depth = refl }
+    size_terms-by (term_then t ts) depth h = beside (size_term-by t depth h.0) (size_terms-by ts depth h.1)
+
+same : (n d : ℕ) → Same n d n d
+same n d = record { nodes = refl; depth = refl }
+
+shift_keeps : (by : ℕ) → KeepsSize (shifting by) Any Any
+shift_keeps by = record {
+  index = λ depth i. same 1 1;
+  relation = λ q args h. same (terms_nodes args + 1) (terms_depth args + 1);
+  function = λ depth f args h. same (terms_nodes args + 1) (terms_depth args + 1);
+}
+
+pub size-shifted : (p : FormTree) (from by : ℕ) → Same (form_nodes (shift_form from by p)) (form_depth (shift_form from by p)) (form_nodes p) (form_depth p)
+size-shifted p from by = size-by (shifting by) Any Any (shift_keeps by) p from (any-form p)
+
+size_term-shifted : (t : TermTree) (from by : ℕ) → Same (term_nodes (shift_term from by t)) (term_depth (shift_term from by t)) (term_nodes t) (term_depth t)
+size_term-shifted t from by = size_term-by (shifting by) Any Any (shift_keeps by) t from (any-term t)
+
+-- a bound variable in the place of a program variable
+index_keeps : (g index : ℕ) → KeepsSize (changing (change_const g index)) (RelReady (change_const g index)) (AppReady (change_const g index))
+index_keeps g index = record {
+  index = λ depth i. same 1 1;
+  relation = λ q args h. same (terms_nodes args + 1) (terms_depth args + 1);
+  function = λ depth f args h. which depth f args (f == g) refl h.1;
+}
+  where
+    none : (args : TermTrees) → size_of args ≡ 0 → Same 1 1 (terms_nodes args + 1) (terms_depth args + 1)
+    none no_terms e = same 1 1
+    none (term_then t ts) e = absurd (omega arith)
+
+    which : (depth f : ℕ) (args : TermTrees) (b : Bool) → (f == g) ≡ b → (f ≡ g → size_of args ≡ 0) → Same (term_nodes (cond b (bound (depth + index)) (app f args))) (term_depth (cond b (bound (depth + index)) (app f args))) (terms_nodes args + 1) (terms_depth args + 1)
+    which depth f args true e h = none args (h (eqb-true f g e))
+    which depth f args false e h = same (terms_nodes args + 1) (terms_depth args + 1)
+
+pub size-index : (g index : ℕ) (p : FormTree) → ReadyForm (change_const g index) p → Same (form_nodes (changed_form (change_const g index) 0 p)) (form_depth (changed_form (change_const g index) 0 p)) (form_nodes p) (form_depth p)
+size-index g index p h = size-by (changing (change_const g index)) (RelReady (change_const g index)) (AppReady (change_const g index)) (index_keeps g index) p 0 h
 
 pub nodes-positive : (t : TermTree) → 1 ≤ term_nodes t
 nodes-positive (bound i) = omega arith
@@ -156,14 +193,14 @@ weighted-add f g (x ∷ xs) =
     let e1 = weighted-add (λ j. f (suc j)) (λ j. g (suc j)) xs in let e2 = add-mul (f 0) (g 0) (term_nodes x - 1) in omega (arith, e1, e2)
 
 -- one place of the argument i, and none of the others
-weighted-one : (f : ℕ → ℕ) (xs : List TermTree) (i : ℕ) → i < length xs → f i ≡ 1 → ((j : ℕ) → (j ≡ i → ⊥) → f j ≡ 0) → weighted f xs + 1 ≡ term_nodes (get_or xs i (bound 0))
-weighted-one f [] i lt one others = absurd (omega arith)
-weighted-one f (x ∷ xs) zero lt one others =
+weighted-one : (f : ℕ → ℕ) (xs : List TermTree) (i n : ℕ) → f i ≡ 1 → ((j : ℕ) → (j ≡ i → ⊥) → f j ≡ 0) → weighted f xs + 1 ≡ term_nodes (get_or xs i (bound n))
+weighted-one f [] i n one others = refl
+weighted-one f (x ∷ xs) zero n one others =
     let e1 = weighted-none (λ j. f (suc j)) xs (λ j. others (suc j) (λ e. absurd (omega arith))) in
     let e2 = nodes-positive x in
     rw one (omega (arith, e1, e2))
-weighted-one f (x ∷ xs) (suc i) lt one others =
-    let e1 = weighted-one (λ j. f (suc j)) xs i (omega arith) one (λ j n. others (suc j) (λ e. n (omega arith))) in
+weighted-one f (x ∷ xs) (suc i) n one others =
+    let e1 = weighted-one (λ j. f (suc j)) xs i n one (λ j m. others (suc j) (λ e. m (omega arith))) in
     let e2 = others 0 (λ e. absurd (omega arith)) in
     rw e2 (omega (arith, e1))
 
@@ -209,13 +246,14 @@ highest-below y f [] = omega arith
 highest-below y f (x ∷ xs) =
     below-first y (f 0) (term_depth x) (highest (λ j. below (f (suc j))) xs) (highest (λ j. f (suc j)) xs) (highest-below y (λ j. f (suc j)) xs)
 
-highest-one : (f : ℕ → ℕ) (xs : List TermTree) (i : ℕ) → i < length xs → f i ≡ 1 → ((j : ℕ) → (j ≡ i → ⊥) → f j ≡ 0) → highest f xs ≡ term_depth (get_or xs i (bound 0))
-highest-one f [] i lt one others = absurd (omega arith)
-highest-one f (x ∷ xs) zero lt one others =
+highest-one : (f : ℕ → ℕ) (xs : List TermTree) (i n : ℕ) → f i ≡ 1 → ((j : ℕ) → (j ≡ i → ⊥) → f j ≡ 0) → max 1 (highest f xs) ≡ term_depth (get_or xs i (bound n))
+highest-one f [] i n one others = refl
+highest-one f (x ∷ xs) zero n one others =
     let e1 = highest-none (λ j. f (suc j)) xs (λ j. others (suc j) (λ e. absurd (omega arith))) in
-    rw one (omega (arith, e1))
-highest-one f (x ∷ xs) (suc i) lt one others =
-    let e1 = highest-one (λ j. f (suc j)) xs i (omega arith) one (λ j n. others (suc j) (λ e. n (omega arith))) in
+    let e2 = depth-positive x in
+    rw one (omega (arith, e1, e2))
+highest-one f (x ∷ xs) (suc i) n one others =
+    let e1 = highest-one (λ j. f (suc j)) xs i n one (λ j m. others (suc j) (λ e. m (omega arith))) in
     let e2 = others 0 (λ e. absurd (omega arith)) in
     rw e2 (omega (arith, e1))
 
@@ -223,90 +261,91 @@ highest-one f (x ∷ xs) (suc i) lt one others =
 pub under_suc : (j e : ℕ) → suc (j + e) ≡ j + suc e
 under_suc j e = omega arith
 
-index-nodes : (xs : List TermTree) (i e : ℕ) → i < e + length xs → term_nodes (picked e xs i) ≡ 1 + weighted (λ j. cond (i == j + e) 1 0) xs
-index-nodes xs i e lt =
-    ⊎_elim
-    (λ inside.
-    let none = weighted-none (λ j. cond (i == j + e) 1 0) xs (λ j. rw (ne_eqb i (j + e) (λ same. absurd (omega arith))) refl) in
-    ap term_nodes (picked-below e xs i inside) ∙ omega (arith, none))
-    (λ outside.
-    let one = weighted-one (λ j. cond (i == j + e) 1 0) xs (i - e) (omega arith)
-    (rw (eq-eqb i (i - e + e) (omega arith)) refl)
-    (λ j other. rw (ne_eqb i (j + e) (λ same. other (omega arith))) refl) in
-    ap term_nodes (picked-above e xs i outside) ∙ term_nodes-shift (get_or xs (i - e) (bound 0)) 0 e ∙ omega (arith, one))
-    (cases_lt i e)
+module _ (xs : List TermTree) (i e : ℕ) where
+  abbrev place : ℕ → ℕ
+  place j = cond (i == j + e) 1 0
 
-index-depth : (xs : List TermTree) (i e : ℕ) → i < e + length xs → term_depth (picked e xs i) ≡ max 1 (highest (λ j. cond (i == j + e) 1 0) xs)
-index-depth xs i e lt =
-    ⊎_elim
-    (λ inside.
-    let none = highest-none (λ j. cond (i == j + e) 1 0) xs (λ j. rw (ne_eqb i (j + e) (λ same. absurd (omega arith))) refl) in
-    ap term_depth (picked-below e xs i inside) ∙ omega (arith, none))
-    (λ outside.
-    let one = highest-one (λ j. cond (i == j + e) 1 0) xs (i - e) (omega arith)
-    (rw (eq-eqb i (i - e + e) (omega arith)) refl)
-    (λ j other. rw (ne_eqb i (j + e) (λ same. other (omega arith))) refl) in
-    let some = depth-positive (get_or xs (i - e) (bound 0)) in
-    ap term_depth (picked-above e xs i outside) ∙ term_depth-shift (get_or xs (i - e) (bound 0)) 0 e ∙ omega (arith, one, some))
-    (cases_lt i e)
+  elsewhere : (j : ℕ) → (i ≡ j + e → ⊥) → place j ≡ 0
+  elsewhere j other = rw (ne_eqb i (j + e) other) refl
+
+  here : e ≤ i → place (i - e) ≡ 1
+  here above = rw (eq-eqb i (i - e + e) (omega arith)) refl
+
+  index-nodes : term_nodes (picked e xs i) ≡ 1 + weighted place xs
+  index-nodes =
+      ⊎_elim
+      (λ (l : i < e). let none = weighted-none place xs (λ j. elsewhere j (λ is. absurd (omega arith))) in ap term_nodes (picked-below e xs i l) ∙ omega (arith, none))
+      (λ (l : e ≤ i).
+      let one = weighted-one place xs (i - e) (i - e - length xs) (here l) (λ j other. elsewhere j (λ is. other (omega arith))) in
+      ap term_nodes (picked-above e xs i l) ∙ (size_term-shifted (argument xs (i - e)) 0 e).nodes ∙ omega (arith, one))
+      (cases_lt i e)
+
+  index-depth : term_depth (picked e xs i) ≡ max 1 (highest place xs)
+  index-depth =
+      ⊎_elim
+      (λ (l : i < e). let none = highest-none place xs (λ j. elsewhere j (λ is. absurd (omega arith))) in ap term_depth (picked-below e xs i l) ∙ omega (arith, none))
+      (λ (l : e ≤ i).
+      let one = highest-one place xs (i - e) (i - e - length xs) (here l) (λ j other. elsewhere j (λ is. other (omega arith))) in
+      ap term_depth (picked-above e xs i l) ∙ (size_term-shifted (argument xs (i - e)) 0 e).depth ∙ sym one)
+      (cases_lt i e)
 
 module _ (xs : List TermTree) where
   mutual
-    pub nodes-put : (p : FormTree) (e n : ℕ) → n ≡ e + length xs → BoundForm n p → form_nodes (put_form e xs p) ≡ form_nodes p + weighted (λ j. uses_form (j + e) p) xs
-    nodes-put top e n is h = let e1 = weighted-none (λ j. 0) xs (λ j. refl) in omega (arith, e1)
-    nodes-put bottom e n is h = let e1 = weighted-none (λ j. 0) xs (λ j. refl) in omega (arith, e1)
-    nodes-put (rel r ts) e n is h = let e1 = terms_nodes-put ts e n is h in omega (arith, e1)
-    nodes-put (equal a b) e n is h =
-        let e1 = term_nodes-put a e n is h.0 in
-        let e2 = term_nodes-put b e n is h.1 in
+    pub nodes-put : (p : FormTree) (e : ℕ) → form_nodes (put_form e xs p) ≡ form_nodes p + weighted (λ j. uses_form (j + e) p) xs
+    nodes-put top e = let e1 = weighted-none (λ j. 0) xs (λ j. refl) in omega (arith, e1)
+    nodes-put bottom e = let e1 = weighted-none (λ j. 0) xs (λ j. refl) in omega (arith, e1)
+    nodes-put (rel r ts) e = let e1 = terms_nodes-put ts e in omega (arith, e1)
+    nodes-put (equal a b) e =
+        let e1 = term_nodes-put a e in
+        let e2 = term_nodes-put b e in
         let e3 = weighted-add (λ j. uses_term (j + e) a) (λ j. uses_term (j + e) b) xs in
         omega (arith, e1, e2, e3)
-    nodes-put (negation p) e n is h = let e1 = nodes-put p e n is h in omega (arith, e1)
-    nodes-put (conjunction ps) e n is h = let e1 = forms_nodes-put ps e n is h in omega (arith, e1)
-    nodes-put (disjunction ps) e n is h = let e1 = forms_nodes-put ps e n is h in omega (arith, e1)
-    nodes-put (implication p q) e n is h =
-        let e1 = nodes-put p e n is h.0 in
-        let e2 = nodes-put q e n is h.1 in
+    nodes-put (negation p) e = let e1 = nodes-put p e in omega (arith, e1)
+    nodes-put (conjunction ps) e = let e1 = forms_nodes-put ps e in omega (arith, e1)
+    nodes-put (disjunction ps) e = let e1 = forms_nodes-put ps e in omega (arith, e1)
+    nodes-put (implication p q) e =
+        let e1 = nodes-put p e in
+        let e2 = nodes-put q e in
         let e3 = weighted-add (λ j. uses_form (j + e) p) (λ j. uses_form (j + e) q) xs in
         omega (arith, e1, e2, e3)
-    nodes-put (equivalence p q) e n is h =
-        let e1 = nodes-put p e n is h.0 in
-        let e2 = nodes-put q e n is h.1 in
+    nodes-put (equivalence p q) e =
+        let e1 = nodes-put p e in
+        let e2 = nodes-put q e in
         let e3 = weighted-add (λ j. uses_form (j + e) p) (λ j. uses_form (j + e) q) xs in
         omega (arith, e1, e2, e3)
-    nodes-put (for_all k p) e n is h =
-        let e1 = nodes-put p (suc e) (suc n) (omega arith) h in
+    nodes-put (for_all k p) e =
+        let e1 = nodes-put p (suc e) in
         let e2 = weighted-same (λ j. uses_form (suc (j + e)) p) (λ j. uses_form (j + suc e) p) xs (λ j. ap (λ m. uses_form m p) (under_suc j e)) in
         omega (arith, e1, e2)
-    nodes-put (for_some k p) e n is h =
-        let e1 = nodes-put p (suc e) (suc n) (omega arith) h in
+    nodes-put (for_some k p) e =
+        let e1 = nodes-put p (suc e) in
         let e2 = weighted-same (λ j. uses_form (suc (j + e)) p) (λ j. uses_form (j + suc e) p) xs (λ j. ap (λ m. uses_form m p) (under_suc j e)) in
         omega (arith, e1, e2)
 
-    forms_nodes-put : (ps : FormTrees) (e n : ℕ) → n ≡ e + length xs → BoundForms n ps → forms_nodes (put_forms e xs ps) ≡ forms_nodes ps + weighted (λ j. uses_forms (j + e) ps) xs
-    forms_nodes-put no_forms e n is h = let e1 = weighted-none (λ j. 0) xs (λ j. refl) in omega (arith, e1)
-    forms_nodes-put (form_then p ps) e n is h =
-        let e1 = nodes-put p e n is h.0 in
-        let e2 = forms_nodes-put ps e n is h.1 in
+    forms_nodes-put : (ps : FormTrees) (e : ℕ) → forms_nodes (put_forms e xs ps) ≡ forms_nodes ps + weighted (λ j. uses_forms (j + e) ps) xs
+    forms_nodes-put no_forms e = let e1 = weighted-none (λ j. 0) xs (λ j. refl) in omega (arith, e1)
+    forms_nodes-put (form_then p ps) e =
+        let e1 = nodes-put p e in
+        let e2 = forms_nodes-put ps e in
         let e3 = weighted-add (λ j. uses_form (j + e) p) (λ j. uses_forms (j + e) ps) xs in
         omega (arith, e1, e2, e3)
 
-    pub term_nodes-put : (t : TermTree) (e n : ℕ) → n ≡ e + length xs → BoundTerm n t → term_nodes (put_term e xs t) ≡ term_nodes t + weighted (λ j. uses_term (j + e) t) xs
-    term_nodes-put (bound i) e n is h = index-nodes xs i e (omega arith)
-    term_nodes-put (app f ts) e n is h = let e1 = terms_nodes-put ts e n is h in omega (arith, e1)
-    term_nodes-put (ite p a b) e n is h =
-        let e1 = nodes-put p e n is h.0 in
-        let e2 = term_nodes-put a e n is h.1 in
-        let e3 = term_nodes-put b e n is h.2 in
+    pub term_nodes-put : (t : TermTree) (e : ℕ) → term_nodes (put_term e xs t) ≡ term_nodes t + weighted (λ j. uses_term (j + e) t) xs
+    term_nodes-put (bound i) e = index-nodes xs i e
+    term_nodes-put (app f ts) e = let e1 = terms_nodes-put ts e in omega (arith, e1)
+    term_nodes-put (ite p a b) e =
+        let e1 = nodes-put p e in
+        let e2 = term_nodes-put a e in
+        let e3 = term_nodes-put b e in
         let e4 = weighted-add (λ j. uses_term (j + e) a) (λ j. uses_term (j + e) b) xs in
         let e5 = weighted-add (λ j. uses_form (j + e) p) (λ j. uses_term (j + e) a + uses_term (j + e) b) xs in
         omega (arith, e1, e2, e3, e4, e5)
 
-    terms_nodes-put : (ts : TermTrees) (e n : ℕ) → n ≡ e + length xs → BoundTerms n ts → terms_nodes (put_terms e xs ts) ≡ terms_nodes ts + weighted (λ j. uses_terms (j + e) ts) xs
-    terms_nodes-put no_terms e n is h = let e1 = weighted-none (λ j. 0) xs (λ j. refl) in omega (arith, e1)
-    terms_nodes-put (term_then t ts) e n is h =
-        let e1 = term_nodes-put t e n is h.0 in
-        let e2 = terms_nodes-put ts e n is h.1 in
+    terms_nodes-put : (ts : TermTrees) (e : ℕ) → terms_nodes (put_terms e xs ts) ≡ terms_nodes ts + weighted (λ j. uses_terms (j + e) ts) xs
+    terms_nodes-put no_terms e = let e1 = weighted-none (λ j. 0) xs (λ j. refl) in omega (arith, e1)
+    terms_nodes-put (term_then t ts) e =
+        let e1 = term_nodes-put t e in
+        let e2 = terms_nodes-put ts e in
         let e3 = weighted-add (λ j. uses_term (j + e) t) (λ j. uses_terms (j + e) ts) xs in
         omega (arith, e1, e2, e3)
 
@@ -317,74 +356,74 @@ module _ (xs : List TermTree) where
       let e3 = highest-max f g xs in let e4 = highest-below (max y z) (λ j. max (f j) (g j)) xs in omega (arith, e1, e2, e3, e4)
 
   mutual
-    pub depth-put : (p : FormTree) (e n : ℕ) → n ≡ e + length xs → BoundForm n p → form_depth (put_form e xs p) ≡ max (form_depth p) (highest (λ j. reach_form (j + e) p) xs)
-    depth-put top e n is h = let e1 = highest-none (λ j. 0) xs (λ j. refl) in omega (arith, e1)
-    depth-put bottom e n is h = let e1 = highest-none (λ j. 0) xs (λ j. refl) in omega (arith, e1)
-    depth-put (rel r ts) e n is h =
-        let e1 = terms_depth-put ts e n is h in
+    pub depth-put : (p : FormTree) (e : ℕ) → form_depth (put_form e xs p) ≡ max (form_depth p) (highest (λ j. reach_form (j + e) p) xs)
+    depth-put top e = let e1 = highest-none (λ j. 0) xs (λ j. refl) in omega (arith, e1)
+    depth-put bottom e = let e1 = highest-none (λ j. 0) xs (λ j. refl) in omega (arith, e1)
+    depth-put (rel r ts) e =
+        let e1 = terms_depth-put ts e in
         let e2 = highest-below (terms_depth ts) (λ j. reach_terms (j + e) ts) xs in
         omega (arith, e1, e2)
-    depth-put (equal a b) e n is h =
-        let e1 = term_depth-put a e n is h.0 in
-        let e2 = term_depth-put b e n is h.1 in
+    depth-put (equal a b) e =
+        let e1 = term_depth-put a e in
+        let e2 = term_depth-put b e in
         two (term_depth a) (term_depth b) (λ j. reach_term (j + e) a) (λ j. reach_term (j + e) b) e1 e2
-    depth-put (negation p) e n is h =
-        let e1 = depth-put p e n is h in
+    depth-put (negation p) e =
+        let e1 = depth-put p e in
         let e2 = highest-below (form_depth p) (λ j. reach_form (j + e) p) xs in
         omega (arith, e1, e2)
-    depth-put (conjunction ps) e n is h =
-        let e1 = forms_depth-put ps e n is h in
+    depth-put (conjunction ps) e =
+        let e1 = forms_depth-put ps e in
         let e2 = highest-below (forms_depth ps) (λ j. reach_forms (j + e) ps) xs in
         omega (arith, e1, e2)
-    depth-put (disjunction ps) e n is h =
-        let e1 = forms_depth-put ps e n is h in
+    depth-put (disjunction ps) e =
+        let e1 = forms_depth-put ps e in
         let e2 = highest-below (forms_depth ps) (λ j. reach_forms (j + e) ps) xs in
         omega (arith, e1, e2)
-    depth-put (implication p q) e n is h =
-        let e1 = depth-put p e n is h.0 in
-        let e2 = depth-put q e n is h.1 in
+    depth-put (implication p q) e =
+        let e1 = depth-put p e in
+        let e2 = depth-put q e in
         two (form_depth p) (form_depth q) (λ j. reach_form (j + e) p) (λ j. reach_form (j + e) q) e1 e2
-    depth-put (equivalence p q) e n is h =
-        let e1 = depth-put p e n is h.0 in
-        let e2 = depth-put q e n is h.1 in
+    depth-put (equivalence p q) e =
+        let e1 = depth-put p e in
+        let e2 = depth-put q e in
         two (form_depth p) (form_depth q) (λ j. reach_form (j + e) p) (λ j. reach_form (j + e) q) e1 e2
-    depth-put (for_all k p) e n is h =
-        let e1 = depth-put p (suc e) (suc n) (omega arith) h in
+    depth-put (for_all k p) e =
+        let e1 = depth-put p (suc e) in
         let e2 = highest-same (λ j. reach_form (suc (j + e)) p) (λ j. reach_form (j + suc e) p) xs (λ j. ap (λ m. reach_form m p) (under_suc j e)) in
         let e3 = highest-below (form_depth p) (λ j. reach_form (suc (j + e)) p) xs in
         omega (arith, e1, e2, e3)
-    depth-put (for_some k p) e n is h =
-        let e1 = depth-put p (suc e) (suc n) (omega arith) h in
+    depth-put (for_some k p) e =
+        let e1 = depth-put p (suc e) in
         let e2 = highest-same (λ j. reach_form (suc (j + e)) p) (λ j. reach_form (j + suc e) p) xs (λ j. ap (λ m. reach_form m p) (under_suc j e)) in
         let e3 = highest-below (form_depth p) (λ j. reach_form (suc (j + e)) p) xs in
         omega (arith, e1, e2, e3)
 
-    forms_depth-put : (ps : FormTrees) (e n : ℕ) → n ≡ e + length xs → BoundForms n ps → forms_depth (put_forms e xs ps) ≡ max (forms_depth ps) (highest (λ j. reach_forms (j + e) ps) xs)
-    forms_depth-put no_forms e n is h = let e1 = highest-none (λ j. 0) xs (λ j. refl) in omega (arith, e1)
-    forms_depth-put (form_then p ps) e n is h =
-        let e1 = depth-put p e n is h.0 in
-        let e2 = forms_depth-put ps e n is h.1 in
+    forms_depth-put : (ps : FormTrees) (e : ℕ) → forms_depth (put_forms e xs ps) ≡ max (forms_depth ps) (highest (λ j. reach_forms (j + e) ps) xs)
+    forms_depth-put no_forms e = let e1 = highest-none (λ j. 0) xs (λ j. refl) in omega (arith, e1)
+    forms_depth-put (form_then p ps) e =
+        let e1 = depth-put p e in
+        let e2 = forms_depth-put ps e in
         let e3 = highest-max (λ j. reach_form (j + e) p) (λ j. reach_forms (j + e) ps) xs in
         omega (arith, e1, e2, e3)
 
-    pub term_depth-put : (t : TermTree) (e n : ℕ) → n ≡ e + length xs → BoundTerm n t → term_depth (put_term e xs t) ≡ max (term_depth t) (highest (λ j. reach_term (j + e) t) xs)
-    term_depth-put (bound i) e n is h = index-depth xs i e (omega arith)
-    term_depth-put (app f ts) e n is h =
-        let e1 = terms_depth-put ts e n is h in
+    pub term_depth-put : (t : TermTree) (e : ℕ) → term_depth (put_term e xs t) ≡ max (term_depth t) (highest (λ j. reach_term (j + e) t) xs)
+    term_depth-put (bound i) e = index-depth xs i e
+    term_depth-put (app f ts) e =
+        let e1 = terms_depth-put ts e in
         let e2 = highest-below (terms_depth ts) (λ j. reach_terms (j + e) ts) xs in
         omega (arith, e1, e2)
-    term_depth-put (ite p a b) e n is h =
-        let e1 = depth-put p e n is h.0 in
-        let e2 = term_depth-put a e n is h.1 in
-        let e3 = term_depth-put b e n is h.2 in
+    term_depth-put (ite p a b) e =
+        let e1 = depth-put p e in
+        let e2 = term_depth-put a e in
+        let e3 = term_depth-put b e in
         let e4 = highest-max (λ j. reach_term (j + e) a) (λ j. reach_term (j + e) b) xs in
         let e5 : max (term_depth (put_term e xs a)) (term_depth (put_term e xs b)) ≡ max (max (term_depth a) (term_depth b)) (highest (λ j. max (reach_term (j + e) a) (reach_term (j + e) b)) xs) = omega (arith, e2, e3, e4) in
         two (form_depth p) (max (term_depth a) (term_depth b)) (λ j. reach_form (j + e) p) (λ j. max (reach_term (j + e) a) (reach_term (j + e) b)) e1 e5
 
-    terms_depth-put : (ts : TermTrees) (e n : ℕ) → n ≡ e + length xs → BoundTerms n ts → terms_depth (put_terms e xs ts) ≡ max (terms_depth ts) (highest (λ j. reach_terms (j + e) ts) xs)
-    terms_depth-put no_terms e n is h = let e1 = highest-none (λ j. 0) xs (λ j. refl) in omega (arith, e1)
-    terms_depth-put (term_then t ts) e n is h =
-        let e1 = term_depth-put t e n is h.0 in
-        let e2 = terms_depth-put ts e n is h.1 in
+    terms_depth-put : (ts : TermTrees) (e : ℕ) → terms_depth (put_terms e xs ts) ≡ max (terms_depth ts) (highest (λ j. reach_terms (j + e) ts) xs)
+    terms_depth-put no_terms e = let e1 = highest-none (λ j. 0) xs (λ j. refl) in omega (arith, e1)
+    terms_depth-put (term_then t ts) e =
+        let e1 = term_depth-put t e in
+        let e2 = terms_depth-put ts e in
         let e3 = highest-max (λ j. reach_term (j + e) t) (λ j. reach_terms (j + e) ts) xs in
         omega (arith, e1, e2, e3)

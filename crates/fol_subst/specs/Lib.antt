@@ -1,8 +1,10 @@
+pub mod Rules
 pub mod Shift
 pub mod Replace
 pub mod Limits
 pub mod Structures
 pub mod KeptFragments
+pub mod KeptSize
 pub mod Outcome
 pub mod Extents
 pub mod Room

@@ -24,6 +24,15 @@ pub record CanReplace (within : FormTree) (c : Change) : Type 0 where
 abbrev pub ShortListsSuffice : Type 0
 ShortListsSuffice = (sig : Symbols) (sorts : List ℕ) (within : FormTree) (c : Change) → FitsForm sig sorts within → CanChange sig sorts c → length sorts + 1000 ≤ 2 ^ 32 → CanReplace within c
 
+-- what a shift is asked of: no index of the result is above 4294967295, unless the result is too large
+abbrev pub CanShift : FormTree → ℕ → ℕ → Type 0
+CanShift within from by = is_too_large (shift_form from by within) ≡ false → IndicesFit (shift_form from by within)
+
+-- under a list of sorts that leaves room for a thousand binders and for so many more sorts, what fits may be shifted by
+-- that many
+abbrev pub ShortListsAllowShifts : Type 0
+ShortListsAllowShifts = (sig : Symbols) (sorts : List ℕ) (within : FormTree) (from by : ℕ) → FitsForm sig sorts within → length sorts + by + 1000 ≤ 2 ^ 32 → CanShift within from by
+
 -- the new formula means in a structure what the old one means in the changed structure, it fits where the old one does,
 -- and it stays in its fragments
 pub record KeepsMeaning (within : FormTree) (c : Change) (new : FormTree) : Type 0 where

@@ -2,7 +2,8 @@
 -- the symbol stands it has as many arguments as what replaces it has parameters.
 use Rattle.std.specs.Prelude.{◌≡◌, ℕ, suc, ◌<◌, ◌≤◌, ◌^◌}
 use Rattle.fol_formula.specs.Fits.{BoundForm, BoundTerm}
-use Rattle.fol_formula.specs.Syntax.{FormTree, FormTrees, TermTree, TermTrees, top, bottom, rel, equal, negation, conjunction, disjunction, implication, equivalence, for_all, for_some, no_forms, form_then, bound, app, ite, no_terms, term_then, size_of}
+use Rattle.fol_formula.specs.Syntax.{FormTree, FormTrees, TermTree, TermTrees, top, bottom, rel, equal, negation, conjunction, disjunction, implication, equivalence, for_all, for_some, no_forms, form_then, bound, app, ite, no_terms, term_then}
+use Rattle.fol_subst.specs.Rules.{EachForm, EachForms, EachTerm, EachTerms}
 use Rattle.fol_subst.specs.Replace.{Change, change_rel, change_fun, change_const}
 
 -- under so many binders
@@ -33,40 +34,32 @@ abbrev mutual
   RoomTerms depth no_terms = Unit {0}
   RoomTerms depth (term_then t ts) = RoomTerm depth t × RoomTerms depth ts
 
--- with so many arguments
+-- what replaces the symbol has so many parameters
+abbrev pub RelTakes : Change → ℕ → ℕ → Type 0
+RelTakes (change_rel r by) q count = q ≡ r → BoundForm count by
+RelTakes (change_fun g by) q count = Unit {0}
+RelTakes (change_const g index) q count = Unit {0}
+
+abbrev pub AppTakes : Change → ℕ → ℕ → Type 0
+AppTakes (change_rel r by) f count = Unit {0}
+AppTakes (change_fun g by) f count = f ≡ g → BoundTerm count by
+AppTakes (change_const g index) f count = f ≡ g → count ≡ 0
+
+-- before so many arguments
 abbrev pub RelReady : Change → ℕ → ℕ → Type 0
-RelReady (change_rel r by) q count = q ≡ r → BoundForm count by
-RelReady (change_fun g by) q count = Unit {0}
-RelReady (change_const g index) q count = Unit {0}
+RelReady c q count = (count ≤ 8) × RelTakes c q count
 
 abbrev pub AppReady : Change → ℕ → ℕ → Type 0
-AppReady (change_rel r by) f count = Unit {0}
-AppReady (change_fun g by) f count = f ≡ g → BoundTerm count by
-AppReady (change_const g index) f count = f ≡ g → count ≡ 0
+AppReady c f count = (count ≤ 8) × AppTakes c f count
 
-abbrev mutual
-  pub ReadyForm : Change → FormTree → Type 0
-  ReadyForm c top = Unit {0}
-  ReadyForm c bottom = Unit {0}
-  ReadyForm c (rel q args) = (size_of args ≤ 8) × RelReady c q (size_of args) × ReadyTerms c args
-  ReadyForm c (equal a b) = ReadyTerm c a × ReadyTerm c b
-  ReadyForm c (negation p) = ReadyForm c p
-  ReadyForm c (conjunction ps) = ReadyForms c ps
-  ReadyForm c (disjunction ps) = ReadyForms c ps
-  ReadyForm c (implication p q) = ReadyForm c p × ReadyForm c q
-  ReadyForm c (equivalence p q) = ReadyForm c p × ReadyForm c q
-  ReadyForm c (for_all k p) = ReadyForm c p
-  ReadyForm c (for_some k p) = ReadyForm c p
+abbrev pub ReadyForm : Change → FormTree → Type 0
+ReadyForm c p = EachForm (RelReady c) (AppReady c) p
 
-  pub ReadyForms : Change → FormTrees → Type 0
-  ReadyForms c no_forms = Unit {0}
-  ReadyForms c (form_then p ps) = ReadyForm c p × ReadyForms c ps
+abbrev pub ReadyForms : Change → FormTrees → Type 0
+ReadyForms c ps = EachForms (RelReady c) (AppReady c) ps
 
-  pub ReadyTerm : Change → TermTree → Type 0
-  ReadyTerm c (bound i) = Unit {0}
-  ReadyTerm c (app f args) = (size_of args ≤ 8) × AppReady c f (size_of args) × ReadyTerms c args
-  ReadyTerm c (ite p a b) = ReadyForm c p × ReadyTerm c a × ReadyTerm c b
+abbrev pub ReadyTerm : Change → TermTree → Type 0
+ReadyTerm c t = EachTerm (RelReady c) (AppReady c) t
 
-  pub ReadyTerms : Change → TermTrees → Type 0
-  ReadyTerms c no_terms = Unit {0}
-  ReadyTerms c (term_then t ts) = ReadyTerm c t × ReadyTerms c ts
+abbrev pub ReadyTerms : Change → TermTrees → Type 0
+ReadyTerms c ts = EachTerms (RelReady c) (AppReady c) ts

@@ -11,13 +11,13 @@ mod put;
 mod raise;
 mod replacement;
 
-ghost use Rattle.std.specs.Prelude.{◌≡◌, IfOk, IfErr, IsTrue, false};
+ghost use Rattle.std.specs.Prelude.{IfOk, IfErr, IsTrue};
 ghost use Rattle.base.specs.Because.{Because};
 ghost use Rattle.fol_formula.specs.View.{form, term as term_view};
 ghost use Rattle.fol_subst.specs.Replace.{change_rel, change_fun, change_const, changed_form};
 ghost use Rattle.fol_subst.specs.Shift.{shift_form};
-ghost use Rattle.fol_subst.specs.Limits.{is_too_large, IndicesFit};
-ghost use Rattle.fol_subst.specs.Outcome.{CanReplace, IsReplacement, IsShifted};
+ghost use Rattle.fol_subst.specs.Limits.{is_too_large};
+ghost use Rattle.fol_subst.specs.Outcome.{CanReplace, CanShift, IsReplacement, IsShifted};
 ghost use Rattle.fol_subst.specs.Changes.{change_of};
 
 use base::Refused;
@@ -25,7 +25,7 @@ use change::change_formula;
 use extent::Extent;
 use fol_formula::{Formula, Term};
 use fol_sig::{FunId, RelId};
-pub use laws::{conditions, exactness};
+pub use laws::{conditions, exactness, same_size};
 use measure::Measure;
 use raise::shift_formula;
 use replacement::Replacement;
@@ -87,7 +87,7 @@ pub fn shift(
     from: u32,
     by: u32,
 ) -> Result<Formula, Refused<FormulaLimit>>
-    requires { is_too_large (shift_form from by (form within.now)) ≡ false → IndicesFit (shift_form from by (form within.now)) }
+    requires { CanShift (form within.now) from by }
     ensures shifted { IfOk result (λ f. IsShifted (form within.now) from by (form f)) }
     ensures limit { IfErr result (Because (λ _. IsTrue (is_too_large (shift_form from by (form within.now))))) }
 {

@@ -3,16 +3,17 @@ ghost use Rattle.std.specs.Prelude.{◌≡◌, ◌<◌, ◌≤◌, ◌^◌, ◌+
 ghost use Rattle.fol_sig.specs.Symbols.{symbols};
 ghost use Rattle.fol_sig.specs.Strata.{IsStrata};
 ghost use Rattle.fol_sig.specs.Tables.{InRange, tuple_count, place_of, numbers};
-ghost use Rattle.ground_terms.specs.Tuples.{tuples};
+ghost use Rattle.fol_sig.specs.Tuples.{tuples};
 ghost use Rattle.ground_terms.specs.Terms.{AreClosed, StandOnce, term_counts, terms_into, terms_at, term_at, constants_into, applications_into, constant_of, applications_of, application};
 ghost use Rattle.ground_terms.specs.TermCounts.{AreCounts, HasFewTerms};
 ghost use Rattle.ground_terms.specs.Numberings.{numbering, first_place, place_where, is_of, AreFirsts, IsPlaced};
 ghost use Rattle.ground_terms.specs.TermViews.{plain_term};
 
-use crate::Tuple;
-use crate::tuples::{count_tuples, number_of_tuple, tuple_of_number};
 use base::Mem;
-use fol_sig::{FunId, Signature, Sort, Strata};
+use fol_sig::{
+    FunId, Signature, Sort, Strata, Tuple, count_tuples, number_of_tuple, tuple_laws,
+    tuple_of_number,
+};
 use std::alloc::Global;
 use std::marker::Model;
 
@@ -54,6 +55,7 @@ impl Terms {
         ensures once { IfOk result (StandOnce (symbols signature.now)) }
         ensures counted { IfOk result (λ terms. AreCounts (symbols signature.now) (term_counts terms)) }
     {
+        tuple_laws();
         let (lists, counts) = closed_lists(alloc, signature, strata)?;
         let firsts = first_places(alloc, signature, &lists, &counts)?;
         Ok(Terms {
@@ -86,6 +88,7 @@ impl Terms {
         ensures value { result ≡ (numbering (symbols signature.now) self.now).place function.0 arguments.now }
         ensures placed { IsPlaced (symbols signature.now) self.now function.0 arguments.now }
     {
+        tuple_laws();
         let _sorts = signature.sorts();
         place_in(
             &self.counts,
@@ -124,6 +127,7 @@ fn closed_lists(
     ensures closed { IfOk result (λ made. AreClosed (symbols signature.now) (map (λ v. map plain_term v.items) made.0.items)) }
     ensures counted { IfOk result (λ made. made.1.items ≡ term_counts (map (λ v. map plain_term v.items) made.0.items)) }
 {
+    tuple_laws();
     let mut lists = Vec::new(alloc);
     for _k in 0..signature.sorts() {
         lists.push(Vec::new(alloc))?;
@@ -217,6 +221,7 @@ fn push_applications_of(
     requires few { length (terms_into (symbols signature.now) counts.now sort.0) < 2 ^ 32 }
     ensures { IfOk result (λ _. map plain_term all.new.items ≡ map plain_term all.old.items ++ applications_of (symbols signature.now) counts.now sort.0 function.0) }
 {
+    tuple_laws();
     let _sorts = signature.sorts();
     let from = signature.from_of(function);
     if signature.into_of(function).0 == sort.0 && !from.is_empty() {
@@ -238,6 +243,7 @@ fn push_each(
     requires few { tuple_count counts.now (numbers sorts.now) < 2 ^ 32 }
     ensures { IfOk result (λ _. map plain_term all.new.items ≡ map plain_term all.old.items ++ map (application function.0) (tuples counts.now (numbers sorts.now))) }
 {
+    tuple_laws();
     for number in 0..count_tuples(counts, sorts) {
         let arguments = tuple_of_number(alloc, counts, sorts, number);
         all.push(GroundTerm::App(function, arguments))?;

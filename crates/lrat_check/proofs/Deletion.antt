@@ -1,24 +1,24 @@
 -- The ids of a deletion, one after another.
-use Rattle.std.proofs.Common.{◌≡◌, ℕ, zero, suc, ◌+◌, ◌<◌, ◌||◌, ◌⊎◌, eqb, Bool, true, false, cond, List, [], ◌∷◌, ◌++◌, length, get_or, set, take, drop, refl, arith, ap, sym, ◌∙◌, inl, inr, Some, None, is_some}
+use Rattle.std.proofs.Common.{◌≡◌, ℕ, zero, suc, ◌+◌, ◌<◌, ◌||◌, ◌⊎◌, eqb, Bool, true, false, cond, List, [], ◌∷◌, length, get_or, set, take, drop, refl, arith, ap, sym, ◌∙◌, inl, inr, Some, None, is_some}
 use mathlib.Core.Path.{fun_ext}
 use Rattle.std.proofs.lemmas.Grind.{common_steps}
-use Rattle.std.proofs.lemmas.List.{get_or_default, take_more, length-set, drop_more}
+use Rattle.std.proofs.lemmas.List.{get_or_default, length-set, drop_more}
 use Rattle.lrat_log.specs.declared.outcome.Outcome.TheVariants.{Refused}
 use Rattle.cnf_base.specs.Literals.{member}
 use Rattle.lrat_log.specs.Held.{Held, without}
 use Rattle.lrat_log.specs.Accepted.{outcome_of_deletion}
-use Rattle.lrat_check.proofs.Literals.{member-append}
 use Rattle.lrat_check.specs.declared.spans.Span.{Span}
 use Rattle.lrat_check.specs.Spans.{marked, held_in, entry_of_span, AreSorted, AreWithin}
 use Rattle.lrat_check.proofs.Marks.{marked-set}
 use Rattle.lrat_check.proofs.Search.{held_at, held_nowhere}
 
 pub member_take_more : (x : ℕ) (xs : List ℕ) (i : ℕ) → i < length xs → member x (take (i + 1) xs) ≡ (member x (take i xs) || eqb x (get_or xs i 0))
-member_take_more x xs i h =
-    let e : take (i + 1) xs ≡ take i xs ++ (get_or xs i 0 ∷ []) = take_more xs i 0 h in
-    let m = member-append x (take i xs) (get_or xs i 0 ∷ []) in
-    let a : member x (take (i + 1) xs) ≡ member x (take i xs ++ (get_or xs i 0 ∷ [])) = ap (member x) e in
-    grind (arith, common_steps, m, a)
+member_take_more x [] i h = absurd (omega arith)
+member_take_more x (y ∷ xs) zero h = grind (arith, common_steps)
+member_take_more x (y ∷ xs) (suc i) h =
+    let r = member_take_more x xs i (omega arith) in
+    let next : suc i + 1 ≡ suc (i + 1) = omega arith in
+    rw next (grind (arith, common_steps, r))
 
 pub without_more : (held : Held) (ids : List ℕ) (i : ℕ) → i < length ids
     → without (without held (take i ids)) (get_or ids i 0 ∷ []) ≡ without held (take (i + 1) ids)

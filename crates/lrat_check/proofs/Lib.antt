@@ -1,5 +1,5 @@
 pub mod Literals
-pub mod Lines
+pub mod GrowthLaws
 pub mod Steps
 pub mod Search
 pub mod Marks

@@ -6,7 +6,6 @@ use Rattle.std.proofs.lemmas.List.{drop_more}
 use Rattle.cnf_base.specs.Literals.{opposite, member}
 use Rattle.cnf_base.specs.Clauses.{has_opposites}
 use Rattle.lrat_log.specs.Accepted.{also, all_false}
-use Rattle.lrat_check.proofs.Literals.{opposite-opposite}
 use Rattle.lrat_check.specs.Spans.{marked, AreUpTo}
 
 pub marked-set : (stamps : List ℕ) (epoch l : ℕ) → l < length stamps → (x : ℕ)
@@ -28,14 +27,14 @@ has_opposites-from_drop (suc i) (l ∷ ls) h =
     grind (arith, common_steps, ih)
 
 -- one more literal from the end is marked false
-pub mark_step : (stamps ls : List ℕ) (epoch i : ℕ) → i < length ls → opposite (get_or ls i 0) < length stamps
+pub mark_step : ((l : ℕ) → opposite (opposite l) ≡ l) → (stamps ls : List ℕ) (epoch i : ℕ) → i < length ls → opposite (get_or ls i 0) < length stamps
     → ((x : ℕ) → marked stamps epoch x ≡ all_false (drop (i + 1) ls) x)
     → (x : ℕ) → marked (set stamps (opposite (get_or ls i 0)) epoch) epoch x ≡ all_false (drop i ls) x
-mark_step stamps ls epoch i h g m x =
+mark_step twice stamps ls epoch i h g m x =
     let a = marked-set stamps epoch (opposite (get_or ls i 0)) g x in
     let b = ap (λ (zs : List ℕ). member (opposite x) zs) (drop_more ls i 0 h) in
-    let o = opposite-opposite x in
-    let p = opposite-opposite (get_or ls i 0) in
+    let o = twice x in
+    let p = twice (get_or ls i 0) in
     let mx = m x in
     grind (arith, common_steps, a, b, o, p, mx)
 
@@ -63,9 +62,9 @@ mark_clear stamps ls epoch i j e h m n t =
     let st = has_opposites_step ls j h in
     grind (arith, common_steps, mx2, t, st, n2)
 
-pub mark_more : (stamps ls : List ℕ) (epoch i j o : ℕ) → i ≡ j + 1 → j < length ls → o < length stamps → o ≡ opposite (get_or ls j 0)
+pub mark_more : ((l : ℕ) → opposite (opposite l) ≡ l) → (stamps ls : List ℕ) (epoch i j o : ℕ) → i ≡ j + 1 → j < length ls → o < length stamps → o ≡ opposite (get_or ls j 0)
     → ((x : ℕ) → marked stamps epoch x ≡ all_false (drop i ls) x)
     → (x : ℕ) → marked (set stamps o epoch) epoch x ≡ all_false (drop j ls) x
-mark_more stamps ls epoch i j o e h g q m x =
+mark_more twice stamps ls epoch i j o e h g q m x =
     let m2 : (y : ℕ) → marked stamps epoch y ≡ all_false (drop (j + 1) ls) y = rw e at m in
-    rw q (mark_step stamps ls epoch j h (rw q at g) m2 x)
+    rw q (mark_step twice stamps ls epoch j h (rw q at g) m2 x)

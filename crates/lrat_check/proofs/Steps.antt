@@ -1,6 +1,5 @@
 -- The steps of the loops over a clause and over hints.
-use Rattle.std.proofs.Common.{◌≡◌, ℕ, ◌+◌, ◌<◌, ◌||◌, ◌&&◌, eqb, Bool, false, cond, List, ◌∷◌, length, get_or, drop, refl, ap, sym, ◌∙◌, add-one}
-use Rattle.std.proofs.Math.Seq.{drop-cons}
+use Rattle.std.proofs.Common.{◌≡◌, ℕ, ◌+◌, ◌<◌, ◌||◌, ◌&&◌, eqb, Bool, false, cond, List, length, get_or, drop, ap, sym, ◌∙◌}
 use Rattle.std.proofs.lemmas.List.{drop_more}
 use Rattle.lrat_log.specs.declared.outcome.Effect.{Effect}
 use Rattle.lrat_log.specs.declared.outcome.Effect.TheVariants.{Sets}

@@ -15,7 +15,7 @@ use Rattle.cnf_base.specs.Formulas.{Formula}
 use mathlib.Core.Path.{fun_ext}
 use Rattle.lrat_log.specs.Held.{Held, held_of, added_entry, after_line, after_lines, with_entry, without}
 use Rattle.lrat_log.specs.Accepted.{outcome_of_addition, outcome_of_deletion, last_id, outcome_of, IsFit, IsAccepted, adds_empty}
-use Rattle.lrat_check.proofs.Lines.{after_lines-push, last_id-push, adds_empty-push, accepted-push}
+use Rattle.lrat_check.proofs.GrowthLaws.{AreGrowthLaws}
 use Rattle.lrat_check.specs.declared.spans.Span.{Span}
 
 pub get_push : (xs : List Entry) (e : Entry) (k : ℕ) → slice_get (xs ++ e ∷ []) k ≡ cond (eqb k (length xs)) (Some e) (slice_get xs k)
@@ -23,15 +23,6 @@ get_push [] e zero = refl
 get_push [] e (suc k) = grind (arith, common_steps)
 get_push (x ∷ xs) e zero = grind (arith, common_steps)
 get_push (x ∷ xs) e (suc k) = grind (arith, common_steps, get_push xs e k)
-
-pub taken : (f : Formula) (lines news : List Line) (line : Line) → IsAccepted f lines → news ≡ lines ++ line ∷ []
-    → IsFit f.variables (last_id (length f.clauses) lines) line → outcome_of (after_lines (held_of f) lines) line ≡ Accepted → IsAccepted f news
-taken f lines news line a e t o = rw e (accepted-push f.variables (held_of f) (length f.clauses) lines line a t o)
-
-pub held_after : (f : Formula) (lines news : List Line) (line : Line) (h0 h1 : Held) → news ≡ lines ++ line ∷ []
-    → ((k : ℕ) → h0 k ≡ after_lines (held_of f) lines k) → ((k : ℕ) → h1 k ≡ after_line (after_lines (held_of f) lines) line k)
-    → (k : ℕ) → h1 k ≡ after_lines (held_of f) news k
-held_after f lines news line h0 h1 e a b k = rw (e, after_lines-push (held_of f) lines line) (b k)
 
 pub with_clause_same : (h0 h1 g : Held) (id : ℕ) (ls : List ℕ) (t : Bool) → t ≡ has_opposites ls
     → ((k : ℕ) → h1 k ≡ with_entry h0 id (cond t True (Clause ls)) k) → ((k : ℕ) → h0 k ≡ g k)
@@ -47,19 +38,6 @@ without_same h0 h1 g ids a b k =
     let ak = a k in
     let bk = b k in
     grind (arith, common_steps, ak, bk)
-
-pub last_after : (n id : ℕ) (lines news : List Line) (ls hints : List ℕ) (rows : List Span) → news ≡ lines ++ Add id ls hints ∷ []
-    → All (λ (r : Span). r.id ≤ id) rows → All (λ (r : Span). r.id ≤ last_id n news) rows
-last_after n id lines news ls hints rows e h = rw (e, last_id-push n lines (Add id ls hints)) h
-
-pub last_kept : (n id : ℕ) (lines news : List Line) (ids : List ℕ) (rows qs : List Span) → news ≡ lines ++ Delete id ids ∷ []
-    → length qs ≡ length rows → ((k : ℕ) (d : Span) → (get_or qs k d).id ≡ (get_or rows k d).id)
-    → All (λ (r : Span). r.id ≤ last_id n lines) rows → All (λ (r : Span). r.id ≤ last_id n news) qs
-last_kept n id lines news ids rows qs e ln i h k d l =
-    let a = h k d (rw ln at l) in
-    let b = i k d in
-    let c : (get_or qs k d).id ≤ last_id n lines = rw b a in
-    rw (e, last_id-push n lines (Delete id ids)) c
 
 pub ok_from_err : {A B : Type 0} (r : Result A B) → is_err r ≡ false → is_ok r ≡ true
 ok_from_err (Ok x) h = refl
@@ -82,12 +60,6 @@ deletion_accepted h g ids ks r s b e t =
 pub pushed_lines : (news olds lines : List Line) (copy line : Line) → news ≡ olds ++ copy ∷ [] → olds ≡ lines → copy ≡ line → news ≡ lines ++ line ∷ []
 pushed_lines news olds lines copy line a b e = cc
 
-pub refuted_after : (lines news : List Line) (id : ℕ) (ls ms hints : List ℕ) (old empty : Bool) → news ≡ lines ++ Add id ls hints ∷ [] → ms ≡ ls
-    → old ≡ adds_empty lines → empty ≡ eqb (length ms) 0 → (old || empty) ≡ adds_empty news
-refuted_after lines news id ls ms hints old empty e a o m =
-    let p = adds_empty-push lines id ls hints in
-    rw (e, p, o, m, a) refl
-
 -- the entries under their ids, one more
 pub entry_more : (f : Formula) (i : ℕ) (e : Entry) (h0 h1 : Held) → i < length f.clauses → e ≡ get_or f.clauses i e
     → ((k : ℕ) → h0 k ≡ held_of (record { variables = f.variables; clauses = take i f.clauses }) k)
@@ -104,3 +76,33 @@ entry_more f i e h0 h1 l q a b k =
         → h1 k ≡ cond (eqb k 0) None (slice_get (xs ++ e ∷ []) (k - 1))
     at zero xs ln ak bk = grind (arith, common_steps, ak, bk)
     at (suc k) xs ln ak bk = let g = get_push xs e k in grind (arith, common_steps, ak, bk, g, ln)
+
+-- one more line, by the laws of logs
+module _ (laws : AreGrowthLaws) where
+  pub taken : (f : Formula) (lines news : List Line) (line : Line) → IsAccepted f lines → news ≡ lines ++ line ∷ []
+      → IsFit f.variables (last_id (length f.clauses) lines) line → outcome_of (after_lines (held_of f) lines) line ≡ Accepted → IsAccepted f news
+  taken f lines news line a e t o = rw e (laws.accepted f.variables (held_of f) (length f.clauses) lines line a t o)
+
+  pub held_after : (f : Formula) (lines news : List Line) (line : Line) (h0 h1 : Held) → news ≡ lines ++ line ∷ []
+      → ((k : ℕ) → h0 k ≡ after_lines (held_of f) lines k) → ((k : ℕ) → h1 k ≡ after_line (after_lines (held_of f) lines) line k)
+      → (k : ℕ) → h1 k ≡ after_lines (held_of f) news k
+  held_after f lines news line h0 h1 e a b k = rw (e, laws.held (held_of f) lines line) (b k)
+
+  pub last_after : (n id : ℕ) (lines news : List Line) (ls hints : List ℕ) (rows : List Span) → news ≡ lines ++ Add id ls hints ∷ []
+      → All (λ (r : Span). r.id ≤ id) rows → All (λ (r : Span). r.id ≤ last_id n news) rows
+  last_after n id lines news ls hints rows e h = rw (e, laws.last n lines (Add id ls hints)) h
+
+  pub last_kept : (n id : ℕ) (lines news : List Line) (ids : List ℕ) (rows qs : List Span) → news ≡ lines ++ Delete id ids ∷ []
+      → length qs ≡ length rows → ((k : ℕ) (d : Span) → (get_or qs k d).id ≡ (get_or rows k d).id)
+      → All (λ (r : Span). r.id ≤ last_id n lines) rows → All (λ (r : Span). r.id ≤ last_id n news) qs
+  last_kept n id lines news ids rows qs e ln i h k d l =
+      let a = h k d (rw ln at l) in
+      let b = i k d in
+      let c : (get_or qs k d).id ≤ last_id n lines = rw b a in
+      rw (e, laws.last n lines (Delete id ids)) c
+
+  pub refuted_after : (lines news : List Line) (id : ℕ) (ls ms hints : List ℕ) (old empty : Bool) → news ≡ lines ++ Add id ls hints ∷ [] → ms ≡ ls
+      → old ≡ adds_empty lines → empty ≡ eqb (length ms) 0 → (old || empty) ≡ adds_empty news
+  refuted_after lines news id ls ms hints old empty e a o m =
+      let p = laws.addition lines id ls hints in
+      rw (e, p, o, m, a) refl

@@ -15,8 +15,8 @@ pub record Checked : Type 0 where
   pub lines : List Line
 
 -- the held clauses
-abbrev pub held_by : Checked → Held
-held_by c = after_lines (held_of c.formula) c.lines
+abbrev pub held_now : Checked → Held
+held_now c = after_lines (held_of c.formula) c.lines
 
 -- the greatest id so far
 abbrev pub last_of : Checked → ℕ
@@ -28,7 +28,7 @@ MayStep c line = IsFit c.formula.variables (last_of c) line
 
 -- the clause of an addition is satisfied by truth values that satisfy the held clauses
 abbrev pub Follows : Checked → Line → Type 0
-Follows c (Add id ls hints) = (value : ℕ → Bool) → SatisfiesHeld value (held_by c) → SatisfiesClause value ls
+Follows c (Add id ls hints) = (value : ℕ → Bool) → SatisfiesHeld value (held_now c) → SatisfiesClause value ls
 Follows c (Delete id ids) = Unit {0}
 
 abbrev pub id_of : Line → ℕ

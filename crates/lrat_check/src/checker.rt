@@ -2,8 +2,8 @@
 use crate::table::Table;
 use base::{Mem, Refused, Row};
 use cnf_base::{Cnf, Entry, Lit};
-use lrat_log::{Line, Outcome, soundness};
-use std::alloc::Global;
+use lrat_log::{Line, Outcome, Sink, growth_laws, soundness};
+use std::alloc::{AllocError, Global};
 use std::marker::Model;
 
 /// A line was refused: 1 unknown id, 2 hint is neither unit nor false, 3 no conflict. The id is the
@@ -43,7 +43,7 @@ ghost use Rattle.lrat_log.specs.declared.outcome.Outcome.TheVariants.{Accepted};
 ghost use Rattle.lrat_log.specs.Held.{held_of, with_entry};
 ghost use Rattle.lrat_log.specs.Accepted.{outcome_of, outcome_of_addition, outcome_of_deletion, IsAccepted, adds_empty};
 ghost use Rattle.lrat_check.specs.TableValue.{held_by_table};
-ghost use Rattle.lrat_check.specs.Checked.{Checked, held_by, last_of, MayStep, Follows, IsRefusal};
+ghost use Rattle.lrat_check.specs.Checked.{Checked, held_now, last_of, MayStep, Follows, IsRefusal};
 
 impl Checker {
     /// A checker that has accepted no line yet. The formula is copied.
@@ -77,36 +77,44 @@ impl Checker {
         self.is_refuted
     }
 
-    /// Takes a copy of one line, if it is accepted. A step costs the line's copy and the literals of
-    /// its hints, whatever else is held.
+    /// Takes a copy of one line, if it is accepted. A step costs the line's copy and, for each hint,
+    /// the literals of its clause and one look at the span of its id; where smaller ids are missing, the
+    /// span is sought by halving, so such a hint costs the logarithm of the number of clauses that came.
     pub fn step(&mut self, line: &Line) -> Result<(), Refused<Refusal>>
         requires { MayStep self.old line.now }
-        ensures accepted { OnOk result (outcome_of (held_by self.old) line.now ≡ Accepted) }
+        ensures accepted { OnOk result (outcome_of (held_now self.old) line.now ≡ Accepted) }
         ensures kept { OnOk result (self.new ≡ record { formula = self.old.formula; lines = self.old.lines ++ line.now ∷ [] }) }
         ensures follows { OnOk result (Follows self.old line.now) }
-        ensures refused { IfErr result (Because (IsRefusal (outcome_of (held_by self.old) line.now) line.now)) }
+        ensures refused { IfErr result (Because (IsRefusal (outcome_of (held_now self.old) line.now) line.now)) }
         ensures unchanged { OnErr result (self.new ≡ self.old) }
     {
         match line.copy(*self.lines.allocator()) {
-            Ok(copy) => self.take(copy),
+            Ok(copy) => self.step_owned(copy),
             Err(_) => Err(Refused::NoMemory),
         }
     }
 
     /// As `step`, of a line that is moved and not copied.
-    pub fn take(&mut self, line: Line) -> Result<(), Refused<Refusal>>
+    pub fn step_owned(&mut self, line: Line) -> Result<(), Refused<Refusal>>
         requires { MayStep self.old line }
-        ensures accepted { OnOk result (outcome_of (held_by self.old) line ≡ Accepted) }
+        ensures accepted { OnOk result (outcome_of (held_now self.old) line ≡ Accepted) }
         ensures kept { OnOk result (self.new ≡ record { formula = self.old.formula; lines = self.old.lines ++ line ∷ [] }) }
         ensures follows { OnOk result (Follows self.old line) }
-        ensures refused { IfErr result (Because (IsRefusal (outcome_of (held_by self.old) line) line)) }
+        ensures refused { IfErr result (Because (IsRefusal (outcome_of (held_now self.old) line) line)) }
         ensures unchanged { OnErr result (self.new ≡ self.old) }
     {
         soundness();
         match line {
-            Line::Add { id, lits, hints } => self.take_addition(id, lits, hints),
-            Line::Delete { id, ids } => self.take_deletion(id, ids),
+            Line::Add { id, lits, hints } => self.step_addition(id, lits, hints),
+            Line::Delete { id, ids } => self.step_deletion(id, ids),
         }
+    }
+
+    /// The formula that the lines speak of.
+    pub fn formula(&self) -> &Cnf
+        ensures { result.now ≡ self.now.formula }
+    {
+        &self.cnf
     }
 
     /// The lines that were accepted.
@@ -117,18 +125,34 @@ impl Checker {
         self.lines.as_slice()
     }
 
-    fn take_addition(
+    /// Gives the formula and the accepted lines back. Nothing is copied.
+    pub fn into_parts(self) -> (Cnf, Row<Line>)
+        ensures formula { result.0 ≡ self.formula }
+        ensures lines { result.1 ≡ self.lines }
+        ensures accepted { IsAccepted self.formula self.lines }
+    {
+        let Checker {
+            cnf,
+            lines,
+            table: _,
+            is_refuted: _,
+        } = self;
+        (cnf, Row::from_vec(lines))
+    }
+
+    fn step_addition(
         &mut self,
         id: u64,
         lits: Row<Lit>,
         hints: Row<u64>,
     ) -> Result<(), Refused<Refusal>>
         requires { MayStep self.old (Add id lits hints) }
-        ensures accepted { OnOk result (outcome_of_addition (held_by self.old) lits hints ≡ Accepted) }
+        ensures accepted { OnOk result (outcome_of_addition (held_now self.old) lits hints ≡ Accepted) }
         ensures kept { OnOk result (self.new ≡ record { formula = self.old.formula; lines = self.old.lines ++ Add id lits hints ∷ [] }) }
-        ensures refused { IfErr result (Because (IsRefusal (outcome_of_addition (held_by self.old) lits hints) (Add id lits hints))) }
+        ensures refused { IfErr result (Because (IsRefusal (outcome_of_addition (held_now self.old) lits hints) (Add id lits hints))) }
         ensures unchanged { OnErr result (self.new ≡ self.old) }
     {
+        growth_laws();
         let clause = lits.as_slice();
         let checked = self.table.check_addition(clause, hints.as_slice())?;
         match checked.0 {
@@ -145,12 +169,13 @@ impl Checker {
         Ok(())
     }
 
-    fn take_deletion(&mut self, id: u64, ids: Row<u64>) -> Result<(), Refused<Refusal>>
-        ensures accepted { OnOk result (outcome_of_deletion (held_by self.old) ids ≡ Accepted) }
+    fn step_deletion(&mut self, id: u64, ids: Row<u64>) -> Result<(), Refused<Refusal>>
+        ensures accepted { OnOk result (outcome_of_deletion (held_now self.old) ids ≡ Accepted) }
         ensures kept { OnOk result (self.new ≡ record { formula = self.old.formula; lines = self.old.lines ++ Delete id ids ∷ [] }) }
-        ensures refused { IfErr result (Because (IsRefusal (outcome_of_deletion (held_by self.old) ids) (Delete id ids))) }
+        ensures refused { IfErr result (Because (IsRefusal (outcome_of_deletion (held_now self.old) ids) (Delete id ids))) }
         ensures unchanged { OnErr result (self.new ≡ self.old) }
     {
+        growth_laws();
         match self.table.check_deletion(ids.as_slice()) {
             Outcome::Refused(code) => return Err(Refused::For(Refusal { code, id })),
             Outcome::Accepted => {}
@@ -162,6 +187,24 @@ impl Checker {
             Err(_) => unreachable!(),
         }
         Ok(())
+    }
+}
+
+impl Sink for Checker {
+    ghost formula = { λ c. c.formula };
+
+    ghost lines = { λ c. c.lines };
+
+    fn formula(&self) -> &Cnf {
+        &self.cnf
+    }
+
+    fn take(&mut self, line: Line) -> Mem<()> {
+        match self.step_owned(line) {
+            Ok(()) => Ok(()),
+            Err(Refused::NoMemory) => Err(AllocError),
+            Err(Refused::For(_)) => unreachable!(),
+        }
     }
 }
 

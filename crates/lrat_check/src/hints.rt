@@ -5,7 +5,7 @@ ghost use Rattle.lrat_log.specs.Accepted.{all_but, all_false, effect_of_clause, 
 ghost use Rattle.lrat_check.specs.Spans.{marked, HaveStamps, AreSorted, held_in, AreWithin, AreUpTo};
 
 use crate::spans::{Span, find};
-use cnf_base::Lit;
+use cnf_base::{Lit, opposite_laws};
 use lrat_log::{Effect, Outcome};
 
 fn is_marked(stamps: &[u32], epoch: u32, lit: Lit) -> bool
@@ -108,6 +108,7 @@ pub fn mark_false(stamps: &mut [u32], epoch: u32, clause: &[Lit]) -> bool
     ensures marks { result ≡ false → (x : ℕ) → marked stamps.new epoch x ≡ all_false clause.now x }
     ensures past { AreUpTo epoch stamps.new }
 {
+    opposite_laws();
     let mut i = clause.len();
     while i > 0 {
         i -= 1;

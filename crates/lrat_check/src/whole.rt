@@ -9,7 +9,7 @@ ghost use Rattle.lrat_check.specs.Whole.{first_refusal};
 use crate::checker::{Checker, Refusal};
 use base::Refused;
 use cnf_base::Cnf;
-use lrat_log::Log;
+use lrat_log::{Log, growth_laws};
 use std::alloc::Global;
 
 /// A checker that has accepted every line of a log, or the refusal of the first line that is not
@@ -21,6 +21,7 @@ pub fn check_log(alloc: Global, cnf: &Cnf, log: &Log) -> Result<Checker, Refused
     ensures taken { OnOk result (first_refusal (held_of cnf.now) log.now ≡ None) }
     ensures refused { IfErr result (Because (λ r. first_refusal (held_of cnf.now) log.now ≡ Some r)) }
 {
+    growth_laws();
     let mut checker = Checker::new(alloc, cnf)?;
     let mut rest = log.lines();
     while let [line, after @ ..] = rest {
@@ -41,10 +42,11 @@ pub fn check_owned(alloc: Global, cnf: Cnf, log: Log) -> Result<Checker, Refused
     ensures taken { OnOk result (first_refusal (held_of cnf) log ≡ None) }
     ensures refused { IfErr result (Because (λ r. first_refusal (held_of cnf) log ≡ Some r)) }
 {
+    growth_laws();
     let mut checker = Checker::of(alloc, cnf)?;
     let mut lines = log.into_lines().into_vec().into_iter();
     while let Some(line) = lines.next() {
-        match checker.take(line) {
+        match checker.step_owned(line) {
             Ok(()) => {}
             Err(e) => return Err(e),
         }

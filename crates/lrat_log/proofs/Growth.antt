@@ -6,6 +6,7 @@ use Rattle.lrat_log.specs.declared.line.Line.TheVariants.{Add, Delete}
 use Rattle.lrat_log.specs.declared.outcome.Outcome.TheVariants.{Accepted}
 use Rattle.lrat_log.specs.Held.{Held, after_line, after_lines}
 use Rattle.lrat_log.specs.Learnt.{IsLearnt, AreLearntFrom}
+use Rattle.lrat_log.specs.Logs.{IsLineOver, IsLogOver}
 use Rattle.lrat_log.specs.Accepted.{last_id, outcome_of, IsFit, IsAcceptedFrom, adds_empty}
 
 pub after_lines-push : (held : Held) (lines : List Line) (line : Line) → after_lines held (lines ++ line ∷ []) ≡ after_line (after_lines held lines) line
@@ -29,6 +30,11 @@ adds_empty-push_deletion [] id ids = refl
 adds_empty-push_deletion (Add k [] hs ∷ lines) id ids = refl
 adds_empty-push_deletion (Add k (m ∷ ms) hs ∷ lines) id ids = adds_empty-push_deletion lines id ids
 adds_empty-push_deletion (Delete k js ∷ lines) id ids = adds_empty-push_deletion lines id ids
+
+pub log-push : (n last : ℕ) (lines : List Line) (line : Line) → IsLogOver n last lines → IsLineOver n (last_id last lines) line → IsLogOver n last (lines ++ line ∷ [])
+log-push n last [] line a f = (f, tt)
+log-push n last (Add k ms gs ∷ lines) line a f = (a.0, log-push n k lines line a.1 f)
+log-push n last (Delete k ids ∷ lines) line a f = (a.0, log-push n last lines line a.1 f)
 
 pub accepted-push : (n : ℕ) (held : Held) (last : ℕ) (lines : List Line) (line : Line) → IsAcceptedFrom n held last lines
     → IsFit n (last_id last lines) line → outcome_of (after_lines held lines) line ≡ Accepted → IsAcceptedFrom n held last (lines ++ line ∷ [])

@@ -1,6 +1,6 @@
-pub mod Opposites
 pub mod Sound
 pub mod Growth
+pub mod Ranges
 pub mod Resolvent
 pub mod Readings
 pub mod Standing

@@ -12,9 +12,13 @@ use Rattle.lrat_log.specs.declared.line.Line.TheVariants.{Add, Delete}
 abbrev pub Held : Type 0
 Held = ℕ → Option Entry
 
--- at first the clauses of the formula are held, under the ids 1, 2, ..
+-- these clauses, under the ids 1, 2, ..
+abbrev pub held_by : List Entry → Held
+held_by entries id = if id == 0 then None else slice_get entries (id - 1)
+
+-- what is held at first: the clauses of the formula
 abbrev pub held_of : Formula → Held
-held_of f id = if id == 0 then None else slice_get f.clauses (id - 1)
+held_of f = held_by f.clauses
 
 abbrev pub with_entry : Held → ℕ → Entry → Held
 with_entry held id e k = if k == id then Some e else held k

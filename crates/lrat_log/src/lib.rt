@@ -8,13 +8,15 @@ mod laws;
 mod line;
 mod outcome;
 mod reader;
+mod sink;
 mod text;
 mod writer;
 
 pub use answer::{Limits, Spent};
-pub use laws::{growth_laws, learnt_laws, round_trip, soundness};
+pub use laws::{growth_laws, learnt_laws, range_laws, round_trip, soundness};
 pub use line::{Line, Log};
 pub use outcome::{Effect, Outcome};
 pub use reader::read_log;
+pub use sink::Sink;
 pub use text::{LogFault, Stage};
 pub use writer::write_log;

@@ -1,7 +1,7 @@
 -- Pieces of text, one behind another.
 use Rattle.std.proofs.Common.{◌≡◌, ℕ, ◌+◌, ◌-◌, List, ◌∷◌, [], ◌++◌, length, take, append_assoc, add-one, arith, ap, length-append}
 use Rattle.std.proofs.Math.Seq.{take-append_seam}
-use Rattle.fol_sig.specs.Updates.{join_below}
+use Rattle.fol_sig.specs.Tuples.{join_below}
 
 pub three : (a b c x y z w : List ℕ) → x ≡ w ++ a → y ≡ x ++ b → z ≡ y ++ c → z ≡ w ++ (a ++ b ++ c)
 three a b c x y z w p q r = rw (r, q, p) (simp append_assoc)

@@ -2,7 +2,7 @@
 use Rattle.std.specs.Prelude.{ℕ, ◌<◌, if◌then◌else◌, List, [], ◌∷◌, ◌++◌, length, codes, slice_index}
 use Rattle.std.specs.Fmt.{decimal}
 use Rattle.fol_sig.specs.Tables.{Tables, InRange, relation_at, function_at, size_at, rel_at, fun_at}
-use Rattle.fol_sig.specs.Updates.{join_below}
+use Rattle.fol_sig.specs.Tuples.{join_below}
 use Rattle.rml_command.specs.declared.names.Names.{Names}
 use Rattle.rml_report.specs.Words.{name_at, labelled, truth_text}
 use Rattle.rml_report.specs.declared.tables.Symbol.{Symbol}

@@ -2,7 +2,7 @@
 ghost use Rattle.std.specs.Prelude.{◌≡◌, ◌<◌, ◌++◌, [], length, OnOk};
 ghost use Rattle.fol_sig.specs.Tables.{IsStructure, numbers};
 ghost use Rattle.fol_sig.specs.Symbols.{FitsStructure, symbols};
-ghost use Rattle.fol_sig.specs.Updates.{join_below};
+ghost use Rattle.fol_sig.specs.Tuples.{join_below};
 ghost use Rattle.rml_report.specs.Words.{name_at};
 ghost use Rattle.rml_report.specs.TableText.{each_tuple, more_text, listed_text, tuple_text, cell_text, value_text, arguments_of, values_text, symbol_label, symbol_line, relation_line, function_line, tables_text, sort_line, sorts_text, IsCell, HasSymbol, EachTuple};
 

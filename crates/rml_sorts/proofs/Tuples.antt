@@ -3,7 +3,7 @@ use Rattle.std.proofs.Common.{◌≡◌, ◌<◌, ◌-◌, ℕ, zero, suc, List,
 use Rattle.fol_formula.specs.Syntax.{TermTrees, bound, term_then, terms_then}
 use Rattle.fol_formula.specs.View.{term}
 use Rattle.fol_formula.specs.declared.Term.{Term}
-use Rattle.fol_formula.proofs.Loops.{terms_then-push}
+use Rattle.fol_formula.specs.Lists.{TermLists}
 use Rattle.rml_syntax.specs.declared.tree.Expr.{Expr}
 use Rattle.rml_syntax.specs.Tree.{expr_trees, exprs_of}
 use Rattle.rml_command.specs.Models.{ModelTree}
@@ -18,12 +18,12 @@ parameters-more (suc n) h =
     let e : n ≡ suc n - 1 = omega arith in
     ap (λ (k : ℕ). term_then (bound k) (parameters k)) e
 
-pub parameters_turn : (n : ℕ) (all more : List Term) (t : Term) (whole : TermTrees) → 0 < n → more ≡ all ++ t ∷ [] → term t ≡ bound (n - 1)
+pub parameters_turn : TermLists → (n : ℕ) (all more : List Term) (t : Term) (whole : TermTrees) → 0 < n → more ≡ all ++ t ∷ [] → term t ≡ bound (n - 1)
     → terms_then (map term all) (parameters n) ≡ whole → terms_then (map term more) (parameters (n - 1)) ≡ whole
-parameters_turn n all more t whole some pushed made before =
+parameters_turn lists n all more t whole some pushed made before =
     let rest = parameters (n - 1) in
     ap (λ z. terms_then (map term z) rest) pushed
-    ∙ terms_then-push all t rest
+    ∙ lists.pushed all t rest
     ∙ ap (λ z. terms_then (map term all) (term_then z rest)) made
     ∙ ap (terms_then (map term all)) (sym (parameters-more n some))
     ∙ before

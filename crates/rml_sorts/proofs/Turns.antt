@@ -8,7 +8,7 @@ use Rattle.fol_formula.specs.declared.Formula.{Formula}
 use Rattle.fol_formula.specs.declared.Term.{Term}
 use Rattle.rml_syntax.specs.declared.tree.Expr.{Expr}
 use Rattle.rml_syntax.specs.Tree.{expr_tree, expr_trees, exprs_of, and_expr}
-use Rattle.fol_formula.proofs.Loops.{forms_then-push, terms_then-push}
+use Rattle.fol_formula.specs.Lists.{FormLists, TermLists}
 
 -- the expressions from a place on
 pub exprs-drop : (es : List Expr) (i : ℕ) (e : Expr) → i < length es → e ≡ get_or es i e
@@ -22,26 +22,26 @@ pub places_turn : {A : Type 0} (F : List A → List ℕ) (G : A → List ℕ) (x
 places_turn F G xs i x old new whole by = list_turn F G xs i x old new whole (by x (drop (i + 1) xs))
 
 -- F makes the formulas of a list
-pub forms_turn : {A : Type 0} (F : List A → FormTrees) (xs : List A) (i : ℕ) (x : A) (first : FormTree) (all more : List Formula) (p : Formula) (whole : FormTrees)
+pub forms_turn : {A : Type 0} (lists : FormLists) (F : List A → FormTrees) (xs : List A) (i : ℕ) (x : A) (first : FormTree) (all more : List Formula) (p : Formula) (whole : FormTrees)
     → F (x ∷ drop (i + 1) xs) ≡ form_then first (F (drop (i + 1) xs)) → i < length xs → x ≡ get_or xs i x → more ≡ all ++ p ∷ [] → form p ≡ first
     → forms_then (map form all) (F (drop i xs)) ≡ whole → forms_then (map form more) (F (drop (i + 1) xs)) ≡ whole
-forms_turn F xs i x first all more p whole by lt is pushed made before =
+forms_turn lists F xs i x first all more p whole by lt is pushed made before =
     let rest = F (drop (i + 1) xs) in
     ap (λ z. forms_then (map form z) rest) pushed
-    ∙ forms_then-push all p rest
+    ∙ lists.pushed all p rest
     ∙ ap (λ z. forms_then (map form all) (form_then z rest)) made
     ∙ ap (forms_then (map form all)) (sym by)
     ∙ ap (λ z. forms_then (map form all) (F z)) (sym (drop_read xs i x lt is))
     ∙ before
 
 -- F makes the terms of a list
-pub terms_turn : {A : Type 0} (F : List A → TermTrees) (xs : List A) (i : ℕ) (x : A) (first : TermTree) (all more : List Term) (t : Term) (whole : TermTrees)
+pub terms_turn : {A : Type 0} (lists : TermLists) (F : List A → TermTrees) (xs : List A) (i : ℕ) (x : A) (first : TermTree) (all more : List Term) (t : Term) (whole : TermTrees)
     → F (x ∷ drop (i + 1) xs) ≡ term_then first (F (drop (i + 1) xs)) → i < length xs → x ≡ get_or xs i x → more ≡ all ++ t ∷ [] → term t ≡ first
     → terms_then (map term all) (F (drop i xs)) ≡ whole → terms_then (map term more) (F (drop (i + 1) xs)) ≡ whole
-terms_turn F xs i x first all more t whole by lt is pushed made before =
+terms_turn lists F xs i x first all more t whole by lt is pushed made before =
     let rest = F (drop (i + 1) xs) in
     ap (λ z. terms_then (map term z) rest) pushed
-    ∙ terms_then-push all t rest
+    ∙ lists.pushed all t rest
     ∙ ap (λ z. terms_then (map term all) (term_then z rest)) made
     ∙ ap (terms_then (map term all)) (sym by)
     ∙ ap (λ z. terms_then (map term all) (F z)) (sym (drop_read xs i x lt is))

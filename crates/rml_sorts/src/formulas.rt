@@ -153,6 +153,7 @@ pub fn formulas(
     requires sound { IsSound (model_in draft.now) }
     ensures { IfOk result (λ ps. forms ps.items ≡ formulas_of text.now (model_in draft.now) (bound_names scope.now) (exprs_of (expr_trees es.now))) }
 {
+    fol_formula::lists();
     let mut all = Vec::with_capacity(alloc, es.len())?;
     for e in es {
         all.push(formula(alloc, text, draft, scope, e)?)?;
@@ -248,6 +249,7 @@ pub fn terms(
     requires sound { IsSound (model_in draft.now) }
     ensures { IfOk result (λ ts. terms_view ts.items ≡ terms_of text.now (model_in draft.now) (bound_names scope.now) (exprs_of (expr_trees es.now))) }
 {
+    fol_formula::lists();
     let mut all = Vec::with_capacity(alloc, es.len())?;
     for e in es {
         all.push(term(alloc, text, draft, scope, e)?)?;

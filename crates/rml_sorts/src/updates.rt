@@ -280,6 +280,7 @@ fn parameters(alloc: Global, count: u32) -> Mem<Vec<Term>>
     requires { count ≤ 8 }
     ensures { IfOk result (λ ts. terms_view ts.items ≡ parameters_of count) }
 {
+    fol_formula::lists();
     let mut all = Vec::with_capacity(alloc, count as usize)?;
     let mut left = count;
     while left > 0 {
@@ -335,6 +336,7 @@ fn equations(alloc: Global, text: &[u8], draft: &ModelDraft, args: &[Expr]) -> M
     requires few { length args.now ≤ 8 }
     ensures { IfOk result (λ ps. forms ps.items ≡ equations_of (terms_of text.now (model_in draft.now) [] (exprs_of (expr_trees args.now)))) }
 {
+    fol_formula::lists();
     let mut all = Vec::with_capacity(alloc, args.len())?;
     let mut left = args.len();
     for e in args {

@@ -9,6 +9,7 @@ ghost use Rattle.fol_formula.specs.Fragments.{IsEa};
 ghost use Rattle.rml_command.specs.Outcomes.{all_of as all_of_them};
 ghost use Rattle.rml_command.specs.Goals.{IsGoal};
 ghost use Rattle.rml_wp.specs.Preconditions.{goal_precondition, goal_passes_limit, conjectures_of, parts_before, refuting_of};
+ghost use Rattle.rml_wp.specs.Held.{held_at};
 
 use crate::laws::fragment_law;
 use crate::steps::{all_of, along};
@@ -31,6 +32,7 @@ pub fn precondition(
     ensures within { OnOk result (goal_passes_limit checked.now goal.now ≡ false) }
     ensures limit { IfErr result (Because (λ _. IsTrue (goal_passes_limit checked.now goal.now))) }
 {
+    fol_formula::inclusion();
     fol_formula::indices();
     fol_subst::exactness();
     fragment_law();
@@ -50,7 +52,7 @@ pub fn refuting(alloc: Global, checked: &Checked, goal: &Goal) -> Result<Ea, Ref
     fol_formula::inclusion();
     let precondition = precondition(alloc, checked, goal)?;
     let model = checked.model();
-    let held = all_of(alloc, model.conjectures())?;
+    let held = held_before(alloc, model, goal.stage)?;
     let sentence = with_allowed(alloc, model, held, goal.stage, precondition)?;
     Ok(sentence)
 }
@@ -72,11 +74,39 @@ pub fn refuting_with(
     fol_formula::inclusion();
     let precondition = precondition(alloc, checked, goal)?;
     let model = checked.model();
-    let held = all_of_chosen(alloc, model.conjectures(), held)?;
+    let held = chosen_before(alloc, model, held, goal.stage)?;
     let sentence = with_allowed(alloc, model, held, goal.stage, precondition)?;
     Ok(sentence)
 }
 
+// What holds before a stage beside the axioms. Before init there is nothing, and nothing is copied.
+fn held_before(alloc: Global, model: &Model, stage: Stage) -> Mem<Formula>
+    ensures { IfOk result (λ f. form f ≡ held_at stage (all_of_them model.now.conjectures)) }
+{
+    match stage {
+        Stage::Init => Ok(Formula::True),
+        _ => {
+            let held = all_of(alloc, model.conjectures())?;
+            Ok(held)
+        }
+    }
+}
+
+// The same, where of the conjectures those with these numbers hold.
+fn chosen_before(alloc: Global, model: &Model, chosen: &[u32], stage: Stage) -> Mem<Formula>
+    requires { All (λ k. k < length model.now.conjectures) chosen.now }
+    ensures { IfOk result (λ f. form f ≡ held_at stage (all_of_them (conjectures_of model.now chosen.now))) }
+{
+    match stage {
+        Stage::Init => Ok(Formula::True),
+        _ => {
+            let held = all_of_chosen(alloc, model.conjectures(), chosen)?;
+            Ok(held)
+        }
+    }
+}
+
+// The parts in order, as a sentence of the fragment.
 fn with_allowed(
     alloc: Global,
     model: &Model,
@@ -97,7 +127,7 @@ fn with_allowed(
     Ok(Ea::new(Sentence::of(sentence)))
 }
 
-// The parts in order: the axioms, what else holds before the stage, and the precondition's negation.
+// The axioms, what else holds before the stage, and the precondition's negation.
 fn conjoined(
     alloc: Global,
     lawful: Formula,

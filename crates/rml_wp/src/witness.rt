@@ -7,15 +7,13 @@ ghost use Rattle.rml_command.specs.Goals.{IsGoal};
 ghost use Rattle.rml_command.specs.Outcomes.{all_of};
 ghost use Rattle.rml_wp.specs.Preconditions.{target_of};
 ghost use Rattle.rml_wp.specs.Witnesses.{witness_places, values_at};
-ghost use Rattle.rml_wp.specs.Numbers.{number_of};
 ghost use Rattle.rml_wp.specs.Consumed.{next_of, behind_of, read_havocs, behind_path, read_values};
 ghost use Rattle.rml_wp.specs.Laws.{HasTarget};
 ghost use Rattle.rml_wp.specs.WitnessLaws.{GivesCounterexamples};
 
-use crate::existentials::{count, count_all_sentences};
 use crate::laws::witness_law;
 use base::{Mem, Row};
-use fol_formula::Formula;
+use fol_formula::{Formula, existentials_of_all};
 use rml_command::{About, Checked, Goal, Model, Primitive};
 use std::alloc::Global;
 
@@ -44,7 +42,7 @@ pub fn read_witness(
     witness_law();
     let path = checked.path(goal).primitives();
     let model = checked.model();
-    let axioms = count_all_sentences(model.axioms());
+    let axioms = existentials_of_all(model.axioms());
     let start = skip(witnesses, axioms);
     let havoc = havocs(alloc, path, axioms, start)?;
     let behind = behind_all(path, axioms, start);
@@ -90,7 +88,7 @@ fn behind<'a>(primitive: &Primitive, axioms: u64, rest: &'a [u32]) -> &'a [u32]
     ensures { result.now ≡ behind_of axioms (primitive_view primitive.now) rest.now }
 {
     match primitive {
-        Primitive::Assume(p) => skip(rest, count(p.formula()).positive),
+        Primitive::Assume(p) => skip(rest, p.formula().existentials()),
         Primitive::SetRel(_, _) => skip(rest, axioms),
         Primitive::SetFun(_, _) => skip(rest, axioms),
         Primitive::Havoc(_) => skip(skip(rest, 1), axioms),

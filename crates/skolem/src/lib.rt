@@ -1,5 +1,6 @@
 //! Existential quantifiers become constants: a sentence in normal form has a model exactly where the
-//! universal sentence with new constants has one.
+//! universal sentence with new constants has one. The constants are put behind the functions of the
+//! signature, in the order in which the existentials stand in the sentence.
 #![tactic(auto)]
 
 mod laws;
@@ -18,7 +19,7 @@ ghost use Rattle.skolem.specs.Laws.{IsSkolemised, IsNormalUniversal};
 use base::Mem;
 use fol_formula::{Normal, Sentence, Universal};
 use fol_sig::{Signature, Sort, with_constants};
-pub use laws::exactness;
+pub use laws::{exactness, witnesses};
 use scope::Scope;
 use std::alloc::Global;
 use walk::skolem_formula;

@@ -1,4 +1,5 @@
-// Indices become what they stand for.
+// Indices become what they stand for, below the last existential. Only indices change, so this part of
+// a sentence is copied as it stands, and no constant is counted.
 ghost use Rattle.std.specs.Prelude.{◌≡◌, ◌∷◌, IfOk};
 ghost use Rattle.fol_formula.specs.View.{form, forms, term as term_view, terms as terms_view};
 ghost use Rattle.skolem.specs.Constants.{binder, named_form, named_forms, named_term, named_terms};
@@ -9,6 +10,7 @@ use base::Mem;
 use fol_formula::{Formula, Term};
 use std::alloc::Global;
 
+/// The formula with its indices replaced.
 #[cycle(named)]
 pub fn named_formula(alloc: Global, p: &Formula, scope: &Scope) -> Mem<Formula>
     ensures { IfOk result (λ f. form f ≡ named_form (slots scope.now) (form p.now)) }
@@ -59,6 +61,7 @@ fn named_inside(alloc: Global, p: &Formula, scope: &Scope) -> Mem<Box<Formula>>
 fn named_formulas(alloc: Global, ps: &[Formula], scope: &Scope) -> Mem<Vec<Formula>>
     ensures { IfOk result (λ fs. forms fs.items ≡ named_forms (slots scope.now) (forms ps.now)) }
 {
+    fol_formula::lists();
     let mut all = Vec::with_capacity(alloc, ps.len())?;
     for p in ps {
         all.push(named_formula(alloc, p, scope)?)?;
@@ -93,6 +96,7 @@ fn named_boxed_term(alloc: Global, t: &Term, scope: &Scope) -> Mem<Box<Term>>
 fn named_terms(alloc: Global, ts: &[Term], scope: &Scope) -> Mem<Vec<Term>>
     ensures { IfOk result (λ fs. terms_view fs.items ≡ named_terms (slots scope.now) (terms_view ts.now)) }
 {
+    fol_formula::lists();
     let mut all = Vec::with_capacity(alloc, ts.len())?;
     for t in ts {
         all.push(named_term(alloc, t, scope)?)?;

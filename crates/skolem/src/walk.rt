@@ -1,4 +1,5 @@
-// Constants in the place of existential quantifiers.
+// Constants in the place of existential quantifiers, as far down as And, Or and existentials go: in
+// normal form an exists-forall sentence has none below.
 ghost use Rattle.std.specs.Prelude.{◌≡◌, ◌+◌, ◌<◌, ◌^◌, ◌∷◌, ◌++◌, length, suc, IfOk, OnOk};
 ghost use Rattle.fol_sig.specs.Tables.{numbers};
 ghost use Rattle.fol_formula.specs.View.{form, forms};
@@ -12,7 +13,8 @@ use fol_formula::Formula;
 use fol_sig::{FunId, Sort};
 use std::alloc::Global;
 
-// The constants stand behind so many functions. Their sorts are added to the list.
+/// The formula with constants, which stand behind so many functions and those that are in the list
+/// already. The sorts of the new ones are added to the list.
 #[cycle(skolem)]
 pub fn skolem_formula(
     alloc: Global,
@@ -45,6 +47,7 @@ pub fn skolem_formula(
     }
 }
 
+// The body of an existential of this sort, whose index is the next constant.
 #[cycle(skolem)]
 fn skolem_exists(
     alloc: Global,
@@ -80,6 +83,7 @@ fn skolem_formulas(
     ensures tree { IfOk result (λ fs. forms fs.items ≡ skolem_forms (functions + length constants.old.items) (slots scope.now) (forms ps.now)) }
     ensures sorts { OnOk result (numbers constants.new.items ≡ numbers constants.old.items ++ all_new_sorts (forms ps.now)) }
 {
+    fol_formula::lists();
     let mut all = Vec::with_capacity(alloc, ps.len())?;
     for p in ps {
         all.push(skolem_formula(alloc, p, functions, scope, constants)?)?;

@@ -3,7 +3,7 @@ use Rattle.fol_formula.specs.View.{form}
 use Rattle.fol_subst.specs.Replace.{changed_form}
 use Rattle.fol_subst.specs.Limits.{is_too_large}
 use Rattle.fol_subst.specs.Changes.{change_of}
-use Rattle.fol_subst.proofs.ReplaceTruth.{can_ready}
+use Rattle.fol_subst.proofs.Ready.{can_ready}
 use Rattle.fol_subst.specs.Outcome.{KeepsMeaning}
 use Rattle.fol_subst.proofs.Counting.{extent-form, over-is-too-large}
 use Rattle.fol_subst.proofs.Rooms.{room-within}

@@ -6,9 +6,9 @@ use Rattle.fol_formula.specs.Counts.{form_nodes, form_depth}
 use Rattle.fol_subst.specs.Shift.{shift_form}
 use Rattle.fol_subst.specs.Limits.{is_too_large}
 use Rattle.fol_subst.specs.Extents.{extent}
-use Rattle.fol_subst.proofs.ShiftTruth.{truth-shifted}
+use Rattle.fol_subst.proofs.Truth.{truth-shifted}
 use Rattle.fol_subst.proofs.Fitting.{shifted-fits}
-use Rattle.fol_subst.proofs.Sizes.{nodes-shift, depth-shift}
+use Rattle.fol_subst.proofs.Sizes.{size-shifted}
 use Rattle.fol_subst.proofs.Counting.{extent-saturated, over-is-too-large}
 use Rattle.fol_subst.proofs.Rooms.{room-within}
 use Rattle.fol_subst.proofs.shift.Goals as goal
@@ -18,7 +18,7 @@ returns-then-is_over-clause-limit c =
     let within = form c.args.within.now in
     let new = shift_form c.args.from c.args.by within in
     let same : extent (form_nodes within) (form_depth within) ≡ extent (form_nodes new) (form_depth new) =
-    ap (λ n. extent n (form_depth within)) (sym (nodes-shift within c.args.from c.args.by)) ∙ ap (extent (form_nodes new)) (sym (depth-shift within c.args.from c.args.by)) in
+    ap (λ n. extent n (form_depth within)) (sym (size-shifted within c.args.from c.args.by).nodes) ∙ ap (extent (form_nodes new)) (sym (size-shifted within c.args.from c.args.by).depth) in
     sym (over-is-too-large new c.new-extent.result (c.new-extent.ensures ∙ ap (λ n. extent n c.depth.result) c.nodes.ensures ∙ ap (extent _) c.depth.ensures ∙ extent-saturated (form_nodes within) (form_depth within) ∙ same))
     ∙ sym c.is_over.ensures
     ∙ c.if-is_over.true
@@ -28,7 +28,7 @@ shift_formula-requires c =
     let within = form c.args.within.now in
     let new = shift_form c.args.from c.args.by within in
     let same : extent (form_nodes within) (form_depth within) ≡ extent (form_nodes new) (form_depth new) =
-    ap (λ n. extent n (form_depth within)) (sym (nodes-shift within c.args.from c.args.by)) ∙ ap (extent (form_nodes new)) (sym (depth-shift within c.args.from c.args.by)) in
+    ap (λ n. extent n (form_depth within)) (sym (size-shifted within c.args.from c.args.by).nodes) ∙ ap (extent (form_nodes new)) (sym (size-shifted within c.args.from c.args.by).depth) in
     let small : is_too_large new ≡ false =
     sym (over-is-too-large new c.new-extent.result (c.new-extent.ensures ∙ ap (λ n. extent n c.depth.result) c.nodes.ensures ∙ ap (extent _) c.depth.ensures ∙ extent-saturated (form_nodes within) (form_depth within) ∙ same))
     ∙ sym c.is_over.ensures
@@ -40,7 +40,7 @@ returns-clause-shifted c =
     let within = form c.args.within.now in
     let new = shift_form c.args.from c.args.by within in
     let same : extent (form_nodes within) (form_depth within) ≡ extent (form_nodes new) (form_depth new) =
-    ap (λ n. extent n (form_depth within)) (sym (nodes-shift within c.args.from c.args.by)) ∙ ap (extent (form_nodes new)) (sym (depth-shift within c.args.from c.args.by)) in
+    ap (λ n. extent n (form_depth within)) (sym (size-shifted within c.args.from c.args.by).nodes) ∙ ap (extent (form_nodes new)) (sym (size-shifted within c.args.from c.args.by).depth) in
     let small : is_too_large new ≡ false =
     sym (over-is-too-large new c.new-extent.result (c.new-extent.ensures ∙ ap (λ n. extent n c.depth.result) c.nodes.ensures ∙ ap (extent _) c.depth.ensures ∙ extent-saturated (form_nodes within) (form_depth within) ∙ same))
     ∙ sym c.is_over.ensures

@@ -1,7 +1,8 @@
 use Rattle.std.proofs.Common.{◌≡◌, ℕ, ◌+◌, ◌-◌, ◌<◌, ◌≤◌, ◌⊎◌, ◌&&◌, not, eqb, true, false, arith, length, ap, ◌∙◌, reverse, inl, refl}
 use Rattle.std.proofs.lemmas.List.{reverse-append}
 use Rattle.cdcl.specs.declared.trail.Step.{Step}
-use Rattle.cdcl.specs.Trail.{held_by, literal_at, reason_at, HasReason}
+use Rattle.cdcl.specs.Trail.{literal_at, reason_at, HasReason}
+use Rattle.lrat_log.specs.Held.{held_by}
 use Rattle.cdcl.specs.Learning.{is_marked}
 use Rattle.cdcl.proofs.Walking.{walk_begins, walk_keeps, walk_resolves, walk_ends, walk_at, walk_passes}
 use Rattle.cdcl.proofs.Marking.{begins_marked, resolved_marks, tops_next, some_clause, reason_not_zero, reason_or_clause, from_not_below}

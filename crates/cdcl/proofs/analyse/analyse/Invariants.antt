@@ -1,5 +1,6 @@
 use Rattle.std.proofs.Common.{◌≡◌, ◌≤◌, ◌⊎◌, ℕ, reverse, length, true, ◌<◌, []}
-use Rattle.cdcl.specs.Trail.{held_by, reason_at, was_set}
+use Rattle.cdcl.specs.Trail.{reason_at, was_set}
+use Rattle.lrat_log.specs.Held.{held_by}
 use Rattle.lrat_log.specs.Learnt.{IsQuiet}
 use Rattle.cdcl.specs.Walk.{IsWalk}
 use Rattle.cdcl.specs.Learning.{is_marked, HasTops, HasOpen, HasOneTop, AreBeforeSecond, IsSecond}

@@ -1,5 +1,5 @@
 use Rattle.std.proofs.Common.{◌≡◌, reverse, arith, refl}
-use Rattle.cdcl.specs.Trail.{held_by}
+use Rattle.lrat_log.specs.Held.{held_by}
 use Rattle.cdcl.proofs.Opening.{analysed_is_learnt, one_top}
 use Rattle.cdcl.proofs.analyse.learn.Goals as goal
 

@@ -48,4 +48,4 @@ returns-then-not-branch c =
     let inside : k < length c.deref-then-not-branch.result.now = subst (λ ps. k < length ps) (sym c.deref-then-not-branch.ensures.value) (subst (λ n. k < n) (sym after.each) lt) in
     subst (λ ps. is_set ps k ≡ true) c.deref-then-not-branch.ensures.value (is_true (is_set c.deref-then-not-branch.result.now k) (each k false (omega arith) inside)) in
     let strata : IsStrata sig order = so_far-all sig new order after every in
-    (subst (IsStrata sig) (sym c.new.ensures) strata, λ f. order_has_no_cycle sig order f (sorted-first (symbols c.args.signature.now) c.args.functions c.requires c.sorts.ensures.sorted) strata)
+    (strata, λ f. order_has_no_cycle sig order f (sorted-first (symbols c.args.signature.now) c.args.functions c.requires c.sorts.ensures.sorted) strata)

@@ -61,34 +61,34 @@ pub change_atom-change_kept-requires : goal.change_atom-change_kept-requires
 change_atom-change_kept-requires t c =
     let same = ap change_of c.in-Rel.is in
     let room = kept_room-atom (change_of c.args.c.now) c.in-Rel.r.0 c.args.q.0 c.args.depth (form c.in-Rel.by.now) (changed_terms (change_of c.args.c.now) c.args.depth (terms c.args.args.now)) same c.if-q-r.true c.requires.room in
-    (search rules, (c.requires.measures, (c.requires.ready.0, (c.requires.ready.2, room))))
+    (search rules, (c.requires.measures, (c.requires.ready.0.0, (c.requires.ready.1, room))))
 
 pub change_atom-put_formula-requires : goal.change_atom-put_formula-requires
 change_atom-put_formula-requires t c =
     let same = ap change_of c.in-Rel.is in
-    let built = built-atom c.lists.ensures.rows (change_of c.args.c.now) c.in-Rel.r.0 c.args.q.0 c.args.depth (form c.in-Rel.by.now) (terms c.args.args.now) c.in_ok-all-in-Rel.all.items c.deref.result.now same c.if-q-r.true c.requires.ready.1 c.requires.room (c.deref.ensures.value ∙ c.reverse.ensures.items) c.in_ok-all-in-Rel.ensures in
+    let built = built-atom c.lists.ensures.rows (change_of c.args.c.now) c.in-Rel.r.0 c.args.q.0 c.args.depth (form c.in-Rel.by.now) (terms c.args.args.now) c.in_ok-all-in-Rel.all.items c.deref.result.now same c.if-q-r.true c.requires.ready.0.1 c.requires.room (c.deref.ensures.value ∙ c.reverse.ensures.items) c.in_ok-all-in-Rel.ensures in
     record { bound = built.bound; room = built.room }
 
 pub change_atom-returns-in_ok-f-in-Rel : goal.change_atom-returns-in_ok-f-in-Rel
 change_atom-returns-in_ok-f-in-Rel t c =
     let same = ap change_of c.in-Rel.is in
-    let built = built-atom c.lists.ensures.rows (change_of c.args.c.now) c.in-Rel.r.0 c.args.q.0 c.args.depth (form c.in-Rel.by.now) (terms c.args.args.now) c.in_ok-all-in-Rel.all.items c.deref.result.now same c.if-q-r.true c.requires.ready.1 c.requires.room (c.deref.ensures.value ∙ c.reverse.ensures.items) c.in_ok-all-in-Rel.ensures in
+    let built = built-atom c.lists.ensures.rows (change_of c.args.c.now) c.in-Rel.r.0 c.args.q.0 c.args.depth (form c.in-Rel.by.now) (terms c.args.args.now) c.in_ok-all-in-Rel.all.items c.deref.result.now same c.if-q-r.true c.requires.ready.0.1 c.requires.room (c.deref.ensures.value ∙ c.reverse.ensures.items) c.in_ok-all-in-Rel.ensures in
     c.in_ok-f-in-Rel.ensures ∙ built.same
 
 pub change_application-change_kept-requires : goal.change_application-change_kept-requires
 change_application-change_kept-requires t c =
     let same = ap change_of c.in-Fun.is in
     let room = kept_room-application (change_of c.args.c.now) c.in-Fun.g.0 c.args.f.0 c.args.depth (term c.in-Fun.by.now) (changed_terms (change_of c.args.c.now) c.args.depth (terms c.args.args.now)) same c.if-f-g.true c.requires.room in
-    (search rules, (c.requires.measures, (c.requires.ready.0, (c.requires.ready.2, room))))
+    (search rules, (c.requires.measures, (c.requires.ready.0.0, (c.requires.ready.1, room))))
 
 pub change_application-put_term-requires : goal.change_application-put_term-requires
 change_application-put_term-requires t c =
     let same = ap change_of c.in-Fun.is in
-    let built = built-application c.lists.ensures.rows (change_of c.args.c.now) c.in-Fun.g.0 c.args.f.0 c.args.depth (term c.in-Fun.by.now) (terms c.args.args.now) c.in_ok-kept-in-Fun.kept.items c.deref.result.now same c.if-f-g.true c.requires.ready.1 c.requires.room (c.deref.ensures.value ∙ c.reverse.ensures.items) c.in_ok-kept-in-Fun.ensures in
+    let built = built-application c.lists.ensures.rows (change_of c.args.c.now) c.in-Fun.g.0 c.args.f.0 c.args.depth (term c.in-Fun.by.now) (terms c.args.args.now) c.in_ok-kept-in-Fun.kept.items c.deref.result.now same c.if-f-g.true c.requires.ready.0.1 c.requires.room (c.deref.ensures.value ∙ c.reverse.ensures.items) c.in_ok-kept-in-Fun.ensures in
     record { bound = built.bound; room = built.room }
 
 pub change_application-returns-in_ok-t-in-Fun : goal.change_application-returns-in_ok-t-in-Fun
 change_application-returns-in_ok-t-in-Fun t c =
     let same = ap change_of c.in-Fun.is in
-    let built = built-application c.lists.ensures.rows (change_of c.args.c.now) c.in-Fun.g.0 c.args.f.0 c.args.depth (term c.in-Fun.by.now) (terms c.args.args.now) c.in_ok-kept-in-Fun.kept.items c.deref.result.now same c.if-f-g.true c.requires.ready.1 c.requires.room (c.deref.ensures.value ∙ c.reverse.ensures.items) c.in_ok-kept-in-Fun.ensures in
+    let built = built-application c.lists.ensures.rows (change_of c.args.c.now) c.in-Fun.g.0 c.args.f.0 c.args.depth (term c.in-Fun.by.now) (terms c.args.args.now) c.in_ok-kept-in-Fun.kept.items c.deref.result.now same c.if-f-g.true c.requires.ready.0.1 c.requires.room (c.deref.ensures.value ∙ c.reverse.ensures.items) c.in_ok-kept-in-Fun.ensures in
     c.in_ok-t-in-Fun.ensures ∙ built.same

@@ -22,7 +22,7 @@ loop-i-preserved c =
       within = omega arith;
       none = mark_clear c.loop-i.stamps c.args.clause.now c.args.epoch c.loop-i.i (c.loop-i.i - 1) (omega arith) (omega arith) c.loop-i.invariant.marks
           c.loop-i.invariant.none (rw (← lit) (sym c.is_marked.ensures ∙ c.if-is_marked.false));
-      marks = mark_more c.loop-i.stamps c.args.clause.now c.args.epoch c.loop-i.i (c.loop-i.i - 1) c.code.result (omega arith) (omega arith)
+      marks = mark_more c.opposite_laws.ensures.twice c.loop-i.stamps c.args.clause.now c.args.epoch c.loop-i.i (c.loop-i.i - 1) c.code.result (omega arith) (omega arith)
           (rw other (rw c.loop-i.auto.stamps (c.requires.stamped (c.loop-i.i - 1) 0 (omega arith)).1)) other c.loop-i.invariant.marks;
       past = up_to_set _ _ _ c.loop-i.invariant.past;
     }

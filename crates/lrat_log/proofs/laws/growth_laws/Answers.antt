@@ -1,8 +1,13 @@
-use Rattle.lrat_log.proofs.Growth.{accepted-push, learnt_push}
+use Rattle.lrat_log.proofs.Growth.{after_lines-push, last_id-push, adds_empty-push, adds_empty-push_deletion, log-push, accepted-push, learnt_push}
 use Rattle.lrat_log.proofs.laws.growth_laws.Goals as goal
 
-pub returns-clause-accepted : goal.returns-clause-accepted
-returns-clause-accepted c = accepted-push
-
-pub returns-clause-learnt : goal.returns-clause-learnt
-returns-clause-learnt c = learnt_push
+pub returns : goal.returns
+returns c = record {
+  held = after_lines-push;
+  last = last_id-push;
+  addition = adds_empty-push;
+  deletion = adds_empty-push_deletion;
+  log = log-push;
+  accepted = accepted-push;
+  learnt = learnt_push;
+}

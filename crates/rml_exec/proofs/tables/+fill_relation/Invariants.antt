@@ -1,6 +1,7 @@
 use Rattle.std.proofs.Common.{◌≡◌, ◌++◌, ◌∷◌, length}
 use Rattle.fol_sig.specs.Tables.{numbers, reading}
-use Rattle.fol_sig.specs.Updates.{join_below, cells_from}
+use Rattle.fol_sig.specs.Tuples.{join_below}
+use Rattle.fol_sig.specs.Updates.{cells_from}
 use Rattle.fol_formula.specs.View.{form}
 use Rattle.fol_formula.specs.Truth.{truth}
 use Rattle.fol_eval.specs.Elements.{elements}

@@ -1,6 +1,6 @@
 use Rattle.std.proofs.Common.{◌≡◌, ◌++◌, ◌∷◌, [], length}
 use Rattle.fol_sig.specs.Tables.{numbers}
-use Rattle.fol_sig.specs.Updates.{join_below}
+use Rattle.fol_sig.specs.Tuples.{join_below}
 use Rattle.rml_report.specs.TableText.{each_tuple, cell_text}
 use Rattle.rml_report.proofs.tables.+push_cells.Given as goal
 

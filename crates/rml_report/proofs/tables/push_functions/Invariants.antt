@@ -1,5 +1,5 @@
 use Rattle.std.proofs.Common.{◌≡◌, ◌++◌}
-use Rattle.fol_sig.specs.Updates.{join_below}
+use Rattle.fol_sig.specs.Tuples.{join_below}
 use Rattle.rml_report.specs.TableText.{function_line}
 use Rattle.rml_report.proofs.tables.push_functions.Given as goal
 

@@ -1,6 +1,6 @@
 use Rattle.std.proofs.Common.{◌≡◌, ◌++◌}
 use Rattle.fol_sig.specs.Tables.{size_at}
-use Rattle.fol_sig.specs.Updates.{join_below}
+use Rattle.fol_sig.specs.Tuples.{join_below}
 use Rattle.rml_report.specs.TableText.{sort_line}
 use Rattle.rml_report.proofs.tables.push_sorts.Given as goal
 

@@ -17,7 +17,7 @@ formulas-loop-e-preserved t c =
     record {
       nests = (subst (ExprsNest (108 - length (bound_names c.args.scope.now))) step h.nests).1;
       within = (subst (ExprsWithin (length c.args.text.now)) step h.within).1;
-      made = forms_turn (λ (es : List Expr). formulas_of c.args.text.now (model_in c.args.draft.now) (bound_names c.args.scope.now) (exprs_of (expr_trees es))) c.args.es.now c.loop-e.e-index c.e-item.result
+      made = forms_turn c.lists.ensures.forms (λ (es : List Expr). formulas_of c.args.text.now (model_in c.args.draft.now) (bound_names c.args.scope.now) (exprs_of (expr_trees es))) c.args.es.now c.loop-e.e-index c.e-item.result
           (formula_of c.args.text.now (model_in c.args.draft.now) (bound_names c.args.scope.now) (expr_tree c.e-item.result)) c.loop-e.all.items c.push.new.self.items c.in_ok-formula.field-0 _
           refl c.loop-e-test.true c.e-item.is c.in_ok-push.ensures.items c.in_ok-formula.ensures h.made;
     }
@@ -29,7 +29,7 @@ terms-loop-e-preserved t c =
     record {
       nests = (subst (ExprsNest (108 - length (bound_names c.args.scope.now))) step h.nests).1;
       within = (subst (ExprsWithin (length c.args.text.now)) step h.within).1;
-      made = terms_turn (λ (es : List Expr). terms_of c.args.text.now (model_in c.args.draft.now) (bound_names c.args.scope.now) (exprs_of (expr_trees es))) c.args.es.now c.loop-e.e-index c.e-item.result
+      made = terms_turn c.lists.ensures.terms (λ (es : List Expr). terms_of c.args.text.now (model_in c.args.draft.now) (bound_names c.args.scope.now) (exprs_of (expr_trees es))) c.args.es.now c.loop-e.e-index c.e-item.result
           (term_of c.args.text.now (model_in c.args.draft.now) (bound_names c.args.scope.now) (expr_tree c.e-item.result)) c.loop-e.all.items c.push.new.self.items c.in_ok-term.field-0 _
           refl c.loop-e-test.true c.e-item.is c.in_ok-push.ensures.items c.in_ok-term.ensures h.made;
     }

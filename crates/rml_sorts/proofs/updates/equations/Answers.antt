@@ -26,7 +26,7 @@ loop-e-preserved c =
       left = omega (arith, h.left, c.loop-e-test.true);
       nests = (subst (ExprsNest 100) step h.nests).1;
       within = (subst (ExprsWithin (length text)) step h.within).1;
-      made = forms_turn (λ (es : List Expr). equations (terms_of text m [] (exprs_of (expr_trees es)))) args c.loop-e.e-index c.e-item.result
+      made = forms_turn c.lists.ensures.forms (λ (es : List Expr). equations (terms_of text m [] (exprs_of (expr_trees es)))) args c.loop-e.e-index c.e-item.result
           (equal (bound (term_count (terms_of text m [] (exprs_of (expr_trees rest))))) (term_of text m [] e)) c.loop-e.all.items c.push.new.self.items c.equation.result _
           refl c.loop-e-test.true c.e-item.is c.in_ok-push.ensures.items
           (c.equation.ensures ∙ ap (equal (bound (c.loop-e.left - 1))) c.in_ok-t.ensures ∙ ap (λ (k : ℕ). equal (bound k) (term_of text m [] e)) place) h.made;
