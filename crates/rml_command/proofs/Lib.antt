@@ -10,3 +10,6 @@ pub mod GoalList
 pub mod EachPath
 pub mod Counting
 pub mod Loops
+pub mod SpanLists
+pub mod RouteLists
+pub mod AbortLast

@@ -1,20 +1,16 @@
 -- One turn of the loops that count and list paths.
-use Rattle.std.proofs.Common.{◌≡◌, ℕ, ◌+◌, ◌*◌, ◌<◌, Bool, true, false, ◌||◌, cond, append-nil, List, [], ◌∷◌, ◌++◌, length, get_or, drop, map, min, refl, sym, ap, ◌∙◌, arith, append_assoc}
-use Rattle.std.proofs.lemmas.List.{drop_more, map-append}
+use Rattle.std.proofs.Common.{◌≡◌, ℕ, ◌+◌, ◌*◌, ◌<◌, List, ◌++◌, length, get_or, drop, min, refl, sym, ap, ◌∙◌, arith, append_assoc}
+use Rattle.std.proofs.lemmas.List.{drop_more}
 use Rattle.std.specs.List.{flat_map}
 use Rattle.rml_command.specs.Trees.{PrimitiveTree, command_then}
-use Rattle.rml_command.specs.View.{command, commands, primitive}
-use Rattle.rml_command.specs.Paths.{is_abort, has_abort, continued, paths_of, paths_in_turn, paths_of_each}
-use Rattle.rml_command.specs.Counts.{open_count, stopped_count, capped, one_longer}
-use Rattle.rml_command.specs.declared.command.Primitive.{Primitive}
+use Rattle.rml_command.specs.View.{command, commands}
+use Rattle.rml_command.specs.Paths.{continued, paths_of, paths_in_turn, paths_of_each}
+use Rattle.rml_command.specs.Counts.{open_count, stopped_count, capped}
 use Rattle.rml_command.specs.declared.command.Command.{Command}
-use Rattle.rml_command.proofs.Counting.{has_abort-append, continued-twice, open-continued, stopped-continued, open-append_count, stopped-append_count, capped-product_left, capped-product_right}
+use Rattle.rml_command.proofs.Counting.{continued-twice, open-continued, stopped-continued, open-append_count, stopped-append_count, capped-product_left, capped-product_right}
 
 pub commands-drop : (cs : List Command) (i : ℕ) (c : Command) → i < length cs → c ≡ get_or cs i c → commands (drop i cs) ≡ command_then (command c) (commands (drop (i + 1) cs))
 commands-drop cs i c lt is = ap commands (drop_more cs i c lt) ∙ ap (λ q. command_then (command q) (commands (drop (i + 1) cs))) (sym is)
-
-pub primitives-drop : (ps : List Primitive) (i : ℕ) (p : Primitive) → i < length ps → p ≡ get_or ps i p → map primitive (drop i ps) ≡ primitive p ∷ map primitive (drop (i + 1) ps)
-primitives-drop ps i p lt is = ap (map primitive) (drop_more ps i p lt) ∙ ap (λ q. primitive q ∷ map primitive (drop (i + 1) ps)) (sym is)
 
 -- the algebra of counts
 three : (a c r n new whole : ℕ) → n ≡ capped c → new ≡ capped (a * n) → capped (a * (c * r)) ≡ whole → capped (new * r) ≡ whole
@@ -77,41 +73,11 @@ module _ (cs : List Command) (i : ℕ) (c : Command) (lt : i < length cs) (is : 
       ∙ ap (λ z. flat_map (continued (paths_in_turn z)) all) (sym (commands-drop cs i c lt is))
       ∙ before
 
-  -- a path that goes on with one more branch
-  pub branch-paths : (p : List PrimitiveTree) (all new whole : List (List PrimitiveTree)) → has_abort p ≡ false → new ≡ all ++ flat_map (continued (paths_of (command c))) (p ∷ []) → all ++ map (λ q. p ++ q) (paths_of_each (commands (drop i cs))) ≡ whole → new ++ map (λ q. p ++ q) (paths_of_each (commands (drop (i + 1) cs))) ≡ whole
-  branch-paths p all new whole onward made before =
+  -- the paths of one more branch
+  pub branch-paths : (all new whole : List (List PrimitiveTree)) → new ≡ all ++ paths_of (command c) → all ++ paths_of_each (commands (drop i cs)) ≡ whole → new ++ paths_of_each (commands (drop (i + 1) cs)) ≡ whole
+  branch-paths all new whole made before =
       let rest = paths_of_each (commands (drop (i + 1) cs)) in
-      let under = λ (q : List PrimitiveTree). p ++ q in
-      ap (λ z. z ++ map under rest) (made ∙ ap (λ z. all ++ z) (append-nil (continued (paths_of (command c)) p) ∙ ap (λ b. cond b (p ∷ []) (map under (paths_of (command c)))) onward))
-      ∙ append_assoc all (map under (paths_of (command c))) (map under rest)
-      ∙ ap (λ z. all ++ z) (sym (map-append under (paths_of (command c)) rest))
-      ∙ ap (λ z. all ++ map under (paths_of_each z)) (sym (commands-drop cs i c lt is))
+      ap (λ z. z ++ rest) made
+      ∙ append_assoc all (paths_of (command c)) rest
+      ∙ ap (λ z. all ++ paths_of_each z) (sym (commands-drop cs i c lt is))
       ∙ before
-
--- one more member of a list whose lists are joined
-pub one_more : {A B : Type 0} (f : A → List B) (x : A) (rest : List A) (all new whole : List B) → new ≡ all ++ f x → all ++ flat_map f (x ∷ rest) ≡ whole → new ++ flat_map f rest ≡ whole
-one_more f x rest all new whole made before = ap (λ z. z ++ flat_map f rest) made ∙ append_assoc all (f x) (flat_map f rest) ∙ before
-
--- a path that goes on with one primitive
-pub continued-one : (p : List PrimitiveTree) (q : PrimitiveTree) → continued ((q ∷ []) ∷ []) p ≡ one_longer p q ∷ []
-continued-one p q = either (has_abort p)
-  where
-    either : (b : Bool) → cond b (p ∷ []) ((p ++ q ∷ []) ∷ []) ≡ cond b p (p ++ q ∷ []) ∷ []
-    either true = refl
-    either false = refl
-
-pub has_abort-push : (p : List PrimitiveTree) (q : PrimitiveTree) → has_abort (p ++ q ∷ []) ≡ (has_abort p || is_abort q)
-has_abort-push p q = has_abort-append p (q ∷ []) ∙ ap (λ b. has_abort p || b) (last (is_abort q))
-  where
-    last : (b : Bool) → (b || false) ≡ b
-    last true = refl
-    last false = refl
-
--- a path that was pushed to keeps the mark of its abort
-pub pushed_mark : (old new : List Primitive) (q : Primitive) (a b : Bool) → a ≡ has_abort (map primitive old) → b ≡ is_abort (primitive q) → new ≡ old ++ q ∷ [] → (a || b) ≡ has_abort (map primitive new)
-pushed_mark old new q a b marked is made =
-    ap (λ x. x || b) marked
-    ∙ ap (λ x. has_abort (map primitive old) || x) is
-    ∙ sym (has_abort-push (map primitive old) (primitive q))
-    ∙ ap has_abort (sym (map-append primitive old (q ∷ [])))
-    ∙ ap (λ z. has_abort (map primitive z)) (sym made)

@@ -1,5 +1,5 @@
 -- A sentence is false exactly where some values for its leading quantifiers make its body false.
-use Rattle.std.proofs.Common.{◌≡◌, ◌⊎◌, inl, inr, ℕ, zero, suc, ◌<◌, Bool, true, false, ◌&&◌, List, [], ◌∷◌, refl, ap, ◌∙◌, ⊎_elim, arith}
+use Rattle.std.proofs.Common.{◌≡◌, inl, inr, ℕ, zero, suc, ◌<◌, Bool, true, false, ◌&&◌, List, [], ◌∷◌, refl, ap, ◌∙◌, ⊎_elim, arith}
 use Rattle.std.proofs.lemmas.Bool.{cases_lt, and_cases}
 use mathlib.Core.List.{reverse_aux}
 use Rattle.fol_sig.specs.Tables.{Tables, InRange, reading, size_at}

@@ -46,6 +46,9 @@ primitive_code = code_by PrimitiveParts (coded× coded_ℕ (coded× coded_ℕ (c
 abbrev pub path_code : Coded (List PrimitiveTree)
 path_code = coded_list primitive_code
 
+abbrev pub paths_code : Coded (List (List PrimitiveTree))
+paths_code = coded_list path_code
+
 -- the tokens of a command, before others
 abbrev pub CommandToken : Type 0
 CommandToken = ℕ × PrimitiveTree

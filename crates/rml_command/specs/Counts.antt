@@ -1,5 +1,5 @@
 -- How many paths of a list end in abort, and how many go on.
-use Rattle.std.specs.Prelude.{ℕ, suc, min, if◌then◌else◌, List, [], ◌∷◌, ◌++◌}
+use Rattle.std.specs.Prelude.{ℕ, suc, min, if◌then◌else◌, List, [], ◌∷◌}
 use Rattle.rml_command.specs.Trees.{PrimitiveTree}
 use Rattle.rml_command.specs.Paths.{has_abort}
 
@@ -14,7 +14,3 @@ stopped_count (p ∷ ps) = if has_abort p then suc (stopped_count ps) else stopp
 -- a count that stops one above the limit
 abbrev pub capped : ℕ → ℕ
 capped n = min n 4097
-
--- a path with one more primitive, where it goes on
-abbrev pub one_longer : List PrimitiveTree → PrimitiveTree → List PrimitiveTree
-one_longer p q = if has_abort p then p else p ++ q ∷ []

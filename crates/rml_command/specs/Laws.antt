@@ -7,7 +7,7 @@ use Rattle.fol_formula.specs.Syntax.{FormTree, TermTree}
 use Rattle.rml_command.specs.Trees.{PrimitiveTree, set_rel, set_fun, havoc, CommandTree, CommandTrees, seq, choose, followed_by}
 use Rattle.rml_command.specs.Outcomes.{Outcome, ended, aborted, HasOutcome, PathHasOutcome, follow_path, is_true, set_relation, set_function, set_variable, range_of}
 use Rattle.rml_command.specs.Lists.{SomeOf}
-use Rattle.rml_command.specs.Paths.{has_abort, paths_of, havoc_count}
+use Rattle.rml_command.specs.Paths.{has_abort, EndsAtAbort, paths_of, havoc_count}
 use Rattle.rml_command.specs.Models.{ModelTree, FitsPrimitive, FitsPath, FitsModel}
 use Rattle.rml_command.specs.Fragment.{IsInFragment, IsChecked}
 use Rattle.rml_command.specs.Runs.{Safe}
@@ -32,6 +32,11 @@ PathHasFollowedOutcomes = (axioms : List FormTree) (p : List PrimitiveTree) (s :
 pub record PathsKeepKind : Type 0 where
   pub aborts : (axioms : List FormTree) (p : List PrimitiveTree) (s : Tables) → PathHasOutcome axioms p s aborted → has_abort p ≡ true
   pub ends : (axioms : List FormTree) (p : List PrimitiveTree) (s new : Tables) → PathHasOutcome axioms p s (ended new) → has_abort p ≡ false
+
+-- A path of a block, and so that of a goal, has nothing behind an abort.
+pub record PathsEndAtAbort : Type 0 where
+  pub blocks : (c : CommandTree) → AllByRecursion EndsAtAbort (paths_of c)
+  pub goals : (m : ModelTree) (goal : Goal) (p : List PrimitiveTree) → goal_path m goal ≡ Some p → EndsAtAbort p
 
 -- An update or a havoc leads from a structure of the signature to another.
 pub record UpdatesKeepSymbols : Type 0 where

@@ -3,6 +3,8 @@ pub mod Lists
 pub mod View
 pub mod Outcomes
 pub mod Paths
+pub mod Spans
+pub mod Routes
 pub mod Counts
 pub mod Models
 pub mod Fragment

@@ -1,5 +1,5 @@
 -- The paths of a block.
-use Rattle.std.specs.Prelude.{ℕ, suc, Bool, true, false, ◌||◌, if◌then◌else◌, List, [], ◌∷◌, ◌++◌, map}
+use Rattle.std.specs.Prelude.{◌≡◌, ℕ, suc, Bool, true, false, ◌||◌, if◌then◌else◌, List, [], ◌∷◌, ◌++◌, map}
 use Rattle.std.specs.List.{flat_map}
 use Rattle.rml_command.specs.Trees.{PrimitiveTree, assume, set_rel, set_fun, havoc, abort, CommandTree, CommandTrees, prim, seq, choose, no_commands, command_then}
 
@@ -14,6 +14,11 @@ is_abort abort = true
 abbrev pub has_abort : List PrimitiveTree → Bool
 has_abort [] = false
 has_abort (q ∷ qs) = is_abort q || has_abort qs
+
+-- nothing stands behind an abort
+abbrev pub EndsAtAbort : List PrimitiveTree → Type 0
+EndsAtAbort [] = Unit {0}
+EndsAtAbort (q ∷ qs) = (is_abort q ≡ true → qs ≡ []) × EndsAtAbort qs
 
 -- a path goes on with each of the others, or stands once, as it is, where it ends in abort
 abbrev pub continued : List (List PrimitiveTree) → List PrimitiveTree → List (List PrimitiveTree)

@@ -1,5 +1,5 @@
 // A model in the fragment, with the paths of its blocks.
-ghost use Rattle.std.specs.Prelude.{◌≡◌, map};
+ghost use Rattle.std.specs.Prelude.{◌≡◌, [], map};
 ghost use Rattle.std.specs.List.{AllByRecursion};
 ghost use Rattle.fol_sig.specs.Symbols.{symbols};
 ghost use Rattle.rml_command.specs.Paths.{paths_of};
@@ -7,23 +7,27 @@ ghost use Rattle.rml_command.specs.Models.{EachBlock, FitsPath};
 ghost use Rattle.rml_command.specs.Fragment.{IsInFragment, IsInModelFragment, HasFewPaths, IsChecked};
 ghost use Rattle.rml_command.specs.Goals.{stage_paths, goal_path, IsGoal};
 
+use crate::block_paths::Paths;
 use crate::goal::{Goal, Stage};
 use crate::laws::goal_law;
 use crate::model::Model;
 use crate::path::Path;
 use base::Row;
+use std::alloc::Global;
 
 /// A model in the fragment, with the paths of its blocks.
 #[derive(Drop)]
 pub struct Checked {
     model: Model,
-    init: Row<Path>,
-    actions: Row<Row<Path>>,
-    last: Row<Path>,
+    init: Paths,
+    actions: Row<Paths>,
+    last: Paths,
+    // of an action that the model lacks
+    none: Paths,
 }
 
 impl std::marker::Model for Checked {
-    ghost use Rattle.std.specs.Prelude.{◌≡◌, map};
+    ghost use Rattle.std.specs.Prelude.{◌≡◌, [], map};
     ghost use Rattle.rml_command.specs.Models.{ModelTree};
     ghost use Rattle.rml_command.specs.ModelCode.{model_code};
 
@@ -36,11 +40,17 @@ impl std::marker::Model for Checked {
 
     ghost view = { λ c. c.model };
 
-    ghost invariant = { λ c. IsChecked c.model × (c.init ≡ paths_of c.model.init) × (c.actions ≡ map paths_of c.model.actions) × (c.last ≡ paths_of c.model.last) };
+    ghost invariant = { λ c. IsChecked c.model × (c.init ≡ paths_of c.model.init) × (c.actions ≡ map paths_of c.model.actions) × (c.last ≡ paths_of c.model.last) × (c.none ≡ []) };
 }
 
 impl Checked {
-    pub fn new(model: Model, init: Row<Path>, actions: Row<Row<Path>>, last: Row<Path>) -> Checked
+    pub fn new(
+        alloc: Global,
+        model: Model,
+        init: Paths,
+        actions: Row<Paths>,
+        last: Paths,
+    ) -> Checked
         requires fragment { IsInModelFragment model }
         requires few { EachBlock HasFewPaths model }
         requires init { init ≡ paths_of model.init }
@@ -54,6 +64,7 @@ impl Checked {
             init,
             actions,
             last,
+            none: Paths::none(alloc),
         }
     }
 
@@ -65,29 +76,29 @@ impl Checked {
     }
 
     /// The paths of a stage's block, in order. An action that the model lacks has none.
-    pub fn stage_paths(&self, stage: Stage) -> &[Path]
+    pub fn stage_paths(&self, stage: Stage) -> &Paths
         ensures paths { result.now ≡ stage_paths self.now stage }
         ensures checked { IsChecked self.now }
     {
         match stage {
-            Stage::Init => self.init.as_slice(),
+            Stage::Init => &self.init,
             Stage::Action(action) => match self.actions.as_slice().get(action as usize) {
-                Some(paths) => paths.as_slice(),
-                None => &[],
+                Some(paths) => paths,
+                None => &self.none,
             },
-            Stage::Final => self.last.as_slice(),
+            Stage::Final => &self.last,
         }
     }
 
     /// The path of a goal of this model.
-    pub fn path(&self, goal: &Goal) -> &Path
+    pub fn path(&self, goal: &Goal) -> Path<'_>
         requires { IsGoal self.now goal.now }
-        ensures path { goal_path self.now goal.now ≡ Some result.now }
-        ensures fits { FitsPath (symbols self.now.signature) result.now }
-        ensures fragment { AllByRecursion IsInFragment result.now }
+        ensures path { goal_path self.now goal.now ≡ Some result }
+        ensures fits { FitsPath (symbols self.now.signature) result }
+        ensures fragment { AllByRecursion IsInFragment result }
     {
         goal_law();
         let paths = self.stage_paths(goal.stage);
-        &paths[goal.path as usize - 1]
+        paths.path(goal.path as usize - 1)
     }
 }

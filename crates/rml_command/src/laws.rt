@@ -1,5 +1,5 @@
 // What follows from the definitions alone. Each function is its contract, and does nothing.
-ghost use Rattle.rml_command.specs.Laws.{BlockHasPathOutcomes, PathHasFollowedOutcomes, PathsKeepKind, ListsReadFromTheLeft, UpdatesKeepSymbols, FalsehoodHasValues, GoalsAreListed, GoalPathsFit, InductionIsSound};
+ghost use Rattle.rml_command.specs.Laws.{BlockHasPathOutcomes, PathHasFollowedOutcomes, PathsKeepKind, PathsEndAtAbort, ListsReadFromTheLeft, UpdatesKeepSymbols, FalsehoodHasValues, GoalsAreListed, GoalPathsFit, InductionIsSound};
 
 /// The outcomes of a block are those of its paths.
 pub fn block_law()
@@ -7,10 +7,12 @@ pub fn block_law()
 {}
 
 /// The outcomes of a path are those of following it with some elements, one for each havoc. It aborts
-/// only where it has an abort, and ends only where it has none.
+/// only where it has an abort, and ends only where it has none. A path of a block has nothing behind an
+/// abort.
 pub fn path_law()
     ensures followed { PathHasFollowedOutcomes }
     ensures kind { PathsKeepKind }
+    ensures last { PathsEndAtAbort }
 {}
 
 /// A longer sequence or choice is the binary one of the list before its last member, and that member.

@@ -2,8 +2,10 @@
 //! model is safe, what a goal is and what refutes it. The definitions stand in `specs`.
 #![tactic(auto)]
 
+mod block_paths;
 mod checked;
 mod command;
+mod drafts;
 mod goal;
 mod laws;
 mod listing;
@@ -11,7 +13,10 @@ mod model;
 mod names;
 mod path;
 mod places;
+mod route;
+mod span;
 
+pub use block_paths::Paths;
 pub use checked::Checked;
 pub use command::{Command, Primitive};
 pub use goal::{About, Goal, Stage};
@@ -19,5 +24,5 @@ pub use laws::{block_law, goal_law, list_law, path_law, run_law, update_law, val
 pub use listing::{MAX_PATHS, TooManyPaths, has_few_paths, paths};
 pub use model::{Model, Parts};
 pub use names::{Name, Names};
-pub use path::Path;
+pub use path::{Path, Primitives};
 pub use places::{Condition, Places, Word};

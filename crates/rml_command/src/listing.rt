@@ -1,15 +1,20 @@
-// The paths of a block, counted before they are listed.
-ghost use Rattle.std.specs.Prelude.{◌≡◌, ◌+◌, ◌*◌, ◌<◌, ◌≤◌, ◌++◌, ◌∷◌, [], length, IfOk, IfErr, OnOk, IsTrue, ◌↔◌};
-ghost use Rattle.std.specs.List.{flat_map};
+// The paths of a block, counted before they are listed. The paths of a part are made once, from the left, and
+// each path so far goes on with each of them.
+ghost use Rattle.std.specs.Prelude.{◌≡◌, ◌+◌, ◌*◌, ◌^◌, ◌<◌, ◌≤◌, ◌∷◌, [], length, map, IfOk, IfErr, OnOk, IsTrue, ◌↔◌};
+ghost use Rattle.std.specs.List.{AllByRecursion, flat_map};
 ghost use Rattle.base.specs.Because.{Because};
 ghost use Rattle.rml_command.specs.View.{primitive as primitive_view, command as command_view, commands};
 ghost use Rattle.rml_command.specs.Paths.{continued, paths_of, paths_in_turn, paths_of_each};
-ghost use Rattle.rml_command.specs.Counts.{open_count, stopped_count, capped, one_longer};
+ghost use Rattle.rml_command.specs.Counts.{open_count, stopped_count, capped};
+ghost use Rattle.rml_command.specs.Routes.{Grows, IsRoute, path_along};
 
+use crate::block_paths::Paths;
 use crate::command::{Command, Primitive};
-use crate::path::Path;
+use crate::drafts::{Drafts, only};
+use crate::route::Route;
+use crate::span::Span;
 use base::{Mem, Refused};
-use std::alloc::Global;
+use std::alloc::{AllocError, Global};
 
 /// How many paths a block may have.
 pub const MAX_PATHS: u64 = 4096;
@@ -19,18 +24,19 @@ pub const MAX_PATHS: u64 = 4096;
 pub struct TooManyPaths;
 
 /// The paths of a block, in order. They are counted first, so that a block with too many of them is
-/// refused in the time that reading it takes.
-pub fn paths(alloc: Global, command: &Command) -> Result<Vec<Path>, Refused<TooManyPaths>>
-    ensures paths { IfOk result (λ ps. ps.items ≡ paths_of (command_view command.now)) }
+/// refused in the time that reading it takes. Making them takes the time and memory of the block and of
+/// the spans of its paths.
+pub fn paths(alloc: Global, command: &Command) -> Result<Paths, Refused<TooManyPaths>>
+    ensures paths { IfOk result (λ ps. ps ≡ paths_of (command_view command.now)) }
     ensures few { OnOk result (length (paths_of (command_view command.now)) ≤ MAX_PATHS) }
     ensures many { IfErr result (Because (λ cause. MAX_PATHS < length (paths_of (command_view command.now)))) }
 {
     if !has_few_paths(command) {
         return Err(Refused::For(TooManyPaths));
     }
-    let start = only(alloc, Path::new(alloc))?;
-    let all = extend(alloc, start, command)?;
-    Ok(all)
+    let mut primitives = Vec::new(alloc);
+    let routes = list(alloc, command, &mut primitives)?;
+    Ok(Paths::new(primitives, routes))
 }
 
 /// Whether a block has at most `MAX_PATHS` paths. No path is built, and no memory is taken.
@@ -109,88 +115,100 @@ fn count_of_each(branches: &[Command]) -> Counts
     Counts { onward, stopped }
 }
 
-fn only(alloc: Global, path: Path) -> Mem<Vec<Path>>
-    ensures { IfOk result (λ ps. ps.items ≡ path ∷ []) }
-{
-    let mut all = Vec::new(alloc);
-    all.push(path)?;
-    Ok(all)
-}
-
-// Each of these paths goes on with each path of the command, or stands where it ends in abort.
-#[cycle(extend)]
-fn extend(alloc: Global, paths: Vec<Path>, command: &Command) -> Mem<Vec<Path>>
-    ensures { IfOk result (λ ps. ps.items ≡ flat_map (continued (paths_of (command_view command.now))) paths.items) }
+// The routes of a command, whose primitives are listed behind those that stand.
+#[cycle(list)]
+fn list(alloc: Global, command: &Command, into: &mut Vec<Primitive>) -> Mem<Vec<Route>>
+    ensures grown { OnOk result (Grows into.old.items into.new.items) }
+    ensures routes { IfOk result (λ rs. AllByRecursion (IsRoute into.new.items) rs.items) }
+    ensures paths { IfOk result (λ rs. map (path_along into.new.items) rs.items ≡ paths_of (command_view command.now)) }
 {
     match command {
         Command::Prim(primitive) => {
-            let longer = extend_by_one(alloc, paths, primitive)?;
-            Ok(longer)
+            let routes = list_one(alloc, primitive, into)?;
+            Ok(routes)
         }
         Command::Seq(parts) => {
-            let longer = extend_in_turn(alloc, paths, parts)?;
-            Ok(longer)
+            let routes = list_in_turn(alloc, parts, into)?;
+            Ok(routes)
         }
         Command::Choose(branches) => {
-            let longer = extend_by_each(alloc, paths, branches)?;
-            Ok(longer)
+            let routes = list_each(alloc, branches, into)?;
+            Ok(routes)
         }
     }
 }
 
-#[cycle(extend)]
-fn extend_in_turn(alloc: Global, paths: Vec<Path>, parts: &[Command]) -> Mem<Vec<Path>>
-    ensures { IfOk result (λ ps. ps.items ≡ flat_map (continued (paths_in_turn (commands parts.now))) paths.items) }
+fn list_one(alloc: Global, primitive: &Primitive, into: &mut Vec<Primitive>) -> Mem<Vec<Route>>
+    ensures grown { OnOk result (Grows into.old.items into.new.items) }
+    ensures routes { IfOk result (λ rs. AllByRecursion (IsRoute into.new.items) rs.items) }
+    ensures paths { IfOk result (λ rs. map (path_along into.new.items) rs.items ≡ (primitive_view primitive.now ∷ []) ∷ []) }
 {
-    let mut longer = paths;
+    let start = place(into.len())?;
+    into.push(primitive.copy(alloc)?)?;
+    let span = Span {
+        start,
+        end: start + 1,
+    };
+    let routes = only(alloc, Route::of(alloc, span, primitive.is_abort()))?;
+    Ok(routes)
+}
+
+// A place has four bytes. A list of 2^32 primitives is taken for want of memory.
+fn place(len: usize) -> Mem<u32>
+    ensures place { IfOk result (λ place. place ≡ len) }
+    ensures small { IfOk result (λ place. place + 1 < 2 ^ 32) }
+{
+    if len >= u32::MAX as usize {
+        return Err(AllocError);
+    }
+    Ok(len as u32)
+}
+
+#[cycle(list)]
+fn list_in_turn(alloc: Global, parts: &[Command], into: &mut Vec<Primitive>) -> Mem<Vec<Route>>
+    ensures grown { OnOk result (Grows into.old.items into.new.items) }
+    ensures routes { IfOk result (λ rs. AllByRecursion (IsRoute into.new.items) rs.items) }
+    ensures paths { IfOk result (λ rs. map (path_along into.new.items) rs.items ≡ paths_in_turn (commands parts.now)) }
+{
+    let mut drafts = Drafts::new(alloc)?;
     for part in parts {
-        longer = extend(alloc, longer, part)?;
+        drafts = list_behind(alloc, drafts, part, into)?;
     }
+    let routes = drafts.into_routes(alloc)?;
+    Ok(routes)
+}
+
+// Behind aborts alone nothing is done, so no part is listed there.
+#[cycle(list)]
+fn list_behind(
+    alloc: Global,
+    drafts: Drafts,
+    part: &Command,
+    into: &mut Vec<Primitive>,
+) -> Mem<Drafts>
+    requires { AllByRecursion (IsRoute into.old.items) drafts }
+    ensures grown { OnOk result (Grows into.old.items into.new.items) }
+    ensures routes { IfOk result (AllByRecursion (IsRoute into.new.items)) }
+    ensures paths { IfOk result (λ ds. map (path_along into.new.items) ds ≡ flat_map (continued (paths_of (command_view part.now))) (map (path_along into.old.items) drafts)) }
+{
+    if !drafts.goes_on() {
+        return Ok(drafts);
+    }
+    let next = list(alloc, part, into)?;
+    let longer = drafts.go_on(alloc, next)?;
     Ok(longer)
 }
 
-#[cycle(extend)]
-fn extend_by_each(alloc: Global, paths: Vec<Path>, branches: &[Command]) -> Mem<Vec<Path>>
-    ensures { IfOk result (λ ps. ps.items ≡ flat_map (continued (paths_of_each (commands branches.now))) paths.items) }
+#[cycle(list)]
+fn list_each(alloc: Global, branches: &[Command], into: &mut Vec<Primitive>) -> Mem<Vec<Route>>
+    ensures grown { OnOk result (Grows into.old.items into.new.items) }
+    ensures routes { IfOk result (λ rs. AllByRecursion (IsRoute into.new.items) rs.items) }
+    ensures paths { IfOk result (λ rs. map (path_along into.new.items) rs.items ≡ paths_of_each (commands branches.now)) }
 {
-    let mut longer = Vec::new(alloc);
-    for path in paths {
-        branch(alloc, path, branches, &mut longer)?;
-    }
-    Ok(longer)
-}
-
-#[cycle(extend)]
-fn branch(alloc: Global, path: Path, branches: &[Command], into: &mut Vec<Path>) -> Mem<()>
-    ensures { OnOk result (into.new.items ≡ into.old.items ++ continued (paths_of_each (commands branches.now)) path) }
-{
-    if path.has_abort() {
-        into.push(path)?;
-        return Ok(());
-    }
+    let mut all = Vec::new(alloc);
     for branch in branches {
-        let start = only(alloc, path.copy(alloc)?)?;
-        let mut longer = extend(alloc, start, branch)?;
-        into.append(&mut longer)?;
+        let mut next = list(alloc, branch, into)?;
+        all.append(&mut next)?;
     }
-    Ok(())
-}
-
-fn extend_by_one(alloc: Global, paths: Vec<Path>, primitive: &Primitive) -> Mem<Vec<Path>>
-    ensures { IfOk result (λ ps. ps.items ≡ flat_map (continued ((primitive_view primitive.now ∷ []) ∷ [])) paths.items) }
-{
-    let mut longer = Vec::new(alloc);
-    for path in paths {
-        longer.push(one_longer(alloc, path, primitive)?)?;
-    }
-    Ok(longer)
-}
-
-fn one_longer(alloc: Global, mut path: Path, primitive: &Primitive) -> Mem<Path>
-    ensures { IfOk result (λ p. p ≡ one_longer path (primitive_view primitive.now)) }
-{
-    if !path.has_abort() {
-        path.push(primitive.copy(alloc)?)?;
-    }
-    Ok(path)
+    Ok(all)
 }

@@ -1,5 +1,6 @@
 use Rattle.rml_command.proofs.Following.{following_law}
 use Rattle.rml_command.proofs.PathLaw.{path_aborts, path_ends}
+use Rattle.rml_command.proofs.AbortLast.{paths_end_at_abort}
 use Rattle.rml_command.proofs.laws.path_law.Goals as goal
 
 pub returns-clause-followed : goal.returns-clause-followed
@@ -7,3 +8,6 @@ returns-clause-followed c = following_law
 
 pub returns-clause-kind : goal.returns-clause-kind
 returns-clause-kind c = record { aborts = path_aborts; ends = path_ends }
+
+pub returns-clause-last : goal.returns-clause-last
+returns-clause-last c = paths_end_at_abort

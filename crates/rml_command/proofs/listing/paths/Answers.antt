@@ -1,9 +1,7 @@
-use Rattle.std.proofs.Common.{◌≡◌, ℕ, ◌<◌, ◌≤◌, nat_lt, Bool, true, false, IsTrue, ◌↔◌, ◌∷◌, [], length, refl, sym, ap, ◌∙◌}
-use Rattle.std.specs.List.{flat_map}
+use Rattle.std.proofs.Common.{◌≡◌, ℕ, ◌<◌, ◌≤◌, nat_lt, Bool, true, false, length, refl, sym, ◌∙◌}
 use Rattle.std.proofs.lemmas.Bool.{ltb-true, ltb-false}
 use Rattle.rml_command.specs.View.{command}
-use Rattle.rml_command.specs.Paths.{continued, paths_of}
-use Rattle.rml_command.proofs.Counting.{continued-start}
+use Rattle.rml_command.specs.Paths.{paths_of}
 use Rattle.rml_command.proofs.listing.paths.Goals as goal
 
 more : (n : ℕ) (x : Bool) → nat_lt 4096 n ≡ x → (n ≤ 4096 → ⊥) → 4096 < n
@@ -17,7 +15,3 @@ returns-then-not-has_few_paths-clause-many c =
 
 pub returns-clause-few : goal.returns-clause-few
 returns-clause-few c = c.has_few_paths.ensures.0 c.if-not-has_few_paths.false
-
-pub returns-clause-paths : goal.returns-clause-paths
-returns-clause-paths c =
-    c.in_ok-all.ensures ∙ ap (flat_map (continued (paths_of (command c.args.command.now)))) (c.in_ok-start.ensures ∙ ap (λ p. p ∷ []) c.new.ensures) ∙ continued-start (paths_of (command c.args.command.now))
