@@ -7,4 +7,3 @@ pub mod Rooms
 mod InStructures
 mod Fragments
 pub mod Meaning
-mod Samples
