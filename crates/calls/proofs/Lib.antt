@@ -1,2 +1,2 @@
-pub mod Following
-pub mod Replacing
+pub mod BlockPaths
+pub mod Replaceable

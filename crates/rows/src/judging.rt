@@ -7,7 +7,6 @@ use crate::row::{Expected, Prefixes, Row};
 use crate::running::{Actual, Cut, run_on_disk, run_on_memory};
 use base::{Mem, Refused};
 use std::alloc::Global;
-use std::rt;
 
 // How many statuses there are.
 const STATUSES: usize = 8;
@@ -98,12 +97,12 @@ fn count_statuses(
 }
 
 fn judge_prefixes(alloc: Global, row: &Row, prefixes: &Prefixes) -> Parsed<Report> {
-    let mut report = Report::new(alloc);
     let name = prefixes.file.as_str();
     let Some(file) = row.files.iter().find(|file| file.name.as_str() == name) else {
         return Err(Refused::For("a row has no file of this name"));
     };
     let (counts, unanswered) = count_statuses(alloc, row, name, file.bytes.len())?;
+    let mut report = Report::new(alloc);
     if let Some(end) = unanswered {
         let actual = format!(in alloc; "not the prefix of {end} bytes")?;
         report.compare(alloc, "answered", "each prefix", actual.as_str())?;
@@ -119,7 +118,7 @@ fn judge_prefixes(alloc: Global, row: &Row, prefixes: &Prefixes) -> Parsed<Repor
 }
 
 /// Runs a row, and says how it differs from what is expected of it.
-pub fn judge<R: rt::Files + Drop>(alloc: Global, system: R, row: &Row) -> Parsed<Report> {
+pub fn judge(alloc: Global, system: HostRuntime, row: &Row) -> Parsed<Report> {
     if let Some(prefixes) = &row.prefixes {
         return judge_prefixes(alloc, row, prefixes);
     }

@@ -8,7 +8,6 @@ use base::{Mem, Refused};
 use ivy_run::{Ended, Outcome, Written, run};
 use rml_bytes::{Bytes, DiskFiles, Files, MemFiles, MemSink, Name};
 use std::alloc::Global;
-use std::rt;
 
 /// What a run leaves, in the words of a file of rows, and on the two sinks.
 #[derive(Drop)]
@@ -169,7 +168,7 @@ pub fn run_on_memory(alloc: Global, row: &Row, cut: Option<Cut>) -> Parsed<Actua
 }
 
 /// Runs the program on the files of the folder.
-pub fn run_on_disk<R: rt::Files + Drop>(alloc: Global, system: R, row: &Row) -> Parsed<Actual> {
+pub fn run_on_disk(alloc: Global, system: HostRuntime, row: &Row) -> Parsed<Actual> {
     let mut files = DiskFiles::new(system);
     run_over(alloc, row, &mut files)
 }

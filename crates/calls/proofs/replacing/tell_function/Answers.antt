@@ -1,5 +1,5 @@
 use Rattle.fol_formula.specs.View.{form, term}
-use Rattle.calls.proofs.Replacing.{function}
+use Rattle.calls.proofs.Replaceable.{function}
 use Rattle.calls.proofs.replacing.tell_function.Goals as goal
 
 pub replace_fun-requires : goal.replace_fun-requires

@@ -1,6 +1,6 @@
 use Rattle.std.proofs.Common.{[], ◌∷◌, ◌∙◌}
 use Rattle.fol_formula.specs.View.{form}
-use Rattle.calls.proofs.Replacing.{sample, doubled-fits, can_double, doubling}
+use Rattle.calls.proofs.Replaceable.{sample, doubled-fits, can_double, doubling}
 use Rattle.calls.proofs.replacing.tell_limit.Goals as goal
 
 pub replace_rel-requires : goal.replace_rel-requires

@@ -1,7 +1,7 @@
 use Rattle.std.proofs.Common.{[], ◌∷◌}
 use Rattle.fol_formula.specs.View.{form}
 use Rattle.fol_formula.specs.Fits.{FitsForm}
-use Rattle.calls.proofs.Replacing.{sample}
+use Rattle.calls.proofs.Replaceable.{sample}
 use Rattle.calls.proofs.replacing.tell_limit.Given as goal
 
 abbrev pub invariant-loop-turn : goal.invariant-loop-turn

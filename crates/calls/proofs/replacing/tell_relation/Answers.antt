@@ -1,5 +1,5 @@
 use Rattle.fol_formula.specs.View.{form}
-use Rattle.calls.proofs.Replacing.{relation}
+use Rattle.calls.proofs.Replaceable.{relation}
 use Rattle.calls.proofs.replacing.tell_relation.Goals as goal
 
 pub replace_rel-requires : goal.replace_rel-requires

@@ -1,5 +1,5 @@
 use Rattle.fol_formula.specs.View.{form}
-use Rattle.calls.proofs.Replacing.{raised}
+use Rattle.calls.proofs.Replaceable.{raised}
 use Rattle.calls.proofs.replacing.tell_shift.Goals as goal
 
 pub shift-requires : goal.shift-requires

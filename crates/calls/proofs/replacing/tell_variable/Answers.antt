@@ -1,5 +1,5 @@
 use Rattle.fol_formula.specs.View.{form}
-use Rattle.calls.proofs.Replacing.{variable}
+use Rattle.calls.proofs.Replaceable.{variable}
 use Rattle.calls.proofs.replacing.tell_variable.Goals as goal
 
 pub replace_const-requires : goal.replace_const-requires
