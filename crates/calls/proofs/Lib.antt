@@ -1,0 +1,2 @@
+pub mod BlockPaths
+pub mod Replaceable

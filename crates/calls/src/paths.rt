@@ -1,0 +1,52 @@
+// The paths of a model's first block, in order.
+use crate::models::model_of;
+use crate::texts::fault_of;
+use base::{Mem, Refused};
+use rml_command::{Path, Primitive, paths};
+use std::alloc::{AllocError, Global};
+
+// Havoc is shown by the number of its variable, so that steps of a path can be told from one another.
+fn push_step(alloc: Global, list: &mut String, primitive: &Primitive) -> Mem<()> {
+    match primitive {
+        Primitive::Assume(_) => list.push_str(" assume")?,
+        Primitive::SetRel(relation, _) => {
+            let number = relation.0;
+            list.push_str(format!(in alloc; " relation {number}")?.as_str())?
+        }
+        Primitive::SetFun(function, _) => {
+            let number = function.0;
+            list.push_str(format!(in alloc; " function {number}")?.as_str())?
+        }
+        Primitive::Havoc(variable) => {
+            let number = variable.0;
+            list.push_str(format!(in alloc; " {number}")?.as_str())?
+        }
+        Primitive::Abort => list.push_str(" abort")?,
+    }
+    Ok(())
+}
+
+fn listed(alloc: Global, all: &[Path]) -> Mem<String> {
+    let count = all.len();
+    let mut list = format!(in alloc; "{count} paths:")?;
+    for path in all.iter().take(8) {
+        for primitive in path.primitives() {
+            push_step(alloc, &mut list, primitive)?;
+        }
+        list.push(';')?;
+    }
+    Ok(list)
+}
+
+/// How many paths the block `init` has, and the first eight of them.
+pub fn paths_of(alloc: Global, text: &[u8]) -> Mem<String> {
+    let model = match model_of(alloc, text) {
+        Ok(model) => model,
+        Err(refused) => return fault_of(alloc, text, refused),
+    };
+    match paths(alloc, model.init()) {
+        Ok(all) => listed(alloc, &all),
+        Err(Refused::For(_)) => String::from_str(alloc, "too many paths"),
+        Err(Refused::NoMemory) => Err(AllocError),
+    }
+}

@@ -1,0 +1,131 @@
+// Whether a row is as expected: what its run leaves, or the runs on each prefix of one of its files.
+ghost use Rattle.std.specs.Prelude.{◌≡◌, IsTrue, IfOk};
+
+use crate::reader::Parsed;
+use crate::report::Report;
+use crate::row::{Expected, Prefixes, Row};
+use crate::running::{Actual, Cut, run_on_disk, run_on_memory};
+use base::{Mem, Refused};
+use std::alloc::Global;
+
+// How many statuses there are.
+const STATUSES: usize = 8;
+
+// The status of a text with a fault, and of a line that is not accepted.
+const REFUSED: u8 = 4;
+
+fn compare_words(
+    alloc: Global,
+    expected: &Expected,
+    actual: &Actual,
+    report: &mut Report,
+) -> Mem<()> {
+    let status = format!(in alloc; "{}", actual.status)?;
+    let expected_status = match &expected.status {
+        Some(status) => status.as_str(),
+        None => "none",
+    };
+    report.compare(alloc, "status", expected_status, status.as_str())?;
+    if let Some(outcome) = &expected.outcome {
+        report.compare(alloc, "outcome", outcome.as_str(), actual.outcome)?;
+    }
+    if let Some(written) = &expected.written {
+        report.compare(alloc, "written", written.as_str(), actual.written)?;
+    }
+    if let Some(loads) = &expected.loads {
+        let (first, second) = actual.loads;
+        let text = format!(in alloc; "{first} {second}")?;
+        report.compare(alloc, "loads", loads.as_str(), text.as_str())?;
+    }
+    Ok(())
+}
+
+fn compare(alloc: Global, row: &Row, actual: &Actual) -> Parsed<Report>
+    ensures out { IfOk result (λ r. IsTrue r.is_well → row.now.out.expected.items ≡ actual.now.out.taken) }
+    ensures err { IfOk result (λ r. IsTrue r.is_well → row.now.err.expected.items ≡ actual.now.err.taken) }
+{
+    let mut report = Report::new(alloc);
+    compare_words(alloc, &row.expected, actual, &mut report)?;
+    report.compare_bytes(alloc, "out", &row.out.expected, actual.out.taken())?;
+    report.compare_bytes(alloc, "err", &row.err.expected, actual.err.taken())?;
+    if !actual.stands_in_text {
+        report.compare(alloc, "place of the fault", "in the text", "behind it")?;
+    }
+    Ok(report)
+}
+
+// Whether a run ends with a report on one sink or with a line on the other, and a fault stands in its text.
+fn is_answered(actual: &Actual) -> bool {
+    let is_refused = actual.status == REFUSED;
+    actual.stands_in_text
+        && actual.written == "all"
+        && actual.out.taken().is_empty() == is_refused
+        && actual.err.taken().is_empty() == !is_refused
+}
+
+fn text_of(alloc: Global, counts: &[u64]) -> Mem<String> {
+    let mut text = String::new(alloc);
+    for (status, count) in counts.iter().enumerate() {
+        if *count > 0 {
+            let comma = if text.is_empty() { "" } else { ", " };
+            let count = *count;
+            text.push_str(format!(in alloc; "{comma}{status}: {count}")?.as_str())?;
+        }
+    }
+    Ok(text)
+}
+
+// How often the runs on the proper prefixes of this file, which has that length, end with each status. The second
+// number is that of a prefix that is not answered, if there is one.
+fn count_statuses(
+    alloc: Global,
+    row: &Row,
+    file: &str,
+    length: usize,
+) -> Parsed<(Vec<u64>, Option<usize>)> {
+    let mut counts = vec![in alloc; 0u64; STATUSES]?;
+    for end in 0..length {
+        let actual = run_on_memory(alloc, row, Some(Cut { file, end }))?;
+        if !is_answered(&actual) {
+            return Ok((counts, Some(end)));
+        }
+        if let Some(count) = counts.get_mut(usize::from(actual.status)) {
+            *count = count.saturating_add(1);
+        }
+    }
+    Ok((counts, None))
+}
+
+fn judge_prefixes(alloc: Global, row: &Row, prefixes: &Prefixes) -> Parsed<Report> {
+    let name = prefixes.file.as_str();
+    let Some(file) = row.files.iter().find(|file| file.name.as_str() == name) else {
+        return Err(Refused::For("a row has no file of this name"));
+    };
+    let (counts, unanswered) = count_statuses(alloc, row, name, file.bytes.len())?;
+    let mut report = Report::new(alloc);
+    if let Some(end) = unanswered {
+        let actual = format!(in alloc; "not the prefix of {end} bytes")?;
+        report.compare(alloc, "answered", "each prefix", actual.as_str())?;
+    }
+    let statuses = text_of(alloc, &counts)?;
+    report.compare(
+        alloc,
+        "statuses",
+        prefixes.statuses.as_str(),
+        statuses.as_str(),
+    )?;
+    Ok(report)
+}
+
+/// Runs a row, and says how it differs from what is expected of it.
+pub fn judge(alloc: Global, system: HostRuntime, row: &Row) -> Parsed<Report> {
+    if let Some(prefixes) = &row.prefixes {
+        return judge_prefixes(alloc, row, prefixes);
+    }
+    let actual = if row.is_on_disk {
+        run_on_disk(alloc, system, row)?
+    } else {
+        run_on_memory(alloc, row, None)?
+    };
+    compare(alloc, row, &actual)
+}

@@ -1,0 +1,108 @@
+//! Runs rows of the whole program: words and files, and what is to come out, to the byte. It says how each row differs
+//! that does. The rows are data, so that a new one needs no proof.
+//!
+//! Each word of the command line names a file of rows. In the files behind the word `differ` each row has to differ:
+//! they show that this program tells.
+#![tactic(auto)]
+
+mod judging;
+mod notation;
+mod reader;
+mod report;
+mod row;
+mod running;
+
+use base::Refused;
+use judging::judge;
+use reader::read_rows;
+use row::Row;
+use std::alloc::Global;
+use std::process::ExitCode;
+use std::{env, fs, io};
+
+// Says that a file of rows can't be used from this line on.
+fn complain(
+    rt: &impl Print,
+    name: &str,
+    line: u64,
+    cause: Refused<&'static str>,
+) -> io::Result<()> {
+    let cause = match cause {
+        Refused::NoMemory => "no memory",
+        Refused::For(cause) => cause,
+    };
+    println!(rt; "{name}, line {line}: {cause}")
+}
+
+// Says how a row differs, if it does.
+fn tell_row(rt: HostRuntime, alloc: Global, name: &str, row: &Row) -> io::Result<bool> {
+    let (line, title) = (row.line, row.title.as_str());
+    match judge(alloc, rt, row) {
+        Ok(report) => {
+            if !report.is_well {
+                let lines = report.lines.as_str();
+                print!(&rt; "{name}, line {line}: {title}\n{lines}")?;
+            }
+            Ok(report.is_well)
+        }
+        Err(cause) => {
+            complain(&rt, name, line, cause)?;
+            Ok(false)
+        }
+    }
+}
+
+// Says which rows differ, and whether they are those that have to.
+fn tell_rows(
+    rt: HostRuntime,
+    alloc: Global,
+    name: &str,
+    rows: &[Row],
+    has_to_differ: bool,
+) -> io::Result<bool> {
+    let count = rows.len();
+    let mut differ = 0usize;
+    for row in rows {
+        if !tell_row(rt, alloc, name, row)? {
+            differ = differ.saturating_add(1);
+        }
+    }
+    println!(&rt; "{name}: {count} rows, {differ} differ")?;
+    Ok(count > 0 && differ == if has_to_differ { count } else { 0 })
+}
+
+fn tell_file(rt: HostRuntime, alloc: Global, name: &str, has_to_differ: bool) -> io::Result<bool> {
+    let text = fs::read_to_string(&rt, name)?;
+    match read_rows(alloc, text.as_str()) {
+        Ok(rows) => tell_rows(rt, alloc, name, &rows, has_to_differ),
+        Err((line, cause)) => {
+            complain(&rt, name, line, cause)?;
+            Ok(false)
+        }
+    }
+}
+
+fn tell_files(rt: HostRuntime) -> io::Result<bool> {
+    let alloc = rt.alloc();
+    let mut are_well = true;
+    let mut has_to_differ = false;
+    for word in env::args(&rt)?.skip(1) {
+        if word.as_str() == "differ" {
+            has_to_differ = true;
+        } else {
+            are_well &= tell_file(rt, alloc, word.as_str(), has_to_differ)?;
+        }
+    }
+    Ok(are_well)
+}
+
+fn main(rt: HostRuntime) -> ExitCode {
+    match tell_files(rt) {
+        Ok(true) => ExitCode::SUCCESS,
+        Ok(false) => ExitCode::FAILURE,
+        Err(_) => {
+            let _ = eprintln!(&rt; "a file can't be read, or the memory or the output fails");
+            ExitCode::FAILURE
+        }
+    }
+}

@@ -1,0 +1,174 @@
+// A run of the whole program on a row, and what it leaves.
+ghost use Rattle.std.specs.Prelude.{IsTrue, All, ◌≢◌};
+ghost use Rattle.rml_bytes.specs.Memory.{NamesDiffer, IncreaseAbove, firsts};
+
+use crate::reader::Parsed;
+use crate::row::{Row, Stream, Text};
+use base::{Mem, Refused};
+use ivy_run::{Ended, Outcome, Written, run};
+use rml_bytes::{Bytes, DiskFiles, Files, MemFiles, MemSink, Name};
+use std::alloc::Global;
+
+/// What a run leaves, in the words of a file of rows, and on the two sinks.
+#[derive(Drop)]
+pub struct Actual {
+    pub status: u8,
+    pub outcome: &'static str,
+    pub written: &'static str,
+    pub loads: (usize, usize),
+    /// Where the answer is a fault: it stands in its text, or at its end.
+    pub stands_in_text: bool,
+    pub out: MemSink,
+    pub err: MemSink,
+}
+
+/// A front of a file that takes the file's place.
+#[derive(Clone, Copy)]
+pub struct Cut<'a> {
+    pub file: &'a str,
+    pub end: usize,
+}
+
+fn increase(numbers: &[u64]) -> bool
+    ensures { IsTrue result → IncreaseAbove 0 numbers.now }
+{
+    let mut last = 0;
+    let mut rest = numbers;
+    while let [first, after @ ..] = rest {
+        if *first <= last {
+            return false;
+        }
+        last = *first;
+        rest = after;
+    }
+    true
+}
+
+fn firsts_increase(faults: &[(u64, u64)]) -> bool
+    ensures { IsTrue result → IncreaseAbove 0 (firsts faults.now) }
+{
+    let mut last = 0;
+    let mut rest = faults;
+    while let [first, after @ ..] = rest {
+        if first.0 <= last {
+            return false;
+        }
+        last = first.0;
+        rest = after;
+    }
+    true
+}
+
+fn is_new(name: &Name, files: &[(Name, Bytes)]) -> bool
+    ensures { IsTrue result → All (λ file. name.now ≢ file.0) files.now }
+{
+    files
+        .iter()
+        .all(|file| file.0.as_slice() != name.as_slice())
+}
+
+#[tactic(auto, using(crate::proofs::Names::names_differ_step))]
+fn names_differ(files: &[(Name, Bytes)]) -> bool
+    ensures { IsTrue result → NamesDiffer files.now }
+{
+    let mut rest = files;
+    while let Some((file, after)) = rest.split_first() {
+        if !is_new(&file.0, after) {
+            return false;
+        }
+        rest = after;
+    }
+    true
+}
+
+// The bytes of a file, or the front of them that takes their place.
+fn bytes_of<'a>(file: &'a Text, cut: Option<Cut>) -> &'a [u8] {
+    let bytes = file.bytes.as_slice();
+    match cut {
+        Some(cut) if file.name.as_str() == cut.file => bytes.get(..cut.end).unwrap_or(bytes),
+        _ => bytes,
+    }
+}
+
+// The files of a row in memory.
+fn files_of(alloc: Global, row: &Row, cut: Option<Cut>) -> Parsed<MemFiles> {
+    let mut files = Vec::new(alloc);
+    for file in &row.files {
+        let name = Name::from_slice(alloc, file.name.as_bytes())?;
+        let bytes = bytes_of(file, cut).to_vec(alloc)?;
+        files.push((name, Bytes::from_vec(bytes)))?;
+    }
+    if !names_differ(&files) {
+        return Err(Refused::For("two files have one name"));
+    }
+    let failing = row.failing.as_slice().to_vec(alloc)?;
+    if !increase(&failing) {
+        return Err(Refused::For("the numbers of failing loads increase from 1"));
+    }
+    Ok(MemFiles::new(files, failing))
+}
+
+fn sink_of(alloc: Global, stream: &Stream) -> Parsed<MemSink> {
+    let failing = stream.failing.as_slice().to_vec(alloc)?;
+    if !firsts_increase(&failing) {
+        return Err(Refused::For("the numbers of failing puts increase from 1"));
+    }
+    Ok(MemSink::new(alloc, stream.room, failing)?)
+}
+
+fn name_of(outcome: &Outcome) -> &'static str {
+    match outcome {
+        Outcome::Checked { .. } => "checked",
+        Outcome::Refuted => "refuted",
+        Outcome::NotRefuted => "not refuted",
+        Outcome::CnfFault(_) => "formula fault",
+        Outcome::LogFault(_) => "log fault",
+        Outcome::Refused(_) => "refused",
+        Outcome::Fault(_) => "fault",
+        Outcome::Usage => "usage",
+        Outcome::TooLong => "too long",
+        Outcome::ReadFault => "read fault",
+        Outcome::NoMemory => "no memory",
+    }
+}
+
+fn stands_in_text(ended: &Ended) -> bool {
+    let first = ended.loaded.first.len() as u64;
+    match &ended.outcome {
+        Outcome::Fault(fault) => fault.at <= first,
+        Outcome::CnfFault(fault) => fault.at <= first,
+        Outcome::LogFault(fault) => fault.at <= ended.loaded.second.len() as u64,
+        _ => true,
+    }
+}
+
+fn run_over<F: Files>(alloc: Global, row: &Row, files: &mut F) -> Parsed<Actual> {
+    let mut out = sink_of(alloc, &row.out)?;
+    let mut err = sink_of(alloc, &row.err)?;
+    let ended = run(alloc, &row.words, files, &mut out, &mut err);
+    let written = match ended.written {
+        Written::All => "all",
+        Written::Failed => "failed",
+    };
+    Ok(Actual {
+        status: ended.status,
+        outcome: name_of(&ended.outcome),
+        written,
+        loads: (ended.loaded.first.len(), ended.loaded.second.len()),
+        stands_in_text: stands_in_text(&ended),
+        out,
+        err,
+    })
+}
+
+/// Runs the program on a row, with a front of one of its files in the place of this file.
+pub fn run_on_memory(alloc: Global, row: &Row, cut: Option<Cut>) -> Parsed<Actual> {
+    let mut files = files_of(alloc, row, cut)?;
+    run_over(alloc, row, &mut files)
+}
+
+/// Runs the program on the files of the folder.
+pub fn run_on_disk(alloc: Global, system: HostRuntime, row: &Row) -> Parsed<Actual> {
+    let mut files = DiskFiles::new(system);
+    run_over(alloc, row, &mut files)
+}
