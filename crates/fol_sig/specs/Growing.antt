@@ -6,8 +6,8 @@ use Rattle.fol_sig.specs.Symbols.{Symbols, AreSorted, FitsStructure, symbols}
 use Rattle.fol_sig.specs.Strata.{IsStrata}
 use Rattle.fol_sig.specs.Constants.{with_constants, reduct}
 
--- The same sorts and symbols, with relations and functions behind them. The new functions have no arguments, so the sorts
--- have the same orders.
+-- The same sorts and symbols, with relations and functions behind them. The new functions have no arguments, so the
+-- sorts have the same orders.
 pub record Grows (sig more : Symbols) : Type 0 where
   pub sorts : more.sorts ≡ sig.sorts
   pub relations : sig.relations ≤ more.relations

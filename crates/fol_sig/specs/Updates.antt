@@ -45,10 +45,12 @@ with_function_cells s g cells = record {
 
 -- the structure with this value of r, or of g, at one tuple
 abbrev pub with_rel_at : Tables → ℕ → List ℕ → Bool → Tables
-with_rel_at s r xs v = with_relation_cells s r (slice_set (relation_at s r).cells (place_of s.sizes (relation_at s r).sorts xs) v)
+with_rel_at s r xs v =
+    with_relation_cells s r (slice_set (relation_at s r).cells (place_of s.sizes (relation_at s r).sorts xs) v)
 
 abbrev pub with_fun_at : Tables → ℕ → List ℕ → ℕ → Tables
-with_fun_at s g xs v = with_function_cells s g (slice_set (function_at s g).cells (place_of s.sizes (function_at s g).sorts xs) v)
+with_fun_at s g xs v =
+    with_function_cells s g (slice_set (function_at s g).cells (place_of s.sizes (function_at s g).sorts xs) v)
 
 -- the structure where r is true of the tuples of which f is, each taken with its last element first
 abbrev pub with_relation : Tables → ℕ → (List ℕ → Bool) → Tables
