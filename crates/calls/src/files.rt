@@ -1,6 +1,6 @@
 // Files and sinks: in memory and of the system.
 use base::Mem;
-use rml_bytes::{Bytes, DiskFiles, Files, MemFiles, MemSink, Name, Sink, StdSink};
+use rml_bytes::{Bytes, DiskFiles, FileName, Files, MemFiles, MemSink, Sink, StdSink};
 use std::alloc::Global;
 use std::io;
 
@@ -28,7 +28,7 @@ fn tell_loads<F: Files, R: Print>(
 }
 
 fn memory(alloc: Global) -> Mem<MemFiles> {
-    let name = Name::from_slice(alloc, b"abc.txt")?;
+    let name = FileName::from_slice(alloc, b"abc.txt")?;
     let bytes = Bytes::from_vec(b"abc".to_vec(alloc)?);
     let files = vec![in alloc; (name, bytes)]?;
     Ok(MemFiles::new(files, Vec::new(alloc)))
@@ -36,7 +36,7 @@ fn memory(alloc: Global) -> Mem<MemFiles> {
 
 // The second load fails.
 fn tell_failing<R: Print>(rt: &R, alloc: Global) -> io::Result<()> {
-    let name = Name::from_slice(alloc, b"abc.txt")?;
+    let name = FileName::from_slice(alloc, b"abc.txt")?;
     let bytes = Bytes::from_vec(b"abc".to_vec(alloc)?);
     let files = vec![in alloc; (name, bytes)]?;
     let mut files = MemFiles::new(files, vec![in alloc; 2]?);

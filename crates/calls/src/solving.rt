@@ -1,8 +1,6 @@
-// The answers of both solvers.
-ghost use Rattle.std.specs.Prelude.{◌+◌, ◌≤◌, length};
-
+// The answers of the solver.
 use base::{Mem, Refused};
-use cdcl::{Solved, solve, solve_plain};
+use cdcl::{Solved, solve};
 use cnf_base::{Cnf, read_cnf};
 use std::alloc::{AllocError, Global};
 
@@ -20,38 +18,20 @@ fn told(alloc: Global, solved: &Solved) -> Mem<String> {
     }
 }
 
-fn watched(alloc: Global, cnf: &Cnf, budget: u64) -> Mem<String>
-    requires few { cnf.now.variables ≤ 1000 }
-    requires room { length cnf.now.clauses + budget ≤ 2000 }
-{
+fn solved(alloc: Global, cnf: &Cnf, budget: u64) -> Mem<String> {
+    if cnf.clauses().len() > 1000 || budget > 1000 || cnf.variables() > 1000 {
+        return String::from_str(alloc, "an input for a bench");
+    }
     let solved = solve(alloc, cnf, budget)?;
     told(alloc, &solved)
 }
 
-fn plain(alloc: Global, cnf: &Cnf, budget: u64) -> Mem<String>
-    requires few { cnf.now.variables ≤ 1000 }
-    requires room { length cnf.now.clauses + budget ≤ 2000 }
-{
-    let solved = solve_plain(alloc, cnf, budget)?;
-    told(alloc, &solved)
-}
-
-fn both(alloc: Global, cnf: &Cnf, budget: u64) -> Mem<String> {
-    if cnf.clauses().len() > 1000 || budget > 1000 || cnf.variables() > 1000 {
-        return String::from_str(alloc, "an input for a bench");
-    }
-    let watched = watched(alloc, cnf, budget)?;
-    let plain = plain(alloc, cnf, budget)?;
-    let (watched, plain) = (watched.as_str(), plain.as_str());
-    format!(in alloc; "{watched}; plainly {plain}")
-}
-
-/// What both solvers answer to a budget and a formula, with ` / ` between them.
+/// What the solver answers to a budget and a formula, with ` / ` between them.
 pub fn answer_of(alloc: Global, input: &str) -> Mem<String> {
     let (budget, formula) = input.split_once(" / ").unwrap_or(("0", input));
     let budget = budget.parse::<u64>().unwrap_or(0);
     match read_cnf(alloc, formula.as_bytes()) {
-        Ok(cnf) => both(alloc, &cnf, budget),
+        Ok(cnf) => solved(alloc, &cnf, budget),
         Err(Refused::For(_)) => String::from_str(alloc, "a fault of the formula"),
         Err(Refused::NoMemory) => Err(AllocError),
     }

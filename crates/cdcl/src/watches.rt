@@ -64,11 +64,10 @@
 //
 // IN THE TYPE. `Solver` is a struct round `Search` with all this as the invariant of its Model. The methods of `Search`
 // work on the open state; the main loop moves a `Solver` by value from call to call, so it never sees a state in
-// mid-work, and want of memory drops it. `PlainSolver` is the same round `Plain`, where "no clause is false or unit at
-// each start" is the whole invariant.
+// mid-work, and want of memory drops it.
 //
 // NOT INVARIANT, and so free to change: what `order`, `phases` and `restarts` offer (looked up on the trail), the
-// places of variables (`is_from` has no contract), the count of open literals in the analysis, the order of the lists.
+// places of variables (`was_set_from` has no contract), the count of open literals in the analysis, the order of the lists.
 //
 // The names: `IsSafe`, `AreListed`, `AreWatches`, `AreVisited` (mid-list) and `was_set` in `specs`; in `proofs`,
 // `safe_quiet` (safe is neither false nor unit), `safe_elsewhere` (who is not hurt), `visit_kept`, `visit_moved`,

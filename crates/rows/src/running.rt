@@ -6,7 +6,7 @@ use crate::reader::Parsed;
 use crate::row::{Row, Stream, Text};
 use base::{Mem, Refused};
 use ivy_run::{Ended, Outcome, Written, run};
-use rml_bytes::{Bytes, DiskFiles, Files, MemFiles, MemSink, Name};
+use rml_bytes::{Bytes, DiskFiles, FileName, Files, MemFiles, MemSink};
 use std::alloc::Global;
 
 /// What a run leaves, in the words of a file of rows, and on the two sinks.
@@ -59,7 +59,7 @@ fn firsts_increase(faults: &[(u64, u64)]) -> bool
     true
 }
 
-fn is_new(name: &Name, files: &[(Name, Bytes)]) -> bool
+fn is_new(name: &FileName, files: &[(FileName, Bytes)]) -> bool
     ensures { IsTrue result → All (λ file. name.now ≢ file.0) files.now }
 {
     files
@@ -68,7 +68,7 @@ fn is_new(name: &Name, files: &[(Name, Bytes)]) -> bool
 }
 
 #[tactic(auto, using(crate::proofs::Names::names_differ_step))]
-fn names_differ(files: &[(Name, Bytes)]) -> bool
+fn names_differ(files: &[(FileName, Bytes)]) -> bool
     ensures { IsTrue result → NamesDiffer files.now }
 {
     let mut rest = files;
@@ -94,7 +94,7 @@ fn bytes_of<'a>(file: &'a Text, cut: Option<Cut>) -> &'a [u8] {
 fn files_of(alloc: Global, row: &Row, cut: Option<Cut>) -> Parsed<MemFiles> {
     let mut files = Vec::new(alloc);
     for file in &row.files {
-        let name = Name::from_slice(alloc, file.name.as_bytes())?;
+        let name = FileName::from_slice(alloc, file.name.as_bytes())?;
         let bytes = bytes_of(file, cut).to_vec(alloc)?;
         files.push((name, Bytes::from_vec(bytes)))?;
     }
