@@ -1,8 +1,8 @@
 -- The fragments by polarity are those of the normal form, which keeps truth.
-use Rattle.std.proofs.Common.{◌≡◌, ◌↔◌, ℕ, zero, suc, Bool, true, false, not, ◌&&◌, ◌||◌, List, ◌∷◌, refl, sym, ap, ◌∙◌}
+use Rattle.std.proofs.Common.{◌≡◌, ◌↔◌, ℕ, Bool, true, false, not, ◌&&◌, ◌||◌, List, ◌∷◌, refl, sym, ap, ◌∙◌}
 use Rattle.fol_sig.specs.Tables.{Reading}
 use Rattle.fol_formula.specs.Syntax.{FormTree, FormTrees, top, bottom, rel, equal, negation, conjunction, disjunction, implication, equivalence, for_all, for_some, no_forms, form_then}
-use Rattle.fol_formula.specs.Truth.{truth, all_true, any_true, all_below, any_below, same_truth}
+use Rattle.fol_formula.specs.Truth.{truth, all_true, any_true, same_truth}
 use Rattle.fol_formula.specs.Fragments.{IsUniversal, AreUniversal, IsExistsForall, AreExistsForall, IsPlainAtom, IsNormalForm, AreNormalForms}
 use Rattle.fol_formula.proofs.Below.{all_below-same, any_below-same, all_below-opposite, any_below-opposite}
 use Rattle.fol_formula.specs.NormalForms.{normal_form, normal_forms, HasNoExistential, HaveNoExistential, HasNoExistentialUnderUniversal, HaveNoExistentialUnderUniversal, UniversalByNormalForm, ExistsForallByNormalForm, NormalFormKeepsTruth, NormalFormStays, signed}

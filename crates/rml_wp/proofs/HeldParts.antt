@@ -1,5 +1,5 @@
 -- What holds before a stage: before init it does not matter.
-use Rattle.std.proofs.Common.{◌≡◌, List, refl}
+use Rattle.std.proofs.Common.{◌≡◌, refl}
 use Rattle.fol_formula.specs.Syntax.{FormTree, top}
 use Rattle.rml_command.specs.declared.goal.Stage.{Stage}
 use Rattle.rml_command.specs.declared.goal.Stage.TheVariants as stage
