@@ -14,7 +14,7 @@ use crate::fragment::fragment_fault;
 use crate::laws::passing_law;
 use crate::long::long_block_fault;
 use base::{Mem, Refused, Row};
-use rml_command::{Checked, Command, Model, Path, paths};
+use rml_command::{Checked, Command, Model, Paths, paths};
 use rml_lex::Fault;
 use std::alloc::{AllocError, Global};
 
@@ -63,16 +63,16 @@ fn with_paths(alloc: Global, model: Model) -> Mem<Checked>
                 actions,
                 last,
             },
-        ) => Ok(Checked::new(model, init, actions, last)),
+        ) => Ok(Checked::new(alloc, model, init, actions, last)),
     }
 }
 
 // The paths of the blocks of a model.
 #[derive(Drop)]
 struct BlockPaths {
-    init: Row<Path>,
-    actions: Row<Row<Path>>,
-    last: Row<Path>,
+    init: Paths,
+    actions: Row<Paths>,
+    last: Paths,
 }
 
 fn block_lists(alloc: Global, model: &Model) -> Mem<BlockPaths>
@@ -91,18 +91,18 @@ fn block_lists(alloc: Global, model: &Model) -> Mem<BlockPaths>
     })
 }
 
-fn block_paths(alloc: Global, block: &Command) -> Mem<Row<Path>>
+fn block_paths(alloc: Global, block: &Command) -> Mem<Paths>
     requires { HasFewPaths (command_view block.now) }
     ensures { IfOk result (λ ps. ps ≡ paths_of (command_view block.now)) }
 {
     match paths(alloc, block) {
-        Ok(all) => Ok(Row::from_vec(all)),
+        Ok(all) => Ok(all),
         Err(Refused::For(_)) => unreachable!(),
         Err(Refused::NoMemory) => Err(AllocError),
     }
 }
 
-fn action_paths(alloc: Global, actions: &[Command]) -> Mem<Row<Row<Path>>>
+fn action_paths(alloc: Global, actions: &[Command]) -> Mem<Row<Paths>>
     requires { AllByRecursion HasFewPaths (map command_view actions.now) }
     ensures { IfOk result (λ all. all ≡ map paths_of (map command_view actions.now)) }
 {

@@ -78,7 +78,7 @@ fn push_end_tables(
     ensures { OnOk result (out.new.items ≡ out.old.items ++ end_tables checked.now.names (outcome_of checked.now shown.now)) }
 {
     let path = checked.path(&shown.goal);
-    match follow(alloc, checked, path, &shown.trace, &shown.structure)? {
+    match follow(alloc, checked, &path, &shown.trace, &shown.structure)? {
         Followed::Ended(end) => push_tables(alloc, out, checked.model(), &end),
         Followed::Aborted | Followed::Blocked => Ok(()),
     }

@@ -1,8 +1,10 @@
 -- What a step back needs, and how the limit is passed on from a rest of a path to the whole.
-use Rattle.std.proofs.Common.{◌≡◌, ℕ, zero, suc, ◌<◌, ◌||◌, Bool, true, false, List, [], ◌∷◌, length, drop, map, ◌-◌, ◌≤◌, refl, sym, ap, ◌∙◌, subst, arith}
-use Rattle.std.specs.Prelude.{IsTrue, slice_index_or}
-use Rattle.rml_command.specs.View.{primitive}
-use Rattle.rml_command.specs.declared.command.Primitive.{Primitive}
+use Rattle.std.proofs.Common.{◌≡◌, ℕ, ◌||◌, Bool, true, false, List, [], ◌∷◌, ◌++◌, refl, sym, ap, ◌∙◌, subst, arith, append_assoc, append-nil}
+use Rattle.std.specs.Prelude.{IsTrue}
+use Rattle.base.proofs.Lists.{all_back}
+use Rattle.fol_formula.specs.View.{form}
+use Rattle.rml_wp.specs.declared.measured.Measured.{Measured}
+use Rattle.rml_wp.specs.Measures.{Measures}
 use Rattle.std.specs.List.{AllByRecursion}
 use Rattle.base.specs.Because.{Because}
 use Rattle.base.specs.declared.refused.Refused.{Refused}
@@ -50,40 +52,48 @@ module _ (sig : Symbols) (axioms : List FormTree) (target : FormTree) where
   stops_at_end given ps (For x) same h = limit-end ps (ap is_too_large (sym same) ∙ h)
   stops_at_end given ps NoMemory same h = tt
 
-  limit-drop : (ps : List Primitive) (i : ℕ) → passes_limit sig axioms target (map primitive (drop i ps)) ≡ true → passes_limit sig axioms target (map primitive ps) ≡ true
-  limit-drop ps zero e = e
-  limit-drop [] (suc i) e = e
-  limit-drop (p ∷ ps) (suc i) e = later (is_too_large (precondition_of sig axioms target (primitive p ∷ map primitive ps))) _ (limit-drop ps i e)
+  limit-append : (front behind : List PrimitiveTree) → passes_limit sig axioms target behind ≡ true → passes_limit sig axioms target (front ++ behind) ≡ true
+  limit-append [] behind e = e
+  limit-append (q ∷ front) behind e = later (is_too_large (precondition_of sig axioms target (q ∷ (front ++ behind)))) _ (limit-append front behind e)
 
-  next : (ps : List Primitive) (i : ℕ) (p : Primitive) → i < length ps → p ≡ slice_index_or ps i p → map primitive (drop i ps) ≡ primitive p ∷ map primitive (drop (suc i) ps)
-  next [] i p lt is = absurd (omega arith)
-  next (x ∷ ps) zero p lt is = ap (λ z. primitive z ∷ map primitive ps) (sym is)
-  next (x ∷ ps) (suc i) p lt is = next ps i p (omega arith) is
+  -- a path was gone back as far as these primitives before, and the formula is the precondition of those behind
+  pub record IsBack (path before : List PrimitiveTree) (now : Measured) : Type 0 where
+    pub behind : List PrimitiveTree
+    pub split : path ≡ before ++ behind
+    pub measured : Measures now (precondition_of sig axioms target behind)
+    pub small : passes_limit sig axioms target behind ≡ false
 
-  split_at : (ps : List Primitive) (i : ℕ) (p : Primitive) → 0 < i → i ≤ length ps → p ≡ slice_index_or ps (i - 1) p → map primitive (drop (i - 1) ps) ≡ primitive p ∷ map primitive (drop i ps)
-  split_at ps i p above inside is =
-      let lt : i - 1 < length ps = omega arith in
-      let up : suc (i - 1) ≡ i = omega arith in
-      next ps (i - 1) p lt is ∙ ap (λ n. primitive p ∷ map primitive (drop n ps)) up
+  pub at_end : (given : FormTree) (path before : List PrimitiveTree) (now : Measured) → given ≡ target → before ≡ path → Measures now given → IsBack path before now
+  at_end given path before now is whole m =
+      let measured : Measures now target = subst (Measures now) is m in
+      record { behind = []; split = sym (append-nil path) ∙ ap (λ z. z ++ []) (sym whole); measured = measured; small = measured.small }
 
-  path-drop : (ps : List Primitive) (i : ℕ) → FitsPath sig (map primitive ps) → FitsPath sig (map primitive (drop i ps))
-  path-drop ps zero h = h
-  path-drop [] (suc i) h = h
-  path-drop (p ∷ ps) (suc i) h = path-drop ps i h.1
+  pub at_start : (path before : List PrimitiveTree) (now : Measured) → before ≡ [] → IsBack path before now → Measures now (precondition_of sig axioms target path)
+  at_start path before now none h = subst (λ p. Measures now (precondition_of sig axioms target p)) (sym (h.split ∙ ap (λ z. z ++ h.behind) none)) h.measured
 
-  module _ (ps : List Primitive) (path : List PrimitiveTree) (same : map primitive ps ≡ path) (fits : FitsPath sig path) where
-    rest-fits : (i : ℕ) → FitsPath sig (map primitive (drop i ps))
-    rest-fits i = path-drop ps i (subst (FitsPath sig) (sym same) fits)
+  pub within_limit : (path before : List PrimitiveTree) (now : Measured) → before ≡ [] → IsBack path before now → passes_limit sig axioms target path ≡ false
+  within_limit path before now none h = ap (passes_limit sig axioms target) (h.split ∙ ap (λ z. z ++ h.behind) none) ∙ h.small
 
-    pub one-fits : (i : ℕ) (p : Primitive) → 0 < i → i ≤ length ps → p ≡ slice_index_or ps (i - 1) p → FitsPrimitive sig (primitive p)
-    one-fits i p above inside is = (subst (FitsPath sig) (split_at ps i p above inside is) (rest-fits (i - 1))).0
+  module _ (path before rest : List PrimitiveTree) (q : PrimitiveTree) (now : Measured) (step : before ≡ rest ++ q ∷ []) (fits : FitsPath sig path) (h : IsBack path before now) where
+    whole : path ≡ rest ++ (q ∷ h.behind)
+    whole = h.split ∙ ap (λ z. z ++ h.behind) step ∙ append_assoc rest (q ∷ []) h.behind
 
-    pub formula-fits : Replaces → AllByRecursion (FitsForm sig []) axioms → FitsForm sig [] target → (i : ℕ) (f : FormTree) → f ≡ precondition_of sig axioms target (map primitive (drop i ps)) → FitsForm sig [] f
-    formula-fits laws a t i f e = subst (FitsForm sig []) (sym e) (precondition-fits laws sig axioms target (map primitive (drop i ps)) a t (rest-fits i))
+    behind-fits : FitsPath sig (q ∷ h.behind)
+    behind-fits = all_back (FitsPrimitive sig) rest (q ∷ h.behind) (subst (FitsPath sig) whole fits)
 
-    pub stops_at : (i : ℕ) (p : Primitive) (rest : FormTree) (e : Refused FormulaLimit) → 0 < i → i ≤ length ps → p ≡ slice_index_or ps (i - 1) p → rest ≡ precondition_of sig axioms target (map primitive (drop i ps)) → Because (λ x. IsTrue (is_too_large (back_of sig axioms (primitive p) rest))) e → Because (Passes path) e
-    stops_at i p rest (For x) above inside is tree h =
-        let split = split_at ps i p above inside is in
-        let large : is_too_large (precondition_of sig axioms target (primitive p ∷ map primitive (drop i ps))) ≡ true = ap (λ r. is_too_large (back_of sig axioms (primitive p) r)) (sym tree) ∙ h in
-        ap (passes_limit sig axioms target) (sym same) ∙ limit-drop ps (i - 1) (ap (passes_limit sig axioms target) split ∙ sooner _ (passes_limit sig axioms target (map primitive (drop i ps))) large)
-    stops_at i p rest NoMemory above inside is tree h = tt
+    pub one-fits : FitsPrimitive sig q
+    one-fits = behind-fits.0
+
+    pub formula-fits : Replaces → AllByRecursion (FitsForm sig []) axioms → FitsForm sig [] target → FitsForm sig [] (form now.formula)
+    formula-fits laws a t = subst (FitsForm sig []) (sym h.measured.tree) (precondition-fits laws sig axioms target h.behind a t behind-fits.1)
+
+    pub stops_at : (e : Refused FormulaLimit) → Because (λ x. IsTrue (is_too_large (back_of sig axioms q (form now.formula)))) e → Because (Passes path) e
+    stops_at (For x) large =
+        let passes : is_too_large (precondition_of sig axioms target (q ∷ h.behind)) ≡ true = ap (λ r. is_too_large (back_of sig axioms q r)) (sym h.measured.tree) ∙ large in
+        ap (passes_limit sig axioms target) whole ∙ limit-append rest (q ∷ h.behind) (sooner _ (passes_limit sig axioms target h.behind) passes)
+    stops_at NoMemory large = tt
+
+    pub goes_back : (next : Measured) → Measures next (back_of sig axioms q (form now.formula)) → IsBack path rest next
+    goes_back next m =
+        let measured : Measures next (precondition_of sig axioms target (q ∷ h.behind)) = subst (λ r. Measures next (back_of sig axioms q r)) h.measured.tree m in
+        record { behind = q ∷ h.behind; split = whole; measured = measured; small = ap (λ b. b || passes_limit sig axioms target h.behind) measured.small ∙ h.small }

@@ -45,11 +45,9 @@ pub fn along(
         Ok(measured) => measured,
         Err(refused) => return Err(refused),
     };
-    let primitives = path.primitives();
-    let mut i = primitives.len();
-    while i > 0 {
-        i -= 1;
-        now = match step_back(alloc, model, &primitives[i], now) {
+    let mut before = path.primitives();
+    while let Some(primitive) = before.next_back() {
+        now = match step_back(alloc, model, primitive, now) {
             Ok(measured) => measured,
             Err(refused) => return Err(refused),
         };

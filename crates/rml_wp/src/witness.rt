@@ -1,5 +1,5 @@
 // A counterexample is read off the values of a sentence's existentials.
-ghost use Rattle.std.specs.Prelude.{◌≡◌, ◌<◌, ◌^◌, length, map, drop, true, IfOk};
+ghost use Rattle.std.specs.Prelude.{◌≡◌, ◌<◌, ◌^◌, length, drop, true, IfOk};
 ghost use Rattle.fol_formula.specs.View.{form};
 ghost use Rattle.fol_formula.specs.Counts.{saturated};
 ghost use Rattle.rml_command.specs.View.{primitive as primitive_view};
@@ -14,7 +14,7 @@ ghost use Rattle.rml_wp.specs.WitnessLaws.{GivesCounterexamples};
 use crate::laws::witness_law;
 use base::{Mem, Row};
 use fol_formula::{Formula, existentials_of_all};
-use rml_command::{About, Checked, Goal, Model, Primitive};
+use rml_command::{About, Checked, Goal, Model, Path, Primitive};
 use std::alloc::Global;
 
 /// The elements of a counterexample: one for each havoc of the path, and one for each leading quantifier
@@ -40,12 +40,12 @@ pub fn read_witness(
     ensures counterexamples { IfOk result (λ w. GivesCounterexamples checked.now goal.now witnesses.now w.havoc w.values) }
 {
     witness_law();
-    let path = checked.path(goal).primitives();
+    let path = checked.path(goal);
     let model = checked.model();
     let axioms = existentials_of_all(model.axioms());
     let start = skip(witnesses, axioms);
-    let havoc = havocs(alloc, path, axioms, start)?;
-    let behind = behind_all(path, axioms, start);
+    let havoc = havocs(alloc, &path, axioms, start)?;
+    let behind = behind_all(&path, axioms, start);
     let values = values_for(alloc, model, goal.about, behind)?;
     Ok(Witness {
         havoc: Row::from_vec(havoc),
@@ -54,12 +54,12 @@ pub fn read_witness(
 }
 
 // As far as an abort, behind which nothing is done.
-fn havocs(alloc: Global, path: &[Primitive], axioms: u64, start: &[u32]) -> Mem<Vec<u32>>
-    ensures { IfOk result (λ v. v.items ≡ read_havocs axioms (map primitive_view path.now) start.now) }
+fn havocs(alloc: Global, path: &Path, axioms: u64, start: &[u32]) -> Mem<Vec<u32>>
+    ensures { IfOk result (λ v. v.items ≡ read_havocs axioms path.now start.now) }
 {
     let mut havoc = Vec::new(alloc);
     let mut rest = start;
-    for primitive in path {
+    for primitive in path.primitives() {
         match primitive {
             Primitive::Abort => return Ok(havoc),
             Primitive::Havoc(_) => havoc.push(next(rest))?,
@@ -70,11 +70,11 @@ fn havocs(alloc: Global, path: &[Primitive], axioms: u64, start: &[u32]) -> Mem<
     Ok(havoc)
 }
 
-fn behind_all<'a>(path: &[Primitive], axioms: u64, start: &'a [u32]) -> &'a [u32]
-    ensures { result.now ≡ behind_path axioms (map primitive_view path.now) start.now }
+fn behind_all<'a>(path: &Path, axioms: u64, start: &'a [u32]) -> &'a [u32]
+    ensures { result.now ≡ behind_path axioms path.now start.now }
 {
     let mut rest = start;
-    for primitive in path {
+    for primitive in path.primitives() {
         if let Primitive::Abort = primitive {
             return rest;
         }

@@ -11,20 +11,17 @@ use crate::seeking::{Sought, seek};
 use base::{Mem, Row};
 use fol_formula::Sentence;
 use fol_sig::Structure;
-use rml_command::{About, Checked, Goal, Path, Stage};
+use rml_command::{About, Checked, Goal, Paths, Stage};
 use rml_exec::{Counterexample, Trace};
 use rml_report::{Answer, Axioms, Least};
 use std::alloc::Global;
 
 const MAX_RELATIONS: u32 = 12;
 
-fn is_single(paths: &[Path]) -> bool
+fn is_single(paths: &Paths) -> bool
     ensures { result ≡ is_single paths.now }
 {
-    match paths {
-        [path] => !path.has_abort(),
-        _ => false,
-    }
+    paths.len() == 1 && !paths.path(0).has_abort()
 }
 
 fn has_single_path(checked: &Checked, stage: Stage) -> bool
@@ -105,7 +102,7 @@ fn decide_conjecture(alloc: Global, checked: &Checked, stage: Stage, conjecture:
     };
     let path = checked.path(&goal);
     let sentence = conjecture_at(checked, conjecture);
-    let sought = Sought::Broken(stage, path, sentence);
+    let sought = Sought::Broken(stage, &path, sentence);
     match seek(alloc, checked, sought)? {
         Some(structure) => Ok(Answer::Fails {
             paths: 1,

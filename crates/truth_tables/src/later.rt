@@ -4,7 +4,7 @@ ghost use Rattle.rml_command.specs.Paths.{has_abort};
 ghost use Rattle.rml_command.specs.Goals.{group_goals, is_for, goals_among};
 ghost use Rattle.truth_tables.specs.Answers.{later_answer};
 
-use rml_command::{About, Checked, Path, Stage};
+use rml_command::{About, Checked, Path, Paths, Stage};
 use rml_report::{Answer, Cause};
 
 // Whether a path is a goal of what is forbidden here.
@@ -18,21 +18,17 @@ fn is_for(about: About, path: &Path) -> bool
 }
 
 // The answer by the paths of a group's block.
-fn first_open(about: About, stage: Stage, paths: &[Path]) -> Answer
+fn first_open(about: About, stage: Stage, paths: &Paths) -> Answer
     requires { length paths.now ≤ 4096 }
     ensures { result ≡ later_answer (goals_among (record { stage = stage; about = about }) 1 paths.now) }
 {
-    let mut number = 1;
-    let mut rest = paths;
-    while let [path, after @ ..] = rest {
-        if is_for(about, path) {
+    for i in 0..paths.len() {
+        if is_for(about, &paths.path(i)) {
             return Answer::Undecided {
-                path: number,
+                path: i as u32 + 1,
                 cause: Cause::Later,
             };
         }
-        number += 1;
-        rest = after;
     }
     Answer::Holds
 }

@@ -21,7 +21,7 @@ use std::alloc::Global;
 #[derive(Clone, Copy)]
 pub enum Sought<'a> {
     Model,
-    Broken(Stage, &'a Path, &'a Sentence),
+    Broken(Stage, &'a Path<'a>, &'a Sentence),
 }
 
 // Whether a structure satisfies all sentences.

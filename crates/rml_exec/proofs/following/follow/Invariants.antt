@@ -1,13 +1,12 @@
-use Rattle.std.proofs.Common.{◌≡◌, drop, map}
+use Rattle.std.proofs.Common.{◌≡◌}
 use Rattle.fol_sig.specs.Symbols.{FitsStructure, symbols}
-use Rattle.rml_command.specs.View.{primitive}
 use Rattle.rml_command.specs.Models.{FitsPath}
 use Rattle.rml_command.specs.Outcomes.{follow_path}
 use Rattle.rml_exec.proofs.following.follow.Given as goal
 
 abbrev pub invariant-loop-primitive : goal.invariant-loop-primitive
 invariant-loop-primitive l = record {
-  fits : FitsPath (symbols l.checked.signature) (map primitive (drop l.primitive-index l.primitive-items));
+  fits : FitsPath (symbols l.checked.signature) l.primitive-iterator;
   structure : FitsStructure (symbols l.checked.signature) l.now;
-  same : follow_path l.checked.axioms (map primitive (drop l.primitive-index l.primitive-items)) l.elements l.now ≡ follow_path l.checked.axioms l.path l.trace.havoc l.fn.structure;
+  same : follow_path l.checked.axioms l.primitive-iterator l.elements l.now ≡ follow_path l.checked.axioms l.path l.trace.havoc l.fn.structure;
 }
