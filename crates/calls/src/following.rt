@@ -1,8 +1,10 @@
 // Where a path of a model's first block ends, followed from the blank structure of some sizes, and which conjectures
 // are true there.
-ghost use Rattle.std.specs.Prelude.{◌<◌, All, IsTrue, IfOk, IfSome};
+ghost use Rattle.std.specs.Prelude.{◌≡◌, ◌<◌, All, IsTrue, IfOk, IfSome, length, slice_get};
 ghost use Rattle.fol_sig.specs.Symbols.{symbols, FitsStructure};
 ghost use Rattle.rml_command.specs.Models.{FitsPath};
+ghost use Rattle.rml_command.specs.Fragment.{IsChecked};
+ghost use Rattle.rml_command.specs.Goals.{stage_paths};
 
 use crate::texts::fault_of;
 use base::{Mem, Row};
@@ -61,11 +63,25 @@ fn blank(alloc: Global, checked: &Checked, sizes: &[u32]) -> Mem<Option<Structur
     Ok(Some(structure))
 }
 
+fn init_path(checked: &Checked, place: usize) -> &Path
+    requires { place < length (stage_paths checked.now Stage.Init) }
+    ensures at { slice_get (stage_paths checked.now Stage.Init) place ≡ Some result.now }
+    ensures checked { IsChecked checked.now }
+{
+    &checked.stage_paths(Stage::Init)[place]
+}
+
+// The path of the block `init` at this place, from 0.
+#[tactic(auto, using(crate::proofs::BlockPaths::fits_at))]
 fn path_at(checked: &Checked, place: usize) -> Option<&Path>
     ensures { IfSome result (λ p. FitsPath (symbols checked.now.signature) p.now) }
 {
     goal_law();
-    checked.stage_paths(Stage::Init).get(place)
+    if place < checked.stage_paths(Stage::Init).len() {
+        Some(init_path(checked, place))
+    } else {
+        None
+    }
 }
 
 // Which conjectures are true in a structure.

@@ -1,6 +1,4 @@
 // Whether a row is as expected: what its run leaves, or the runs on each prefix of one of its files.
-ghost use Rattle.std.specs.Prelude.{◌≡◌, IsTrue, IfOk};
-
 use crate::reader::Parsed;
 use crate::report::Report;
 use crate::row::{Expected, Prefixes, Row};
@@ -40,10 +38,7 @@ fn compare_words(
     Ok(())
 }
 
-fn compare(alloc: Global, row: &Row, actual: &Actual) -> Parsed<Report>
-    ensures out { IfOk result (λ r. IsTrue r.is_well → row.now.out.expected.items ≡ actual.now.out.taken) }
-    ensures err { IfOk result (λ r. IsTrue r.is_well → row.now.err.expected.items ≡ actual.now.err.taken) }
-{
+fn compare(alloc: Global, row: &Row, actual: &Actual) -> Parsed<Report> {
     let mut report = Report::new(alloc);
     compare_words(alloc, &row.expected, actual, &mut report)?;
     report.compare_bytes(alloc, "out", &row.out.expected, actual.out.taken())?;
