@@ -63,22 +63,15 @@ fn blank(alloc: Global, checked: &Checked, sizes: &[u32]) -> Mem<Option<Structur
     Ok(Some(structure))
 }
 
-fn init_path(checked: &Checked, place: usize) -> &Path
-    requires { place < length (stage_paths checked.now Stage.Init) }
-    ensures at { slice_get (stage_paths checked.now Stage.Init) place ≡ Some result.now }
-    ensures checked { IsChecked checked.now }
-{
-    &checked.stage_paths(Stage::Init)[place]
-}
-
 // The path of the block `init` at this place, from 0.
 #[tactic(auto, using(crate::proofs::BlockPaths::fits_at))]
-fn path_at(checked: &Checked, place: usize) -> Option<&Path>
-    ensures { IfSome result (λ p. FitsPath (symbols checked.now.signature) p.now) }
+fn path_at(checked: &Checked, place: usize) -> Option<Path<'_>>
+    ensures { IfSome result (λ p. FitsPath (symbols checked.now.signature) p) }
 {
     goal_law();
-    if place < checked.stage_paths(Stage::Init).len() {
-        Some(init_path(checked, place))
+    let paths = checked.stage_paths(Stage::Init);
+    if place < paths.len() {
+        Some(paths.path(place))
     } else {
         None
     }
@@ -128,7 +121,7 @@ fn follow_input(alloc: Global, checked: &Checked, input: Input) -> Mem<String> {
     let Some(start) = blank(alloc, checked, &sizes)? else {
         return String::from_str(alloc, "no sizes of this model");
     };
-    end(alloc, checked, path, &trace, &start)
+    end(alloc, checked, &path, &trace, &start)
 }
 
 /// How following ends.

@@ -2,7 +2,7 @@
 use crate::models::model_of;
 use crate::texts::fault_of;
 use base::{Mem, Refused};
-use rml_command::{Path, Primitive, paths};
+use rml_command::{Path, Paths, Primitive, paths};
 use std::alloc::{AllocError, Global};
 
 // Havoc is shown by the number of its variable, so that steps of a path can be told from one another.
@@ -26,14 +26,18 @@ fn push_step(alloc: Global, list: &mut String, primitive: &Primitive) -> Mem<()>
     Ok(())
 }
 
-fn listed(alloc: Global, all: &[Path]) -> Mem<String> {
+fn push_path(alloc: Global, list: &mut String, path: &Path) -> Mem<()> {
+    for primitive in path.primitives() {
+        push_step(alloc, list, primitive)?;
+    }
+    list.push(';')
+}
+
+fn listed(alloc: Global, all: &Paths) -> Mem<String> {
     let count = all.len();
     let mut list = format!(in alloc; "{count} paths:")?;
-    for path in all.iter().take(8) {
-        for primitive in path.primitives() {
-            push_step(alloc, &mut list, primitive)?;
-        }
-        list.push(';')?;
+    for number in 0..count.min(8) {
+        push_path(alloc, &mut list, &all.path(number))?;
     }
     Ok(list)
 }
