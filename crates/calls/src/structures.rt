@@ -3,8 +3,11 @@ ghost use Rattle.std.specs.Prelude.{◌≡◌, IfOk};
 ghost use Rattle.calls.specs.Samples.{two_sorts};
 
 use base::Refused;
-use fol_sig::{FunId, RelId, Signature, Sort, Sorts, Structure, strata};
-use ground_terms::{Terms, count_tuples, number_of_tuple, tuple_of_number};
+use fol_sig::{
+    FunId, RelId, Signature, Sort, Sorts, Structure, count_tuples, number_of_tuple, strata,
+    tuple_of_number,
+};
+use ground_terms::Terms;
 use std::alloc::{AllocError, Global};
 use std::io;
 
