@@ -52,7 +52,7 @@ entry_kept kept (l ∷ ls) h =
     longer_clause kept l a.0 a.1 ls ∙ entry_kept (kept ++ l ∷ []) ls (subst IsClause (sym (append_assoc kept (l ∷ []) ls)) h) ∙ ap Clause (append_assoc kept (l ∷ []) ls)
 
 -- truth
-member-with : (x : ℕ) (kept : List ℕ) (l : ℕ) → member x (with_literal kept l) ≡ (member x kept || eqb x l)
+pub member-with : (x : ℕ) (kept : List ℕ) (l : ℕ) → member x (with_literal kept l) ≡ (member x kept || eqb x l)
 member-with x kept l = at (member l kept) refl
   where
     here : (b : Bool) → eqb x l ≡ b → member l kept ≡ true → member x kept ≡ (member x kept || b)

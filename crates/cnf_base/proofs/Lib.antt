@@ -8,3 +8,4 @@ pub mod Standing
 pub mod Numbers
 pub mod Prefixes
 pub mod Again
+pub mod Stamped

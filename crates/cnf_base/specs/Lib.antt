@@ -10,3 +10,5 @@ pub mod Places
 pub mod Reading
 pub mod Writing
 pub mod ReaderState
+pub mod LitSetValue
+pub mod LitSets

@@ -94,14 +94,14 @@ fn short_entry(alloc: Global, lits: &[Lit]) -> Mem<Entry>
 }
 
 #[tactic(auto, using(crate::proofs::Sets::keys_have))]
-fn holds(kept: &IndexSet<Lit>, lit: &Lit) -> bool
+pub fn holds(kept: &IndexSet<Lit>, lit: &Lit) -> bool
     ensures { result ≡ member lit.now kept.now.keys }
 {
     kept.contains(lit)
 }
 
 #[tactic(auto, using(crate::proofs::Sets::keys_wider))]
-fn keep(kept: &mut IndexSet<Lit>, lit: Lit) -> Mem<()>
+pub fn keep(kept: &mut IndexSet<Lit>, lit: Lit) -> Mem<()>
     ensures { OnOk result (kept.new.keys ≡ with_literal kept.old.keys lit) }
 {
     kept.insert(lit)?;

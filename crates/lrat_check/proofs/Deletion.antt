@@ -9,7 +9,7 @@ use Rattle.lrat_log.specs.Held.{Held, without}
 use Rattle.lrat_log.specs.Accepted.{outcome_of_deletion}
 use Rattle.lrat_check.specs.declared.spans.Span.{Span}
 use Rattle.lrat_check.specs.Spans.{marked, held_in, entry_of_span, AreSorted, AreWithin}
-use Rattle.lrat_check.proofs.Marks.{marked-set}
+use Rattle.lrat_check.proofs.Marked.{marked-set}
 use Rattle.lrat_check.proofs.Search.{held_at, held_nowhere}
 
 pub member_take_more : (x : ℕ) (xs : List ℕ) (i : ℕ) → i < length xs → member x (take (i + 1) xs) ≡ (member x (take i xs) || eqb x (get_or xs i 0))

@@ -1,10 +1,9 @@
-pub mod Literals
 pub mod GrowthLaws
 pub mod Steps
 pub mod Search
-pub mod Marks
+pub mod Marked
+pub mod Falsified
 pub mod Deletion
 pub mod Growth
 pub mod Taken
-pub mod Room
 pub mod Stepping

@@ -2,13 +2,12 @@
 use Rattle.std.specs.Prelude.{ℕ, ◌<◌, ◌≤◌, Bool, cond, eqb, if◌then◌else◌, List, [], ◌∷◌, length, Option, Some, None, slice_range, get_or, All}
 use Rattle.cnf_base.specs.declared.cnf.Entry.{Entry}
 use Rattle.cnf_base.specs.declared.cnf.Entry.TheVariants.{Clause, True}
-use Rattle.cnf_base.specs.Literals.{opposite}
 use Rattle.lrat_log.specs.Held.{Held}
 use Rattle.lrat_check.specs.declared.spans.Span.{Span}
 
--- the literals that are marked: those whose stamp is the epoch
+-- the places that are marked: those whose mark is the epoch
 abbrev pub marked : List ℕ → ℕ → ℕ → Bool
-marked stamps epoch l = eqb (get_or stamps l 0) epoch
+marked marks epoch k = eqb (get_or marks k 0) epoch
 
 -- what a span stands for
 abbrev pub entry_of_span : List ℕ → Span → Option Entry
@@ -20,10 +19,6 @@ abbrev pub held_in : List ℕ → List Span → Held
 held_in literals [] id = None
 held_in literals (s ∷ ss) id = cond (eqb s.id id) (entry_of_span literals s) (held_in literals ss id)
 
--- each of these literals, and its opposite, has a stamp
-abbrev pub HaveStamps : List ℕ → List ℕ → Type 0
-HaveStamps stamps ls = All (λ l. (l < length stamps) × (opposite l < length stamps)) ls
-
 -- ids increase strictly
 abbrev pub AreSorted : List Span → Type 0
 AreSorted spans = (i j : ℕ) (d : Span) → i < j → j < length spans → (get_or spans i d).id < (get_or spans j d).id
@@ -32,6 +27,6 @@ AreSorted spans = (i j : ℕ) (d : Span) → i < j → j < length spans → (get
 abbrev pub AreWithin : List Span → ℕ → Type 0
 AreWithin spans n = All (λ s. (s.start ≤ s.end) × (s.end ≤ n)) spans
 
--- no stamp is later than the epoch
+-- no mark is later than the epoch
 abbrev pub AreUpTo : ℕ → List ℕ → Type 0
-AreUpTo epoch stamps = (k : ℕ) → get_or stamps k 0 ≤ epoch
+AreUpTo epoch marks = (k : ℕ) → get_or marks k 0 ≤ epoch

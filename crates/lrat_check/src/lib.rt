@@ -3,8 +3,8 @@
 
 mod checker;
 mod hints;
+mod marks;
 mod spans;
-mod stamps;
 mod table;
 mod whole;
 

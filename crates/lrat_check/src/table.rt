@@ -1,9 +1,9 @@
-// The held clauses in flat tables, with stamps for the literals that are set during a step.
+// The held clauses in flat tables, with the set of the literals that are set during a step.
 use crate::hints::{mark_false, run_hints};
+use crate::marks::next_epoch;
 use crate::spans::{Span, find};
-use crate::stamps::{make_room, next_epoch};
 use base::Mem;
-use cnf_base::Lit;
+use cnf_base::{Lit, LitSet};
 use lrat_log::Outcome;
 use std::alloc::Global;
 use std::marker::Model;
@@ -13,7 +13,7 @@ use std::marker::Model;
 pub struct Table {
     spans: Vec<Span>,
     literals: Vec<Lit>,
-    stamps: Vec<u32>,
+    set: LitSet,
     marks: Vec<u32>,
     epoch: u32,
 }
@@ -36,7 +36,8 @@ ghost use Rattle.cnf_base.specs.declared.cnf.Entry.TheVariants.{Clause, True};
 ghost use Rattle.cnf_base.specs.Clauses.{has_opposites};
 ghost use Rattle.lrat_log.specs.Held.{with_entry, without};
 ghost use Rattle.lrat_log.specs.Accepted.{outcome_of_addition, outcome_of_deletion};
-ghost use Rattle.lrat_check.specs.Spans.{marked, HaveStamps, AreSorted, held_in, AreWithin, AreUpTo};
+ghost use Rattle.cnf_base.specs.LitSetValue.{set_of};
+ghost use Rattle.lrat_check.specs.Spans.{marked, AreSorted, held_in, AreWithin, AreUpTo};
 ghost use Rattle.lrat_check.specs.TableValue.{held_by_table};
 ghost use Rattle.lrat_check.specs.declared.spans.Span.{Span};
 
@@ -104,27 +105,24 @@ fn delete_ids(spans: &mut [Span], ids: &[u64])
 
 // Whether an addition is accepted, and whether it has opposite literals.
 fn check_clause(
-    stamps: &mut [u32],
-    epoch: u32,
+    set: &mut LitSet,
     spans: &[Span],
     literals: &[Lit],
     clause: &[Lit],
     hints: &[u64],
-) -> (Outcome, bool)
+) -> Mem<(Outcome, bool)>
     requires sorted { AreSorted spans.now }
     requires within { AreWithin spans.now (length literals.now) }
-    requires stamped { HaveStamps stamps.old literals.now }
-    requires clause_stamped { HaveStamps stamps.old clause.now }
-    requires past { AreUpTo epoch stamps.old }
-    requires fresh { (x : ℕ) → marked stamps.old epoch x ≡ false }
-    ensures outcome { result.0 ≡ outcome_of_addition (held_in literals.now spans.now) clause.now hints.now }
-    ensures opposites { result.1 ≡ has_opposites clause.now }
-    ensures past { AreUpTo epoch stamps.new }
+    requires empty { (x : ℕ) → set_of set.old x ≡ false }
+    ensures outcome { IfOk result (λ r. r.0 ≡ outcome_of_addition (held_in literals.now spans.now) clause.now hints.now) }
+    ensures opposites { IfOk result (λ r. r.1 ≡ has_opposites clause.now) }
 {
-    if mark_false(stamps, epoch, clause) {
-        return (Outcome::Accepted, true);
+    let is_true = mark_false(set, clause)?;
+    if is_true {
+        return Ok((Outcome::Accepted, true));
     }
-    (run_hints(stamps, epoch, spans, literals, hints), false)
+    let outcome = run_hints(set, spans, literals, hints)?;
+    Ok((outcome, false))
 }
 
 impl Table {
@@ -135,7 +133,7 @@ impl Table {
         Ok(Table {
             spans: Vec::with_capacity(alloc, clauses)?,
             literals: Vec::new(alloc),
-            stamps: Vec::new(alloc),
+            set: LitSet::new(alloc),
             marks: Vec::with_capacity(alloc, clauses)?,
             epoch: 0,
         })
@@ -147,31 +145,22 @@ impl Table {
         ensures opposites { IfOk result (λ r. r.1 ≡ has_opposites clause.now) }
         ensures same { self.new ≡ self.old }
     {
-        make_room(&mut self.stamps, clause)?;
-        self.epoch = next_epoch(
-            self.stamps.as_mut_slice(),
-            self.marks.as_mut_slice(),
-            self.epoch,
-        );
-        Ok(check_clause(
-            self.stamps.as_mut_slice(),
-            self.epoch,
+        self.set.clear();
+        let checked = check_clause(
+            &mut self.set,
             self.spans.as_slice(),
             self.literals.as_slice(),
             clause,
             hints,
-        ))
+        )?;
+        Ok(checked)
     }
 
     pub fn check_deletion(&mut self, ids: &[u64]) -> Outcome
         ensures outcome { result ≡ outcome_of_deletion (held_by_table self.old) ids.now }
         ensures same { self.new ≡ self.old }
     {
-        self.epoch = next_epoch(
-            self.stamps.as_mut_slice(),
-            self.marks.as_mut_slice(),
-            self.epoch,
-        );
+        self.epoch = next_epoch(self.marks.as_mut_slice(), self.epoch);
         check_ids(
             self.spans.as_slice(),
             self.marks.as_mut_slice(),
@@ -196,7 +185,7 @@ impl Table {
         ensures spans_ok { OnOk result (All (λ s. s.id ≤ id) self.new.spans) }
         ensures spans_err { OnErr result (self.new.spans ≡ self.old.spans) }
     {
-        make_room(&mut self.stamps, clause)?;
+        self.set.allow(clause.len());
         let start = self.literals.len();
         self.literals.extend_from_slice(clause)?;
         let end = self.literals.len();

@@ -1,4 +1,5 @@
 // What becomes of a line.
+use cnf_base::Lit;
 
 /// What a hint does under the literals that are set.
 #[derive(Clone, Copy, PartialEq, Eq, Debug)]
@@ -8,7 +9,7 @@ pub enum Effect {
     /// All literals of its clause are false.
     Falsified,
     /// All but this one, which is unset.
-    Sets(u32),
+    Sets(Lit),
     /// Neither.
     Useless,
 }

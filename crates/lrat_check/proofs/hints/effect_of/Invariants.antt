@@ -1,7 +1,7 @@
 use Rattle.std.proofs.Common.{◌≡◌, drop}
 use Rattle.lrat_log.specs.Accepted.{effect_of_clause}
-use Rattle.lrat_check.specs.Spans.{marked}
+use Rattle.cnf_base.specs.LitSetValue.{set_of}
 use Rattle.lrat_check.proofs.hints.effect_of.Given as goal
 
 abbrev pub invariant-loop-i : goal.invariant-loop-i
-invariant-loop-i l = effect_of_clause (marked l.stamps l.epoch) l.clause ≡ effect_of_clause (marked l.stamps l.epoch) (drop l.i l.clause)
+invariant-loop-i l = effect_of_clause (set_of l.set) l.clause ≡ effect_of_clause (set_of l.set) (drop l.i l.clause)

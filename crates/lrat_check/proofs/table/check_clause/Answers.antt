@@ -1,9 +1,10 @@
-use Rattle.std.proofs.Common.{sym, refl}
-use Rattle.lrat_check.specs.Spans.{marked, held_in}
+use Rattle.std.proofs.Common.{sym, ◌∙◌}
+use Rattle.cnf_base.specs.LitSetValue.{set_of}
+use Rattle.lrat_check.specs.Spans.{held_in}
 use Rattle.lrat_check.proofs.Steps.{addition_runs}
 use Rattle.lrat_check.proofs.table.check_clause.Goals as goal
 
 pub returns-clause-outcome : goal.returns-clause-outcome
 returns-clause-outcome c =
-    addition_runs (held_in c.args.literals.now c.args.spans.now) c.args.clause.now c.args.hints.now (marked c.mark_false.new.stamps c.args.epoch) c.run_hints.result
-    (sym c.if-mark_false.ensures.opposites) (c.if-mark_false.ensures.marks refl) c.run_hints.ensures.outcome
+    addition_runs (held_in c.args.literals.now c.args.spans.now) c.args.clause.now c.args.hints.now (set_of c.mark_false.new.set) c.in_ok-outcome.outcome
+    (sym c.in_ok-is_true.ensures.opposites ∙ c.if-is_true.false) (c.in_ok-is_true.ensures.marks c.if-is_true.false) c.in_ok-outcome.ensures

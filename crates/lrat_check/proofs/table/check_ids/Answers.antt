@@ -2,7 +2,7 @@ use Rattle.std.proofs.Common.{arith, get_or, ap, inl, inr, is_some}
 use Rattle.std.proofs.lemmas.Grind.{common_steps}
 use Rattle.lrat_check.specs.Spans.{held_in}
 use Rattle.lrat_check.proofs.Search.{held_nowhere, no_span}
-use Rattle.lrat_check.proofs.Marks.{up_to_set}
+use Rattle.lrat_check.proofs.Marked.{up_to_set}
 use Rattle.lrat_check.proofs.Deletion.{deletion_refused, deletion_goes_on, deletion_marks, is_some_at}
 use Rattle.lrat_check.proofs.table.check_ids.Goals as goal
 use Rattle.lrat_check.proofs.table.check_ids.Goals.{then-not-spans-place-via-then-not-spans-place, then-not-spans-place-via-else-not-spans-place+then-marks-place}

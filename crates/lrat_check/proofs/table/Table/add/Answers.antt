@@ -1,6 +1,4 @@
 use Rattle.std.proofs.Common.{◌≡◌, ℕ, ◌+◌, ◌<◌, ◌++◌, length, ◌∙◌, ap, arith, length-append}
-use Rattle.std.proofs.lemmas.List.Elements.{All-append}
-use Rattle.cnf_base.specs.Literals.{opposite}
 use Rattle.lrat_check.proofs.Growth.{on_err_holds, grown, add_row, sorted_push, within_push, within_more, up_to_push}
 use Rattle.lrat_check.proofs.table.Table.add.Goals as goal
 
@@ -13,8 +11,6 @@ invariant_of-self-in_err-reserve c =
     record {
       sorted = rw same c.self.invariant.sorted;
       within = rw (same, lits) (within_more c.self.inside.spans.items (length c.self.inside.literals.items) _ c.self.invariant.within (omega arith));
-      stamped = rw lits (All-append (λ (l : ℕ). (l < length c.make_room.new.stamps.items) × (opposite l < length c.make_room.new.stamps.items)) c.self.inside.literals.items c.args.clause.now (c.make_room.ensures.kept _ c.self.invariant.stamped) c.in_ok-make_room.ensures.room);
-      stamps_past = c.make_room.ensures.past _ c.self.invariant.stamps_past;
       marks_past = c.self.invariant.marks_past;
       marks_size = rw same c.self.invariant.marks_size;
     }
@@ -44,8 +40,6 @@ invariant_of-self-2 c =
     record {
       sorted = rw (spans, same) (sorted_push c.self.inside.spans.items _ c.self.invariant.sorted (λ i d h. ab i d h));
       within = rw (spans, same, lits) (within_push c.self.inside.spans.items _ (length c.self.inside.literals.items) _ c.self.invariant.within (omega arith) (omega arith) (omega arith));
-      stamped = rw lits (All-append (λ (l : ℕ). (l < length c.make_room.new.stamps.items) × (opposite l < length c.make_room.new.stamps.items)) c.self.inside.literals.items c.args.clause.now (c.make_room.ensures.kept _ c.self.invariant.stamped) c.in_ok-make_room.ensures.room);
-      stamps_past = c.make_room.ensures.past _ c.self.invariant.stamps_past;
       marks_past = rw marks (up_to_push c.self.inside.marks.items c.self.inside.epoch c.self.invariant.marks_past);
       marks_size = rw (marks, spans, same) (simp length-append (ap (λ n. n + 1) c.self.invariant.marks_size));
     }

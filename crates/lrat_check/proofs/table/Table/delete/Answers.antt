@@ -10,8 +10,6 @@ invariant_of-self c =
     record {
       sorted = rw e c.delete_ids.ensures.sorted;
       within = rw e (c.delete_ids.ensures.within _ (rw old c.self.invariant.within));
-      stamped = c.self.invariant.stamped;
-      stamps_past = c.self.invariant.stamps_past;
       marks_past = c.self.invariant.marks_past;
       marks_size = rw e (c.self.invariant.marks_size ∙ sym (ap length old) ∙ sym c.delete_ids.auto.spans);
     }

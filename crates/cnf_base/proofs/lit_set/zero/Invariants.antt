@@ -1,5 +1,5 @@
 use Rattle.std.proofs.Common.{◌≡◌, ℕ, ◌<◌, get_or}
-use Rattle.lrat_check.proofs.stamps.clear.Given as goal
+use Rattle.cnf_base.proofs.lit_set.zero.Given as goal
 
 abbrev pub invariant-loop-stamp : goal.invariant-loop-stamp
 invariant-loop-stamp l = (k : ℕ) → k < l.stamp-index → get_or l.stamps k 0 ≡ 0
