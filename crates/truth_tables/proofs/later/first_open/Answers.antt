@@ -3,7 +3,6 @@ use Rattle.std.proofs.lemmas.List.{drop_all}
 use Rattle.std.specs.Prelude.{slice_get}
 use Rattle.rml_command.specs.Trees.{PrimitiveTree}
 use Rattle.rml_command.specs.Goals.{Group, goals_among, is_for}
-use Rattle.rml_command.specs.declared.goal.Goal.{Goal}
 use Rattle.truth_tables.specs.Answers.{later_answer}
 use Rattle.truth_tables.proofs.later.first_open.Goals as goal
 
