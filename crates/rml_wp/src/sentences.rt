@@ -37,7 +37,8 @@ pub fn precondition(
     fol_subst::exactness();
     fragment_law();
     let model = checked.model();
-    let measured = along(alloc, model, goal.about, checked.path(goal))?;
+    let path = checked.path(goal);
+    let measured = along(alloc, model, goal.about, &path)?;
     Ok(Ae::new(Sentence::of(measured.formula)))
 }
 

@@ -1,8 +1,8 @@
-use Rattle.std.proofs.Common.{◌≡◌, ℕ, zero, suc, ◌+◌, Bool, true, false, cond, Some, List, [], ◌∷◌, drop, refl, sym, ap, ◌∙◌, arith}
+use Rattle.std.proofs.Common.{◌≡◌, ℕ, zero, suc, ◌+◌, Bool, true, false, cond, Some, List, [], ◌∷◌, drop, sym, ap, ◌∙◌, arith}
+use Rattle.std.proofs.lemmas.List.{drop_all}
 use Rattle.std.specs.Prelude.{slice_get}
 use Rattle.rml_command.specs.Trees.{PrimitiveTree}
 use Rattle.rml_command.specs.Goals.{Group, goals_among, is_for}
-use Rattle.rml_command.specs.declared.goal.Goal.{Goal}
 use Rattle.truth_tables.specs.Answers.{later_answer}
 use Rattle.truth_tables.proofs.later.first_open.Goals as goal
 
@@ -24,3 +24,14 @@ pub loop-i-preserved : goal.loop-i-preserved
 loop-i-preserved c =
     let group : Group = record { stage = c.args.stage; about = c.args.about } in
     sym (ap later_answer (turn group c.args.paths.now c.loop-i.i c.path.result false c.path.ensures (sym c.is_for.ensures ∙ c.if-is_for.false))) ∙ c.loop-i.invariant
+
+pub returns-then-is_for : goal.returns-then-is_for
+returns-then-is_for c =
+    let group : Group = record { stage = c.args.stage; about = c.args.about } in
+    sym (ap later_answer (turn group c.args.paths.now c.loop-i.i c.path.result true c.path.ensures (sym c.is_for.ensures ∙ c.if-is_for.true))) ∙ c.loop-i.invariant
+
+pub returns : goal.returns
+returns c =
+    let group : Group = record { stage = c.args.stage; about = c.args.about } in
+    let none : drop c.loop-i.i c.args.paths.now ≡ [] = drop_all c.loop-i.i c.args.paths.now (omega arith) in
+    sym (ap (λ ps. later_answer (goals_among group (c.loop-i.i + 1) ps)) none) ∙ c.loop-i.invariant

@@ -5,5 +5,5 @@ use Rattle.truth_tables.proofs.later.first_open.Given as goal
 
 abbrev pub invariant-loop-i : goal.invariant-loop-i
 invariant-loop-i l =
-    later_answer (goals_among (record { stage = l.stage; about = l.about }) (l.i + 1) (drop l.i l.paths))
-    ≡ later_answer (goals_among (record { stage = l.stage; about = l.about }) 1 l.paths)
+    later_answer (goals_among (record { stage = l.fn.stage; about = l.fn.about }) (l.i + 1) (drop l.i l.paths))
+    ≡ later_answer (goals_among (record { stage = l.fn.stage; about = l.fn.about }) 1 l.paths)
