@@ -1,0 +1,10 @@
+pub mod Below
+pub mod Truths
+pub mod Growth
+pub mod Definitions
+pub mod Down
+pub mod Up
+pub mod Assigned
+pub mod Counting
+pub mod Range
+pub mod Runs

@@ -1,0 +1,8 @@
+//! The clauses of ground formulas: a variable for each atom and for each And and Or, and clauses that say what each And
+//! and Or implies. They are written as the formulas come, part by part.
+#![tactic(auto)]
+
+mod frame;
+mod laws;
+
+pub use laws::{clause_laws, size_laws};
