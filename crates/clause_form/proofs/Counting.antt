@@ -1,14 +1,14 @@
 -- How many clauses and variables there are.
-use Rattle.std.proofs.Common.{◌≡◌, ℕ, ◌+◌, ◌*◌, ◌<◌, ◌≤◌, Bool, true, false, List, [], ◌∷◌, ◌++◌, Option, Some, None, length, refl, sym, ◌∙◌, ap, subst, cond, arith, length-append}
+use Rattle.std.proofs.Common.{◌≡◌, ℕ, ◌+◌, ◌*◌, ◌≤◌, List, [], ◌∷◌, Option, Some, None, length, refl, arith, length-append}
 use Rattle.cnf_base.specs.declared.cnf.Entry.{Entry}
 use Rattle.cnf_base.specs.declared.cnf.Entry.TheVariants.{Clause, True}
 use Rattle.cnf_base.specs.Clauses.{entry_of}
-use Rattle.cnf_base.specs.Literals.{literal_of}
+use Rattle.cnf_base.specs.Literals.{opposite}
 use Rattle.ground_terms.specs.declared.ground.Junction.{Junction}
 use Rattle.ground_terms.specs.declared.ground.Junction.TheVariants.{And, Or}
 use Rattle.ground_terms.specs.declared.atom.Atom.{Atom}
 use Rattle.ground_terms.specs.Trees.{Tree, Trees, literal, node, none, part, count, nodes, nodes_all}
-use Rattle.clause_form.specs.Numbers.{Numbers, start, variable_in, with_place, with_atom_by, after, after_all, lit_of, lits_of}
+use Rattle.clause_form.specs.Numbers.{Numbers, start, variable_in, with_place, with_atom_by, after, after_all, place_lit, lit_of, lits_of}
 use Rattle.clause_form.specs.Meaning.{atoms_of, places, places_all}
 use Rattle.clause_form.specs.Clauses.{unless_true, implies, implies_each, definition, clauses_of, clauses_of_all, formula_clauses, clause_form}
 
@@ -19,13 +19,13 @@ one True = omega arith
 each : (d : ℕ) (ls : List ℕ) → length (implies_each d ls) ≤ length ls
 each d [] = omega arith
 each d (l ∷ ls) =
-    let h = one (entry_of [] (literal_of false d ∷ l ∷ [])) in
+    let h = one (entry_of [] (opposite d ∷ l ∷ [])) in
     let r = each d ls in
     omega (arith, h, r, length-append (implies d (l ∷ [])) (implies_each d ls))
 
 defined : (j : Junction) (d : ℕ) (ls : List ℕ) → length (definition j d ls) ≤ length ls + 1
 defined And d ls = let h = each d ls in omega (arith, h)
-defined Or d ls = let h = one (entry_of [] (literal_of false d ∷ ls)) in omega (arith, h)
+defined Or d ls = let h = one (entry_of [] (opposite d ∷ ls)) in omega (arith, h)
 
 pub length-lits_of : (n : Numbers) (ps : Trees) → length (lits_of n ps) ≡ count ps
 length-lits_of n none = refl
@@ -37,9 +37,9 @@ mutual
   few n (literal a positive) = omega arith
   few n (node j ps) =
       let h = few_all (with_place n) ps in
-      let d = defined j (n.variables + 1) (lits_of (with_place n) ps) in
+      let d = defined j (place_lit n) (lits_of (with_place n) ps) in
       let l = length-lits_of (with_place n) ps in
-      omega (arith, h, d, l, length-append (clauses_of_all (with_place n) ps) (definition j (n.variables + 1) (lits_of (with_place n) ps)))
+      omega (arith, h, d, l, length-append (clauses_of_all (with_place n) ps) (definition j (place_lit n) (lits_of (with_place n) ps)))
 
   few_all : (n : Numbers) (ps : Trees) → length (clauses_of_all n ps) + count ps ≤ 2 * nodes_all ps
   few_all n none = omega arith

@@ -1,6 +1,6 @@
 -- Values that satisfy the clauses satisfy the formulas.
-use Rattle.std.proofs.Common.{◌≡◌, ℕ, ◌+◌, Bool, true, false, List, [], ◌∷◌, ◌++◌, refl, sym, ◌∙◌, ap, cond, inl, inr}
-use Rattle.std.specs.Prelude.{◌&&◌, ◌||◌, not}
+use Rattle.std.proofs.Common.{◌≡◌, ℕ, Bool, true, false, [], ◌∷◌, refl, sym, ◌∙◌, ap, cond, inl, inr}
+use Rattle.std.specs.Prelude.{◌||◌, not}
 use Rattle.std.proofs.lemmas.Bool.{and_parts, or_cases, and_from, or_left, or_right}
 use Rattle.cnf_base.specs.declared.cnf.Entry.TheVariants.{Clause}
 use Rattle.cnf_base.specs.Literals.{is_true}
@@ -9,7 +9,7 @@ use Rattle.ground_terms.specs.declared.atom.Atom.{Atom}
 use Rattle.ground_terms.specs.declared.ground.Junction.{Junction}
 use Rattle.ground_terms.specs.declared.ground.Junction.TheVariants.{And, Or}
 use Rattle.ground_terms.specs.Trees.{Tree, Trees, literal, node, none, part, truth, all_true, any_true}
-use Rattle.clause_form.specs.Numbers.{Numbers, start, with_place, after, after_all, lit_of, lits_of, atom_lit, atom_variable}
+use Rattle.clause_form.specs.Numbers.{Numbers, start, with_place, after, after_all, lit_of, lits_of, place_lit, atom_lit, atom_variable}
 use Rattle.clause_form.specs.Clauses.{definition, clauses_of, clauses_of_all, formula_clauses, clause_form}
 use Rattle.clause_form.specs.Meaning.{Extends, atoms_of}
 use Rattle.clause_form.proofs.Below.{AtomsAreSame, EntriesAreTrue}
@@ -38,8 +38,8 @@ module _ (atoms : AtomsAreSame) (entries : EntriesAreTrue) (v : Atom → Bool) (
         → is_true value (lit_of n p) ≡ true → truth v p ≡ true
     down n (literal a positive) e c t = sym (literal_value n a positive e) ∙ t
     down n (node j ps) e c t =
-        let c' = and_parts _ _ (sym (all_entries_true-append value (clauses_of_all (with_place n) ps) (definition j (n.variables + 1) (lits_of (with_place n) ps))) ∙ c) in
-        down_node j (with_place n) ps e c'.0 (applied (value (n.variables + 1)) _ (sym (literal_truth value true (n.variables + 1)) ∙ t) (sym (definition_truth entries value j (n.variables + 1) (lits_of (with_place n) ps)) ∙ c'.1))
+        let c' = and_parts _ _ (sym (all_entries_true-append value (clauses_of_all (with_place n) ps) (definition j (place_lit n) (lits_of (with_place n) ps))) ∙ c) in
+        down_node j (with_place n) ps e c'.0 (applied (is_true value (place_lit n)) _ t (sym (definition_truth entries value j (place_lit n) (lits_of (with_place n) ps)) ∙ c'.1))
 
     down_node : (j : Junction) (n : Numbers) (ps : Trees) → Extends v (after_all n ps).atoms value → all_entries_true value (clauses_of_all n ps) ≡ true
         → joined entries value j (lits_of n ps) ≡ true → truth v (node j ps) ≡ true

@@ -1,5 +1,5 @@
 -- Atoms keep their variables.
-use Rattle.std.proofs.Common.{◌≡◌, ℕ, ◌+◌, Bool, true, false, List, [], ◌∷◌, ◌++◌, Option, Some, None, refl, sym, ◌∙◌, ap, subst, cond}
+use Rattle.std.proofs.Common.{◌≡◌, ℕ, ◌+◌, Bool, true, false, List, [], ◌∷◌, ◌++◌, Option, Some, None, refl, ◌∙◌, ap, cond}
 use Rattle.std.specs.Option.{unwrap_or}
 use Rattle.ground_terms.specs.declared.atom.Atom.{Atom}
 use Rattle.ground_terms.specs.Same.{same_atom}

@@ -4,7 +4,9 @@ pub mod Growth
 pub mod Definitions
 pub mod Down
 pub mod Up
+pub mod Tables
 pub mod Assigned
 pub mod Counting
 pub mod Range
 pub mod Runs
+pub mod Standing

@@ -1,9 +1,9 @@
 -- The literals are of the variables.
-use Rattle.std.proofs.Common.{◌≡◌, ℕ, ◌+◌, ◌*◌, ◌<◌, ◌≤◌, Bool, true, false, List, [], ◌∷◌, ◌++◌, Option, Some, None, refl, sym, ◌∙◌, ap, cond, arith}
+use Rattle.std.proofs.Common.{◌≡◌, ℕ, ◌+◌, ◌<◌, ◌≤◌, Bool, true, false, List, [], ◌∷◌, ◌++◌, Option, Some, None, refl, sym, ◌∙◌, cond, arith}
 use Rattle.std.specs.Option.{unwrap_or}
 use Rattle.cnf_base.specs.declared.cnf.Entry.{Entry}
 use Rattle.cnf_base.specs.declared.cnf.Entry.TheVariants.{Clause, True}
-use Rattle.cnf_base.specs.Literals.{literal_of, variable_of, IsLiteral, AreLiterals}
+use Rattle.cnf_base.specs.Literals.{literal_of, opposite, IsLiteral, AreLiterals}
 use Rattle.cnf_base.specs.Clauses.{entry_of, IsEntry}
 use Rattle.cnf_base.specs.Formulas.{AreEntries, IsFormula}
 use Rattle.ground_terms.specs.declared.atom.Atom.{Atom}
@@ -11,7 +11,7 @@ use Rattle.ground_terms.specs.Same.{same_atom}
 use Rattle.ground_terms.specs.declared.ground.Junction.{Junction}
 use Rattle.ground_terms.specs.declared.ground.Junction.TheVariants.{And, Or}
 use Rattle.ground_terms.specs.Trees.{Tree, Trees, literal, node, none, part}
-use Rattle.clause_form.specs.Numbers.{Numbers, start, variable_in, with_place, with_atom_by, after, after_all, atom_variable, lit_of, lits_of}
+use Rattle.clause_form.specs.Numbers.{Numbers, start, variable_in, with_place, with_atom_by, after, after_all, atom_variable, place_lit, lit_of, lits_of}
 use Rattle.clause_form.specs.Clauses.{unless_true, implies, implies_each, definition, clauses_of, clauses_of_all, formula_clauses, clause_form}
 use Rattle.clause_form.proofs.Below.{EntriesAreIn}
 use Rattle.clause_form.proofs.Growth.{found_last, keeps_append}
@@ -30,18 +30,18 @@ unless_in m True p = tt
 
 module _ (entries : EntriesAreIn) where
   entry_is_in : (m : ℕ) (ls : List ℕ) → AreLiterals m ls → AreEntries m (unless_true (entry_of [] ls))
-  entry_is_in m ls p = unless_in m (entry_of [] ls) (entries m ls p)
+  entry_is_in m ls p = unless_in m (entry_of [] ls) (entries.entry_in m ls p)
 
-  implies_in : (m d : ℕ) (ls : List ℕ) → 0 < d → d ≤ m → AreLiterals m ls → AreEntries m (implies d ls)
-  implies_in m d ls p q r = entry_is_in m (literal_of false d ∷ ls) (signed false m d p q, r)
+  implies_in : (m d : ℕ) (ls : List ℕ) → IsLiteral m d → AreLiterals m ls → AreEntries m (implies d ls)
+  implies_in m d ls p r = entry_is_in m (opposite d ∷ ls) (entries.opposite_in m d p, r)
 
-  each_in : (m d : ℕ) (ls : List ℕ) → 0 < d → d ≤ m → AreLiterals m ls → AreEntries m (implies_each d ls)
-  each_in m d [] p q r = tt
-  each_in m d (l ∷ ls) p q r = append_entries m (implies d (l ∷ [])) (implies_each d ls) (implies_in m d (l ∷ []) p q (r.0, tt)) (each_in m d ls p q r.1)
+  each_in : (m d : ℕ) (ls : List ℕ) → IsLiteral m d → AreLiterals m ls → AreEntries m (implies_each d ls)
+  each_in m d [] p r = tt
+  each_in m d (l ∷ ls) p r = append_entries m (implies d (l ∷ [])) (implies_each d ls) (implies_in m d (l ∷ []) p (r.0, tt)) (each_in m d ls p r.1)
 
-  definition_in : (m d : ℕ) (j : Junction) (ls : List ℕ) → 0 < d → d ≤ m → AreLiterals m ls → AreEntries m (definition j d ls)
-  definition_in m d And ls p q r = each_in m d ls p q r
-  definition_in m d Or ls p q r = implies_in m d ls p q r
+  definition_in : (m d : ℕ) (j : Junction) (ls : List ℕ) → IsLiteral m d → AreLiterals m ls → AreEntries m (definition j d ls)
+  definition_in m d And ls p r = each_in m d ls p r
+  definition_in m d Or ls p r = implies_in m d ls p r
 
 -- each atom's variable is one that was given
 abbrev pub Numbered : Numbers → Type 0
@@ -112,9 +112,9 @@ module _ (entries : EntriesAreIn) where
     clauses_in m n (literal a positive) f h = tt
     clauses_in m n (node j ps) f h =
         let r = rises_all (with_place n) ps in
-        append_entries m (clauses_of_all (with_place n) ps) (definition j (n.variables + 1) (lits_of (with_place n) ps))
+        append_entries m (clauses_of_all (with_place n) ps) (definition j (place_lit n) (lits_of (with_place n) ps))
         (clauses_in_all m (with_place n) ps (numbered_place n f) h)
-        (definition_in entries m (n.variables + 1) j (lits_of (with_place n) ps) (omega arith) (omega (arith, h, r)) (lits_in m (with_place n) ps (numbered_place n f) h))
+        (definition_in entries m (place_lit n) j (lits_of (with_place n) ps) (signed true m (n.variables + 1) (omega arith) (omega (arith, h, r))) (lits_in m (with_place n) ps (numbered_place n f) h))
 
     clauses_in_all : (m : ℕ) (n : Numbers) (ps : Trees) → Numbered n → (after_all n ps).variables ≤ m → AreEntries m (clauses_of_all n ps)
     clauses_in_all m n none f h = tt

@@ -1,5 +1,5 @@
 -- The clauses that are written call by call are those of the formulas.
-use Rattle.std.proofs.Common.{◌≡◌, ℕ, ◌+◌, ◌-◌, ◌<◌, ◌≤◌, Bool, true, false, List, [], ◌∷◌, ◌++◌, length, take, drop, refl, sym, ◌∙◌, ap, subst, cond, arith, append_assoc, length-append}
+use Rattle.std.proofs.Common.{◌≡◌, ℕ, ◌+◌, ◌≤◌, false, List, [], ◌∷◌, ◌++◌, length, take, drop, refl, sym, ◌∙◌, ap, cond, arith, append_assoc, length-append}
 use Rattle.std.specs.Prelude.{◌==◌}
 use Rattle.std.proofs.lemmas.Bool.{ne_eqb, eq-eqb}
 use Rattle.std.proofs.lemmas.List.{append-nil, drop-append-le, length-drop}
@@ -43,7 +43,7 @@ differ m n k e = ne_eqb m n (λ z. absurd (omega arith))
 stays_open : (n : Numbers) (f : Frame) (fs : List Frame) (ls : List ℕ) (es : List Entry) (k : ℕ) → length (drop f.start ls) + (k + 1) ≡ f.parts
     → settle (state n (f ∷ fs) ls es) ≡ state n (f ∷ fs) ls es
 stays_open n f fs ls es k e =
-    ap (λ b. cond b (settle_nodes n fs (take f.start ls) (es ++ definition f.junction f.variable (drop f.start ls))) (state n (f ∷ fs) ls es))
+    ap (λ b. cond b (settle_nodes n fs (take f.start ls) (es ++ definition f.junction f.own (drop f.start ls))) (state n (f ∷ fs) ls es))
     (differ (length (drop f.start ls)) f.parts k e)
 
 one_more : (k : ℕ) (ls : List ℕ) (l : ℕ) → k ≤ length ls → length (drop k (ls ++ l ∷ [])) ≡ length (drop k ls) + 1
@@ -51,16 +51,16 @@ one_more k ls l h = ap length (drop-append-le k ls (l ∷ []) h) ∙ length-appe
 
 node_ends : (n m : Numbers) (j : Junction) (fs : List Frame) (ls parts : List ℕ) (es : List Entry) (k : ℕ) → length parts ≡ k
     → settle (state m (frame j n k ls ∷ fs) ((ls ++ place_lit n ∷ []) ++ parts) es)
-    ≡ settle (state m fs (ls ++ place_lit n ∷ []) (es ++ definition j (n.variables + 1) parts))
+    ≡ settle (state m fs (ls ++ place_lit n ∷ []) (es ++ definition j (place_lit n) parts))
 node_ends n m j fs ls parts es k full =
     let own : length ls + 1 ≡ length (ls ++ place_lit n ∷ []) = sym (length-append ls (place_lit n ∷ [])) in
     let t : take (length ls + 1) ((ls ++ place_lit n ∷ []) ++ parts) ≡ ls ++ place_lit n ∷ [] =
     ap (λ k. take k ((ls ++ place_lit n ∷ []) ++ parts)) own ∙ take_all (ls ++ place_lit n ∷ []) parts in
     let d : drop (length ls + 1) ((ls ++ place_lit n ∷ []) ++ parts) ≡ parts =
     ap (λ k. drop k ((ls ++ place_lit n ∷ []) ++ parts)) own ∙ drop_all (ls ++ place_lit n ∷ []) parts in
-    (λ i. cond (length (d i) == k) (settle_nodes m fs (t i) (es ++ definition j (n.variables + 1) (d i)))
+    (λ i. cond (length (d i) == k) (settle_nodes m fs (t i) (es ++ definition j (place_lit n) (d i)))
     (state m (frame j n k ls ∷ fs) ((ls ++ place_lit n ∷ []) ++ parts) es))
-    ∙ ap (λ b. cond b (settle_nodes m fs (ls ++ place_lit n ∷ []) (es ++ definition j (n.variables + 1) parts))
+    ∙ ap (λ b. cond b (settle_nodes m fs (ls ++ place_lit n ∷ []) (es ++ definition j (place_lit n) parts))
     (state m (frame j n k ls ∷ fs) ((ls ++ place_lit n ∷ []) ++ parts) es)) (eq-eqb (length parts) k full)
 
 none_yet : (ls : List ℕ) (l : ℕ) → length (drop (length ls + 1) (ls ++ l ∷ [])) ≡ 0
@@ -79,7 +79,7 @@ mutual
       ∙ parts_run ps (with_place n) f fs (ls ++ place_lit n ∷ []) es (omega (arith, h1)) (ap (λ k. k + count ps) h2 ∙ omega arith)
       ∙ node_ends n (after_all (with_place n) ps) j fs ls (lits_of (with_place n) ps) (es ++ clauses_of_all (with_place n) ps) (count ps) (length-lits_of (with_place n) ps)
       ∙ ap (λ x. settle (state (after_all (with_place n) ps) fs (ls ++ place_lit n ∷ []) x))
-      (append_assoc es (clauses_of_all (with_place n) ps) (definition j (n.variables + 1) (lits_of (with_place n) ps)))
+      (append_assoc es (clauses_of_all (with_place n) ps) (definition j (place_lit n) (lits_of (with_place n) ps)))
 
   pub parts_run : (ps : Trees) (n : Numbers) (f : Frame) (fs : List Frame) (ls : List ℕ) (es : List Entry) → f.start ≤ length ls
       → length (drop f.start ls) + count ps ≡ f.parts → settle (run (state n (f ∷ fs) ls es) (calls_of_all ps)) ≡ settle (all_parts n f fs ls es ps)

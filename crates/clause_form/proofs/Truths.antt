@@ -1,7 +1,7 @@
 -- The truth of literals, clauses and formulas as a test.
-use Rattle.std.proofs.Common.{◌≡◌, ℕ, ◌+◌, ◌-◌, ◌*◌, eqb, Bool, true, false, cond, List, [], ◌∷◌, ◌++◌, Option, Some, None, slice_get, zero, suc, refl, sym, ◌∙◌, ap, arith}
+use Rattle.std.proofs.Common.{◌≡◌, ℕ, ◌+◌, ◌*◌, eqb, Bool, true, false, cond, List, [], ◌∷◌, ◌++◌, Some, slice_get, zero, suc, refl, sym, ◌∙◌, ap, arith}
 use Rattle.std.specs.Prelude.{◌&&◌, ◌||◌, not}
-use Rattle.std.proofs.lemmas.Bool.{and_parts, or_cases, and_from, or_left, or_right, eqb-true, eq-eqb}
+use Rattle.std.proofs.lemmas.Bool.{and_parts, and_from, or_left, or_right, eqb-true, eq-eqb}
 use Rattle.std.proofs.lemmas.Grind.{common_steps}
 use Rattle.cnf_base.specs.declared.cnf.Entry.{Entry}
 use Rattle.cnf_base.specs.declared.cnf.Entry.TheVariants.{Clause, True}
@@ -102,5 +102,5 @@ module _ (value : ℕ → Bool) where
 
   pub made_true : EntriesAreTrue → (ls : List ℕ) → entry_true (entry_of [] ls) ≡ any_lit ls
   made_true truth ls = both_ways _ _
-      (λ h. let s = (truth value ls).0 (entry_satisfies (entry_of [] ls) h) in any_of_clause ls s.0 s.1 s.2)
-      (λ h. entry_is_true (entry_of [] ls) ((truth value ls).1 (clause_of_any ls h)))
+      (λ h. let s = (truth.entry_true value ls).0 (entry_satisfies (entry_of [] ls) h) in any_of_clause ls s.0 s.1 s.2)
+      (λ h. entry_is_true (entry_of [] ls) ((truth.entry_true value ls).1 (clause_of_any ls h)))

@@ -5,13 +5,13 @@ use Rattle.std.proofs.lemmas.Bool.{and_parts, and_from}
 use Rattle.std.proofs.lemmas.List.{get_or-append-add, append-nil}
 use Rattle.cnf_base.specs.declared.cnf.Entry.TheVariants.{Clause}
 use Rattle.cnf_base.specs.Literals.{is_true}
-use Rattle.cnf_base.specs.Formulas.{Satisfies, value_of}
+use Rattle.cnf_base.specs.Formulas.{value_of}
 use Rattle.ground_terms.specs.declared.atom.Atom.{Atom}
 use Rattle.ground_terms.specs.Same.{same_atom}
 use Rattle.ground_terms.specs.declared.ground.Junction.{Junction}
 use Rattle.ground_terms.specs.declared.ground.Junction.TheVariants.{And, Or}
 use Rattle.ground_terms.specs.Trees.{Tree, Trees, literal, node, none, part, truth, all_true, any_true}
-use Rattle.clause_form.specs.Numbers.{Numbers, start, variable_in, with_place, with_atom, with_atom_by, after, after_all, lit_of, lits_of}
+use Rattle.clause_form.specs.Numbers.{Numbers, start, variable_in, with_place, with_atom_by, after, after_all, place_lit, lit_of, lits_of}
 use Rattle.clause_form.specs.Clauses.{definition, clauses_of, clauses_of_all, formula_clauses, clause_form}
 use Rattle.clause_form.specs.Meaning.{Extends, ExtendsToModel, atoms_of}
 use Rattle.clause_form.proofs.Below.{AtomsAreSame, EntriesAreTrue}
@@ -124,10 +124,11 @@ module _ (same_atoms : AtomsAreSame) (entries : EntriesAreTrue) (v : Atom → Bo
         let g = good_all (with_place n) ps (before ++ t ∷ []) rest w (fits_place n before t f) e' in
         let here : value_of w (n.variables + 1) ≡ t =
         ap (λ x. value_of x (n.variables + 1)) (e ∙ append_assoc before (t ∷ more_all (with_place n) ps) rest) ∙ at_end before (more_all (with_place n) ps ++ rest) t n.variables f.len in
+        let own : is_true (value_of w) (place_lit n) ≡ t = literal_truth (value_of w) true (n.variables + 1) ∙ here in
         record {
-          lit = literal_truth (value_of w) true (n.variables + 1) ∙ here;
-          clauses = all_entries_true-append (value_of w) (clauses_of_all (with_place n) ps) (definition j (n.variables + 1) (lits_of (with_place n) ps))
-              ∙ and_from _ _ g.clauses (definition_truth entries (value_of w) j (n.variables + 1) (lits_of (with_place n) ps) ∙ same_or _ _ (here ∙ sym (joins j (with_place n) ps w g)));
+          lit = own;
+          clauses = all_entries_true-append (value_of w) (clauses_of_all (with_place n) ps) (definition j (place_lit n) (lits_of (with_place n) ps))
+              ∙ and_from _ _ g.clauses (definition_truth entries (value_of w) j (place_lit n) (lits_of (with_place n) ps) ∙ same_or _ _ (own ∙ sym (joins j (with_place n) ps w g)));
         }
 
     good_all : (n : Numbers) (ps : Trees) (before rest w : List Bool) → Fits n before → w ≡ (before ++ more_all n ps) ++ rest → GoodAll n ps w

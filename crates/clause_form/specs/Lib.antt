@@ -2,4 +2,7 @@ pub mod Numbers
 pub mod Clauses
 pub mod Meaning
 pub mod Axioms
+pub mod Tables
 pub mod Machine
+pub mod Boards
+pub mod Stands

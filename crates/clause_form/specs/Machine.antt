@@ -1,5 +1,5 @@
 -- The clauses, written call by call.
-use Rattle.std.specs.Prelude.{◌≡◌, ℕ, ◌+◌, ◌-◌, ◌==◌, ◌≤◌, Bool, true, false, List, [], ◌∷◌, ◌++◌, length, take, drop, if◌then◌else◌}
+use Rattle.std.specs.Prelude.{ℕ, ◌+◌, ◌==◌, List, [], ◌∷◌, ◌++◌, length, take, drop, if◌then◌else◌}
 use Rattle.cnf_base.specs.declared.cnf.Entry.{Entry}
 use Rattle.cnf_base.specs.declared.cnf.Entry.TheVariants.{Clause}
 use Rattle.ground_terms.specs.declared.ground.Junction.{Junction}
@@ -24,7 +24,7 @@ abbrev pub settle_nodes : Numbers → List Frame → List ℕ → List Entry →
 settle_nodes n [] [] es = state n [] [] es
 settle_nodes n [] (l ∷ ls) es = state n [] [] (es ++ Clause (l ∷ []) ∷ [])
 settle_nodes n (f ∷ fs) ls es =
-    if length (drop f.start ls) == f.parts then settle_nodes n fs (take f.start ls) (es ++ definition f.junction f.variable (drop f.start ls))
+    if length (drop f.start ls) == f.parts then settle_nodes n fs (take f.start ls) (es ++ definition f.junction f.own (drop f.start ls))
     else state n (f ∷ fs) ls es
 
 abbrev pub settle : State → State
@@ -32,7 +32,7 @@ settle s = settle_nodes s.numbers s.nodes s.lits s.clauses
 
 -- an open node, whose parts' literals come behind these
 abbrev pub frame : Junction → Numbers → ℕ → List ℕ → Frame
-frame j n parts ls = record { junction = j; variable = n.variables + 1; parts = parts; start = length ls + 1 }
+frame j n parts ls = record { junction = j; own = place_lit n; parts = parts; start = length ls + 1 }
 
 abbrev pub act : State → Call → State
 act s (a_literal a positive) = state (with_atom s.numbers a) s.nodes (s.lits ++ atom_lit s.numbers a positive ∷ []) s.clauses

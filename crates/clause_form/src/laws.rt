@@ -7,7 +7,7 @@ ghost use Rattle.ground_terms.specs.Trees.{Trees, all_true, nodes_all};
 ghost use Rattle.clause_form.specs.Clauses.{clause_form};
 ghost use Rattle.clause_form.specs.Meaning.{Extends, ExtendsToModel, atoms_of, true_atoms, places_all};
 
-use cnf_base::entry_laws;
+use cnf_base::{entry_laws, opposite_laws};
 use ground_terms::atom_laws;
 
 /// An assignment of the atoms satisfies the formulas exactly where it extends to values that satisfy the clauses, and of
@@ -19,6 +19,7 @@ pub fn clause_laws()
     ensures assigned { (ps : Trees) (values : List Bool) → Satisfies (value_of values) (clause_form ps) → all_true (holds_in (true_atoms values (atoms_of ps))) ps ≡ true }
 {
     atom_laws();
+    opposite_laws();
     entry_laws();
 }
 
