@@ -16,16 +16,19 @@ one : (e : Entry) → length (unless_true e) ≤ 1
 one (Clause ls) = omega arith
 one True = omega arith
 
+pub implied : (d : ℕ) (ls : List ℕ) → length (implies d ls) ≤ 1
+implied d ls = one (entry_of [] (opposite d ∷ ls))
+
 each : (d : ℕ) (ls : List ℕ) → length (implies_each d ls) ≤ length ls
 each d [] = omega arith
 each d (l ∷ ls) =
-    let h = one (entry_of [] (opposite d ∷ l ∷ [])) in
+    let h = implied d (l ∷ []) in
     let r = each d ls in
     omega (arith, h, r, length-append (implies d (l ∷ [])) (implies_each d ls))
 
 defined : (j : Junction) (d : ℕ) (ls : List ℕ) → length (definition j d ls) ≤ length ls + 1
 defined And d ls = let h = each d ls in omega (arith, h)
-defined Or d ls = let h = one (entry_of [] (opposite d ∷ ls)) in omega (arith, h)
+defined Or d ls = let h = implied d ls in omega (arith, h)
 
 pub length-lits_of : (n : Numbers) (ps : Trees) → length (lits_of n ps) ≡ count ps
 length-lits_of n none = refl
@@ -33,7 +36,7 @@ length-lits_of n (part p ps) = let h = length-lits_of (after n p) ps in omega (a
 
 -- a node has at most a clause for itself, and one as a part of another
 mutual
-  few : (n : Numbers) (p : Tree) → length (clauses_of n p) + 1 ≤ 2 * nodes p
+  pub few : (n : Numbers) (p : Tree) → length (clauses_of n p) + 1 ≤ 2 * nodes p
   few n (literal a positive) = omega arith
   few n (node j ps) =
       let h = few_all (with_place n) ps in

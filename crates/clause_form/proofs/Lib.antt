@@ -7,6 +7,7 @@ pub mod Up
 pub mod Tables
 pub mod Assigned
 pub mod Counting
+pub mod FlatCounting
 pub mod Range
 pub mod Runs
 pub mod Standing

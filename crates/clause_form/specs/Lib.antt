@@ -1,7 +1,7 @@
 pub mod Numbers
 pub mod Clauses
 pub mod Meaning
-pub mod Axioms
+pub mod Flat
 pub mod Tables
 pub mod Machine
 pub mod Boards
