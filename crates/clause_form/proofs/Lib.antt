@@ -1,0 +1,13 @@
+pub mod Below
+pub mod Truths
+pub mod Growth
+pub mod Definitions
+pub mod Down
+pub mod Up
+pub mod Tables
+pub mod Assigned
+pub mod Counting
+pub mod FlatCounting
+pub mod Range
+pub mod Runs
+pub mod Standing
