@@ -1,0 +1,4 @@
+pub mod Instance
+pub mod Scopes
+pub mod Groundable
+pub mod Laws
