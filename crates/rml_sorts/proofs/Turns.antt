@@ -1,7 +1,7 @@
 -- One turn of a loop that makes something of each element of a list.
 use Rattle.std.proofs.Common.{◌≡◌, ℕ, ◌+◌, ◌<◌, List, [], ◌∷◌, ◌++◌, ◌≤◌, length, get_or, drop, sym, ap, ◌∙◌, map, append_assoc}
 use Rattle.std.proofs.lemmas.List.{drop_more, drop_all, append-nil}
-use Rattle.base.proofs.Lists.{drop_read}
+use Rattle.base.proofs.Lists.{drop_read, list_turn}
 use Rattle.fol_formula.specs.Syntax.{FormTree, FormTrees, TermTree, TermTrees, form_then, term_then, forms_then, terms_then}
 use Rattle.fol_formula.specs.View.{form, term}
 use Rattle.fol_formula.specs.declared.Formula.{Formula}
