@@ -1,7 +1,5 @@
 -- The atoms that are read back have the values of their variables.
-use Rattle.std.proofs.Common.{◌≡◌, ℕ, ◌+◌, Bool, true, false, List, [], ◌∷◌, ◌++◌, Option, Some, None, refl, sym, ◌∙◌, ap, cond, drop, slice_get, append_assoc, length, ◌<◌}
-use Rattle.std.proofs.lemmas.List.{drop_more}
-use Rattle.std.proofs.lemmas.Option.{get_or_from_slice_get}
+use Rattle.std.proofs.Common.{◌≡◌, ℕ, ◌+◌, Bool, true, false, List, [], ◌∷◌, ◌++◌, Option, Some, None, refl, sym, ◌∙◌, ap, cond}
 use Rattle.std.specs.Prelude.{◌||◌}
 use Rattle.cnf_base.specs.Formulas.{value_of}
 use Rattle.ground_terms.specs.declared.atom.Atom.{Atom}
@@ -87,21 +85,3 @@ module _ (atoms : AtomsAreSame) where
 
   pub assigned : (ps : Trees) (values : List Bool) → Extends (holds_in (true_atoms values (atoms_of ps))) (atoms_of ps) (value_of values)
   assigned ps values = has_value values (atoms_of ps) (distinct_after_all start ps tt)
-
-true_atoms-first : (values : List Bool) (e : Atom × ℕ) (es : List (Atom × ℕ)) → true_atoms values (e ∷ es) ≡ true_atoms values (e ∷ []) ++ true_atoms values es
-true_atoms-first values e es = by (value_of values e.1)
-  where
-    by : (b : Bool) → cond b (e.0 ∷ true_atoms values es) (true_atoms values es) ≡ cond b (e.0 ∷ []) [] ++ true_atoms values es
-    by true = refl
-    by false = refl
-
-true_atoms-drop : (values : List Bool) (es : List (Atom × ℕ)) (i : ℕ) (e : Atom × ℕ) → i < length es → slice_get es i ≡ Some e
-    → true_atoms values (drop i es) ≡ true_atoms values (e ∷ []) ++ true_atoms values (drop (i + 1) es)
-true_atoms-drop values es i e lt h =
-    ap (true_atoms values) (drop_more es i e lt ∙ ap (λ x. x ∷ drop (i + 1) es) (get_or_from_slice_get es i e e h)) ∙ true_atoms-first values e (drop (i + 1) es)
-
-pub take_step : (values : List Bool) (es : List (Atom × ℕ)) (i : ℕ) (e : Atom × ℕ) (old new : List Atom) → i < length es → slice_get es i ≡ Some e → new ≡ old ++ true_atoms values (e ∷ [])
-    → new ++ true_atoms values (drop (i + 1) es) ≡ old ++ true_atoms values (drop i es)
-take_step values es i e old new lt h n =
-    ap (λ x. x ++ true_atoms values (drop (i + 1) es)) n ∙ append_assoc old (true_atoms values (e ∷ [])) (true_atoms values (drop (i + 1) es))
-    ∙ ap (λ x. old ++ x) (sym (true_atoms-drop values es i e lt h))

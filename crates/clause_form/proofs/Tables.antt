@@ -1,5 +1,5 @@
 -- The row of the atoms' variables.
-use Rattle.std.proofs.Common.{◌≡◌, ℕ, zero, suc, ◌<◌, ◌≤◌, ◌^◌, Bool, true, false, cond, List, [], ◌∷◌, ◌++◌, Option, Some, None, length, get_or, slice_set, refl, sym, ◌∙◌, ap, subst, arith}
+use Rattle.std.proofs.Common.{◌≡◌, ℕ, ◌<◌, ◌≤◌, ◌^◌, Bool, true, false, cond, List, [], ◌∷◌, ◌++◌, Option, Some, None, length, get_or, slice_set, refl, sym, ◌∙◌, ap, subst, arith}
 use Rattle.std.specs.Option.{unwrap_or}
 use Rattle.std.proofs.lemmas.Grind.{common_steps}
 use Rattle.fol_sig.specs.Symbols.{symbols}
@@ -8,23 +8,9 @@ use Rattle.ground_terms.specs.Same.{same_atom}
 use Rattle.ground_terms.specs.AtomNumbers.{FitsAtom, atom_number, atom_count, AtomsAreNumbered}
 use Rattle.ground_terms.specs.AtomSpaces.{AtomSpace}
 use Rattle.clause_form.specs.Numbers.{variable_in}
-use Rattle.clause_form.specs.Tables.{some_variable, IsNumbered, FindsEach}
+use Rattle.clause_form.specs.Tables.{IsNumbered, FindsEach}
 use Rattle.clause_form.proofs.Below.{AtomsAreSame}
 use Rattle.clause_form.proofs.Growth.{found_last, keeps_append}
-
-pub read-back : (o : Option ℕ) → ((n : ℕ) → o ≡ Some n → 0 < n) → some_variable (unwrap_or o 0) ≡ o
-read-back None f = refl
-read-back (Some zero) f = absurd (let h = f 0 refl in omega (arith, h))
-read-back (Some (suc n)) f = refl
-
-pub in-range : (o r : Option ℕ) → r ≡ o → ((n : ℕ) → o ≡ Some n → (0 < n) × (n < 2 ^ 31)) → (n : ℕ) → r ≡ Some n → (0 < n) × (n < 2 ^ 31)
-in-range o r e f n h = f n (sym e ∙ h)
-
--- an atom that is found
-pub found-there : (s : AtomSpace) (row : List ℕ) (atoms : List (Atom × ℕ)) → FindsEach s row atoms → (a : Atom) (n : ℕ) → IsNumbered s a → n ≡ atom_number (symbols s.signature) s.counts a
-    → some_variable (get_or row n 0) ≡ variable_in atoms a
-found-there s row atoms f a n h e =
-    ap (λ m. some_variable (get_or row m 0)) e ∙ ap some_variable (f.found a h) ∙ read-back (variable_in atoms a) (λ m g. (f.given a m g).0)
 
 -- a longer row
 pub same-row : (s : AtomSpace) (row wider : List ℕ) (atoms : List (Atom × ℕ)) → FindsEach s row atoms → ((k : ℕ) → get_or wider k 0 ≡ get_or row k 0) → FindsEach s wider atoms
