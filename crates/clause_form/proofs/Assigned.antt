@@ -26,13 +26,15 @@ module _ (atoms : AtomsAreSame) where
       by true e = let f : true ≡ false = sym (atoms.reflexive a) ∙ ap (same_atom a) (sym (atoms.same b a e)) ∙ h in cc f
       by false e = refl
 
-  distinct_more : (xs : List (Atom × ℕ)) (a : Atom) (k : ℕ) → Distinct xs → variable_in xs a ≡ None → Distinct (xs ++ (a, k) ∷ [])
+  distinct_more : (xs : List (Atom × ℕ)) (a : Atom) (k : ℕ) → Distinct xs → variable_in xs a ≡ None
+      → Distinct (xs ++ (a, k) ∷ [])
   distinct_more [] a k d h = (refl, tt)
   distinct_more (x ∷ xs) a k d h =
       let p = none_parts (same_atom a x.0) x.1 (variable_in xs a) h in
       (found_last xs a x.0 k d.0 ∙ not_there a x.0 k p.0, distinct_more xs a k d.1 p.1)
 
-  distinct_atom : (o : Option ℕ) (n : Numbers) (a : Atom) → variable_in n.atoms a ≡ o → Distinct n.atoms → Distinct (with_atom_by o n a).atoms
+  distinct_atom : (o : Option ℕ) (n : Numbers) (a : Atom) → variable_in n.atoms a ≡ o → Distinct n.atoms
+      → Distinct (with_atom_by o n a).atoms
   distinct_atom (Some v) n a e d = d
   distinct_atom None n a e d = distinct_more n.atoms a (n.variables + 1) d e
 
@@ -50,7 +52,8 @@ module _ (atoms : AtomsAreSame) where
     skipped true s r p q = cc
     skipped false s r p q = q
 
-    in_cond : (b : Bool) (x a : Atom) (xs : List Atom) → holds_in (cond b (x ∷ xs) xs) a ≡ cond b (same_atom a x || holds_in xs a) (holds_in xs a)
+    in_cond : (b : Bool) (x a : Atom) (xs : List Atom)
+        → holds_in (cond b (x ∷ xs) xs) a ≡ cond b (same_atom a x || holds_in xs a) (holds_in xs a)
     in_cond true x a xs = refl
     in_cond false x a xs = refl
 
@@ -58,7 +61,8 @@ module _ (atoms : AtomsAreSame) where
     absent [] a h = refl
     absent (x ∷ xs) a h =
         let p = none_parts (same_atom a x.0) x.1 (variable_in xs a) h in
-        in_cond (value_of values x.1) x.0 a (true_atoms values xs) ∙ skipped (value_of values x.1) (same_atom a x.0) _ p.0 (absent xs a p.1)
+        in_cond (value_of values x.1) x.0 a (true_atoms values xs)
+        ∙ skipped (value_of values x.1) (same_atom a x.0) _ p.0 (absent xs a p.1)
 
     first_here : (b s r : Bool) → s ≡ true → r ≡ false → b ≡ cond b (s || r) r
     first_here true s r p q = ap (λ x. x || r) (sym p)
@@ -70,9 +74,11 @@ module _ (atoms : AtomsAreSame) where
 
     has_value : (xs : List (Atom × ℕ)) → Distinct xs → Extends (holds_in (true_atoms values xs)) xs (value_of values)
     has_value [] d a n h = cc h
-    has_value (x ∷ xs) d a n h = by (same_atom a x.0) refl (has_value xs d.1 a n) ∙ sym (in_cond (value_of values x.1) x.0 a (true_atoms values xs))
+    has_value (x ∷ xs) d a n h = by (same_atom a x.0) refl (has_value xs d.1 a n)
+        ∙ sym (in_cond (value_of values x.1) x.0 a (true_atoms values xs))
       where
-        by : (t : Bool) → same_atom a x.0 ≡ t → (variable_in xs a ≡ Some n → value_of values n ≡ holds_in (true_atoms values xs) a)
+        by : (t : Bool) → same_atom a x.0 ≡ t
+            → (variable_in xs a ≡ Some n → value_of values n ≡ holds_in (true_atoms values xs) a)
             → value_of values n ≡ cond (value_of values x.1) (same_atom a x.0 || holds_in (true_atoms values xs) a) (holds_in (true_atoms values xs) a)
         by true e rest =
             let f : Some x.1 ≡ Some n = sym (ap (λ t. cond t (Some x.1) (variable_in xs a)) e) ∙ h in
@@ -83,5 +89,6 @@ module _ (atoms : AtomsAreSame) where
             let f : variable_in xs a ≡ Some n = sym (ap (λ t. cond t (Some x.1) (variable_in xs a)) e) ∙ h in
             later_on (value_of values x.1) (same_atom a x.0) _ _ e (rest f)
 
-  pub assigned : (ps : Trees) (values : List Bool) → Extends (holds_in (true_atoms values (atoms_of ps))) (atoms_of ps) (value_of values)
+  pub assigned : (ps : Trees) (values : List Bool)
+      → Extends (holds_in (true_atoms values (atoms_of ps))) (atoms_of ps) (value_of values)
   assigned ps values = has_value values (atoms_of ps) (distinct_after_all start ps tt)
