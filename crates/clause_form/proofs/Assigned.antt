@@ -1,7 +1,5 @@
 -- The atoms that are read back have the values of their variables.
-use Rattle.std.proofs.Common.{◌≡◌, ℕ, ◌+◌, Bool, true, false, List, [], ◌∷◌, ◌++◌, Option, Some, None, refl, sym, ◌∙◌, ap, cond, drop, slice_get, append_assoc, length, ◌<◌}
-use Rattle.std.proofs.lemmas.List.{drop_more}
-use Rattle.std.proofs.lemmas.Option.{get_or_from_slice_get}
+use Rattle.std.proofs.Common.{◌≡◌, ℕ, ◌+◌, Bool, true, false, List, [], ◌∷◌, ◌++◌, Option, Some, None, refl, sym, ◌∙◌, ap, cond}
 use Rattle.std.specs.Prelude.{◌||◌}
 use Rattle.cnf_base.specs.Formulas.{value_of}
 use Rattle.ground_terms.specs.declared.atom.Atom.{Atom}
@@ -28,13 +26,15 @@ module _ (atoms : AtomsAreSame) where
       by true e = let f : true ≡ false = sym (atoms.reflexive a) ∙ ap (same_atom a) (sym (atoms.same b a e)) ∙ h in cc f
       by false e = refl
 
-  distinct_more : (xs : List (Atom × ℕ)) (a : Atom) (k : ℕ) → Distinct xs → variable_in xs a ≡ None → Distinct (xs ++ (a, k) ∷ [])
+  distinct_more : (xs : List (Atom × ℕ)) (a : Atom) (k : ℕ) → Distinct xs → variable_in xs a ≡ None
+      → Distinct (xs ++ (a, k) ∷ [])
   distinct_more [] a k d h = (refl, tt)
   distinct_more (x ∷ xs) a k d h =
       let p = none_parts (same_atom a x.0) x.1 (variable_in xs a) h in
       (found_last xs a x.0 k d.0 ∙ not_there a x.0 k p.0, distinct_more xs a k d.1 p.1)
 
-  distinct_atom : (o : Option ℕ) (n : Numbers) (a : Atom) → variable_in n.atoms a ≡ o → Distinct n.atoms → Distinct (with_atom_by o n a).atoms
+  distinct_atom : (o : Option ℕ) (n : Numbers) (a : Atom) → variable_in n.atoms a ≡ o → Distinct n.atoms
+      → Distinct (with_atom_by o n a).atoms
   distinct_atom (Some v) n a e d = d
   distinct_atom None n a e d = distinct_more n.atoms a (n.variables + 1) d e
 
@@ -52,7 +52,8 @@ module _ (atoms : AtomsAreSame) where
     skipped true s r p q = cc
     skipped false s r p q = q
 
-    in_cond : (b : Bool) (x a : Atom) (xs : List Atom) → holds_in (cond b (x ∷ xs) xs) a ≡ cond b (same_atom a x || holds_in xs a) (holds_in xs a)
+    in_cond : (b : Bool) (x a : Atom) (xs : List Atom)
+        → holds_in (cond b (x ∷ xs) xs) a ≡ cond b (same_atom a x || holds_in xs a) (holds_in xs a)
     in_cond true x a xs = refl
     in_cond false x a xs = refl
 
@@ -60,7 +61,8 @@ module _ (atoms : AtomsAreSame) where
     absent [] a h = refl
     absent (x ∷ xs) a h =
         let p = none_parts (same_atom a x.0) x.1 (variable_in xs a) h in
-        in_cond (value_of values x.1) x.0 a (true_atoms values xs) ∙ skipped (value_of values x.1) (same_atom a x.0) _ p.0 (absent xs a p.1)
+        in_cond (value_of values x.1) x.0 a (true_atoms values xs)
+        ∙ skipped (value_of values x.1) (same_atom a x.0) _ p.0 (absent xs a p.1)
 
     first_here : (b s r : Bool) → s ≡ true → r ≡ false → b ≡ cond b (s || r) r
     first_here true s r p q = ap (λ x. x || r) (sym p)
@@ -72,9 +74,11 @@ module _ (atoms : AtomsAreSame) where
 
     has_value : (xs : List (Atom × ℕ)) → Distinct xs → Extends (holds_in (true_atoms values xs)) xs (value_of values)
     has_value [] d a n h = cc h
-    has_value (x ∷ xs) d a n h = by (same_atom a x.0) refl (has_value xs d.1 a n) ∙ sym (in_cond (value_of values x.1) x.0 a (true_atoms values xs))
+    has_value (x ∷ xs) d a n h = by (same_atom a x.0) refl (has_value xs d.1 a n)
+        ∙ sym (in_cond (value_of values x.1) x.0 a (true_atoms values xs))
       where
-        by : (t : Bool) → same_atom a x.0 ≡ t → (variable_in xs a ≡ Some n → value_of values n ≡ holds_in (true_atoms values xs) a)
+        by : (t : Bool) → same_atom a x.0 ≡ t
+            → (variable_in xs a ≡ Some n → value_of values n ≡ holds_in (true_atoms values xs) a)
             → value_of values n ≡ cond (value_of values x.1) (same_atom a x.0 || holds_in (true_atoms values xs) a) (holds_in (true_atoms values xs) a)
         by true e rest =
             let f : Some x.1 ≡ Some n = sym (ap (λ t. cond t (Some x.1) (variable_in xs a)) e) ∙ h in
@@ -85,23 +89,6 @@ module _ (atoms : AtomsAreSame) where
             let f : variable_in xs a ≡ Some n = sym (ap (λ t. cond t (Some x.1) (variable_in xs a)) e) ∙ h in
             later_on (value_of values x.1) (same_atom a x.0) _ _ e (rest f)
 
-  pub assigned : (ps : Trees) (values : List Bool) → Extends (holds_in (true_atoms values (atoms_of ps))) (atoms_of ps) (value_of values)
+  pub assigned : (ps : Trees) (values : List Bool)
+      → Extends (holds_in (true_atoms values (atoms_of ps))) (atoms_of ps) (value_of values)
   assigned ps values = has_value values (atoms_of ps) (distinct_after_all start ps tt)
-
-true_atoms-first : (values : List Bool) (e : Atom × ℕ) (es : List (Atom × ℕ)) → true_atoms values (e ∷ es) ≡ true_atoms values (e ∷ []) ++ true_atoms values es
-true_atoms-first values e es = by (value_of values e.1)
-  where
-    by : (b : Bool) → cond b (e.0 ∷ true_atoms values es) (true_atoms values es) ≡ cond b (e.0 ∷ []) [] ++ true_atoms values es
-    by true = refl
-    by false = refl
-
-true_atoms-drop : (values : List Bool) (es : List (Atom × ℕ)) (i : ℕ) (e : Atom × ℕ) → i < length es → slice_get es i ≡ Some e
-    → true_atoms values (drop i es) ≡ true_atoms values (e ∷ []) ++ true_atoms values (drop (i + 1) es)
-true_atoms-drop values es i e lt h =
-    ap (true_atoms values) (drop_more es i e lt ∙ ap (λ x. x ∷ drop (i + 1) es) (get_or_from_slice_get es i e e h)) ∙ true_atoms-first values e (drop (i + 1) es)
-
-pub take_step : (values : List Bool) (es : List (Atom × ℕ)) (i : ℕ) (e : Atom × ℕ) (old new : List Atom) → i < length es → slice_get es i ≡ Some e → new ≡ old ++ true_atoms values (e ∷ [])
-    → new ++ true_atoms values (drop (i + 1) es) ≡ old ++ true_atoms values (drop i es)
-take_step values es i e old new lt h n =
-    ap (λ x. x ++ true_atoms values (drop (i + 1) es)) n ∙ append_assoc old (true_atoms values (e ∷ [])) (true_atoms values (drop (i + 1) es))
-    ∙ ap (λ x. old ++ x) (sym (true_atoms-drop values es i e lt h))

@@ -78,16 +78,19 @@ pub few_places : (ps : Trees) → (clause_form ps).variables ≤ nodes_all ps
 few_places ps = let h = few_variables_all start ps in omega (arith, h)
 
 -- each variable is an atom's or a place's
-split_atom : (o : Option ℕ) (n : Numbers) (a : Atom) → (with_atom_by o n a).variables + length n.atoms ≡ n.variables + length (with_atom_by o n a).atoms
+split_atom : (o : Option ℕ) (n : Numbers) (a : Atom)
+    → (with_atom_by o n a).variables + length n.atoms ≡ n.variables + length (with_atom_by o n a).atoms
 split_atom (Some v) n a = refl
 split_atom None n a = let h = length-append n.atoms ((a, n.variables + 1) ∷ []) in omega (arith, h)
 
 mutual
-  split : (n : Numbers) (p : Tree) → (after n p).variables + length n.atoms ≡ n.variables + places p + length (after n p).atoms
+  split : (n : Numbers) (p : Tree)
+      → (after n p).variables + length n.atoms ≡ n.variables + places p + length (after n p).atoms
   split n (literal a positive) = let h = split_atom (variable_in n.atoms a) n a in omega (arith, h)
   split n (node j ps) = let h = split_all (with_place n) ps in omega (arith, h)
 
-  split_all : (n : Numbers) (ps : Trees) → (after_all n ps).variables + length n.atoms ≡ n.variables + places_all ps + length (after_all n ps).atoms
+  split_all : (n : Numbers) (ps : Trees)
+      → (after_all n ps).variables + length n.atoms ≡ n.variables + places_all ps + length (after_all n ps).atoms
   split_all n none = omega arith
   split_all n (part p ps) = let h = split n p in let r = split_all (after n p) ps in omega (arith, h, r)
 

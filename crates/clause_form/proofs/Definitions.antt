@@ -25,7 +25,8 @@ module _ (truth : EntriesAreTrue) (value : ℕ → Bool) where
   kept_truth (Clause ls) = and_nothing (any_lit value ls)
   kept_truth True = refl
 
-  implies_truth : (d : ℕ) (ls : List ℕ) → all_entries_true value (implies d ls) ≡ not (is_true value d) || any_lit value ls
+  implies_truth : (d : ℕ) (ls : List ℕ)
+      → all_entries_true value (implies d ls) ≡ not (is_true value d) || any_lit value ls
   implies_truth d ls =
       kept_truth (entry_of [] (opposite d ∷ ls)) ∙ made_true value truth (opposite d ∷ ls)
       ∙ ap (λ b. b || any_lit value ls) (truth.opposite_true value d)
@@ -38,7 +39,8 @@ module _ (truth : EntriesAreTrue) (value : ℕ → Bool) where
   or_true true = refl
   or_true false = refl
 
-  each_truth : (d : ℕ) (ls : List ℕ) → all_entries_true value (implies_each d ls) ≡ not (is_true value d) || all_lits value ls
+  each_truth : (d : ℕ) (ls : List ℕ)
+      → all_entries_true value (implies_each d ls) ≡ not (is_true value d) || all_lits value ls
   each_truth d [] = or_true (not (is_true value d))
   each_truth d (l ∷ ls) =
       all_entries_true-append value (implies d (l ∷ [])) (implies_each d ls)
@@ -46,6 +48,7 @@ module _ (truth : EntriesAreTrue) (value : ℕ → Bool) where
       ∙ ap (λ b. (not (is_true value d) || is_true value l) && b) (each_truth d ls)
       ∙ spread (not (is_true value d)) (is_true value l) (all_lits value ls)
 
-  pub definition_truth : (j : Junction) (d : ℕ) (ls : List ℕ) → all_entries_true value (definition j d ls) ≡ not (is_true value d) || joined j ls
+  pub definition_truth : (j : Junction) (d : ℕ) (ls : List ℕ)
+      → all_entries_true value (definition j d ls) ≡ not (is_true value d) || joined j ls
   definition_truth And d ls = each_truth d ls
   definition_truth Or d ls = implies_truth d ls

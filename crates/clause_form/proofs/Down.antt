@@ -41,7 +41,8 @@ module _ (atoms : AtomsAreSame) (entries : EntriesAreTrue) (v : Atom → Bool) (
         let c' = and_parts _ _ (sym (all_entries_true-append value (clauses_of_all (with_place n) ps) (definition j (place_lit n) (lits_of (with_place n) ps))) ∙ c) in
         down_node j (with_place n) ps e c'.0 (applied (is_true value (place_lit n)) _ t (sym (definition_truth entries value j (place_lit n) (lits_of (with_place n) ps)) ∙ c'.1))
 
-    down_node : (j : Junction) (n : Numbers) (ps : Trees) → Extends v (after_all n ps).atoms value → all_entries_true value (clauses_of_all n ps) ≡ true
+    down_node : (j : Junction) (n : Numbers) (ps : Trees) → Extends v (after_all n ps).atoms value
+        → all_entries_true value (clauses_of_all n ps) ≡ true
         → joined entries value j (lits_of n ps) ≡ true → truth v (node j ps) ≡ true
     down_node And n none e c t = refl
     down_node And n (part p ps) e c t =
@@ -56,12 +57,14 @@ module _ (atoms : AtomsAreSame) (entries : EntriesAreTrue) (v : Atom → Bool) (
           | inr h ↦ or_right (truth v p) (any_true v ps) (down_node Or (after n p) ps e c'.1 h)
         ]
 
-  formulas_down : (n : Numbers) (ps : Trees) → Extends v (after_all n ps).atoms value → all_entries_true value (formula_clauses n ps) ≡ true → all_true v ps ≡ true
+  formulas_down : (n : Numbers) (ps : Trees) → Extends v (after_all n ps).atoms value
+      → all_entries_true value (formula_clauses n ps) ≡ true → all_true v ps ≡ true
   formulas_down n none e c = refl
   formulas_down n (part p ps) e c =
       let c' = and_parts _ _ (sym (all_entries_true-append value (clauses_of n p) (Clause (lit_of n p ∷ []) ∷ formula_clauses (after n p) ps)) ∙ c) in
       let u = and_parts (any_lit value (lit_of n p ∷ [])) (all_entries_true value (formula_clauses (after n p) ps)) c'.1 in
       and_from (truth v p) (all_true v ps) (down n p (earlier (after n p) ps e) c'.0 (sym (or_nothing value (is_true value (lit_of n p))) ∙ u.0)) (formulas_down (after n p) ps e u.1)
 
-  pub satisfied_down : (ps : Trees) → Extends v (atoms_of ps) value → Satisfies value (clause_form ps) → all_true v ps ≡ true
+  pub satisfied_down : (ps : Trees) → Extends v (atoms_of ps) value → Satisfies value (clause_form ps)
+      → all_true v ps ≡ true
   satisfied_down ps e c = formulas_down start ps e (all_true_of value (clause_form ps) c)

@@ -43,16 +43,19 @@ flat_places : (qs : List Tree) → AreFlat qs → places_all (trees_of qs) ≤ l
 flat_places [] h = omega arith
 flat_places (q ∷ qs) h = let one = one_place q h.0 in let rest = flat_places qs h.1 in omega (arith, one, rest)
 
-clauses_behind : (n : Numbers) (ps qs : List Tree) → AreFlat qs → length (formula_clauses n (trees_of (ps ++ qs))) ≤ 2 * (nodes_all (trees_of ps) + length qs)
+clauses_behind : (n : Numbers) (ps qs : List Tree) → AreFlat qs
+    → length (formula_clauses n (trees_of (ps ++ qs))) ≤ 2 * (nodes_all (trees_of ps) + length qs)
 clauses_behind n [] qs h = let r = flat_clauses n qs h in omega (arith, r)
 clauses_behind n (p ∷ ps) qs h =
     let here = few n p in
     let rest = clauses_behind (after n p) ps qs h in
     omega (arith, here, rest, length-append (clauses_of n p) (Clause (lit_of n p ∷ []) ∷ formula_clauses (after n p) (trees_of (ps ++ qs))))
 
-pub few_clauses_behind : (ps qs : List Tree) → AreFlat qs → length (clause_form (trees_of (ps ++ qs))).clauses ≤ 2 * (nodes_all (trees_of ps) + length qs)
+pub few_clauses_behind : (ps qs : List Tree) → AreFlat qs
+    → length (clause_form (trees_of (ps ++ qs))).clauses ≤ 2 * (nodes_all (trees_of ps) + length qs)
 few_clauses_behind ps qs h = clauses_behind start ps qs h
 
-pub few_places_behind : (ps qs : List Tree) → AreFlat qs → places_all (trees_of (ps ++ qs)) ≤ places_all (trees_of ps) + length qs
+pub few_places_behind : (ps qs : List Tree) → AreFlat qs
+    → places_all (trees_of (ps ++ qs)) ≤ places_all (trees_of ps) + length qs
 few_places_behind [] qs h = let r = flat_places qs h in omega (arith, r)
 few_places_behind (p ∷ ps) qs h = let r = few_places_behind ps qs h in omega (arith, r)

@@ -10,7 +10,8 @@ use Rattle.clause_form.specs.Numbers.{Numbers, variable_in, with_place, with_ato
 abbrev pub Keeps : List (Atom × ℕ) → List (Atom × ℕ) → Type 0
 Keeps old new = (a : Atom) (k : ℕ) → variable_in old a ≡ Some k → variable_in new a ≡ Some k
 
-kept_one : (t : Bool) (k v : ℕ) (r s : Option ℕ) → (r ≡ Some k → s ≡ Some k) → cond t (Some v) r ≡ Some k → cond t (Some v) s ≡ Some k
+kept_one : (t : Bool) (k v : ℕ) (r s : Option ℕ) → (r ≡ Some k → s ≡ Some k) → cond t (Some v) r ≡ Some k
+    → cond t (Some v) s ≡ Some k
 kept_one true k v r s f h = h
 kept_one false k v r s f h = f h
 
@@ -36,15 +37,18 @@ later : (t : Bool) (v : ℕ) (r s o : Option ℕ) → (r ≡ None → s ≡ o) �
 later true v r s o f h = cc h
 later false v r s o f h = f h
 
-pub found_last : (xs : List (Atom × ℕ)) (a b : Atom) (k : ℕ) → variable_in xs b ≡ None → variable_in (xs ++ (a, k) ∷ []) b ≡ cond (same_atom b a) (Some k) None
+pub found_last : (xs : List (Atom × ℕ)) (a b : Atom) (k : ℕ) → variable_in xs b ≡ None
+    → variable_in (xs ++ (a, k) ∷ []) b ≡ cond (same_atom b a) (Some k) None
 found_last [] a b k h = refl
 found_last (x ∷ xs) a b k h =
     later (same_atom b x.0) x.1 (variable_in xs b) (variable_in (xs ++ (a, k) ∷ []) b) (cond (same_atom b a) (Some k) None) (found_last xs a b k) h
 
 -- an atom has its variable once it has stood
 module _ (atoms : AtomsAreSame) where
-  known_by : (o : Option ℕ) (n : Numbers) (a : Atom) → variable_in n.atoms a ≡ o → variable_in (with_atom_by o n a).atoms a ≡ Some (unwrap_or o (n.variables + 1))
-  known_by None n a e = found_last n.atoms a a (n.variables + 1) e ∙ ap (λ t. cond t (Some (n.variables + 1)) None) (atoms.reflexive a)
+  known_by : (o : Option ℕ) (n : Numbers) (a : Atom) → variable_in n.atoms a ≡ o
+      → variable_in (with_atom_by o n a).atoms a ≡ Some (unwrap_or o (n.variables + 1))
+  known_by None n a e = found_last n.atoms a a (n.variables + 1) e
+      ∙ ap (λ t. cond t (Some (n.variables + 1)) None) (atoms.reflexive a)
   known_by (Some v) n a e = e
 
   pub known : (n : Numbers) (a : Atom) → variable_in (with_atom n a).atoms a ≡ Some (atom_variable n a)

@@ -39,7 +39,8 @@ module _ (entries : EntriesAreIn) where
   each_in m d [] p r = tt
   each_in m d (l ∷ ls) p r = append_entries m (implies d (l ∷ [])) (implies_each d ls) (implies_in m d (l ∷ []) p (r.0, tt)) (each_in m d ls p r.1)
 
-  definition_in : (m d : ℕ) (j : Junction) (ls : List ℕ) → IsLiteral m d → AreLiterals m ls → AreEntries m (definition j d ls)
+  definition_in : (m d : ℕ) (j : Junction) (ls : List ℕ) → IsLiteral m d → AreLiterals m ls
+      → AreEntries m (definition j d ls)
   definition_in m d And ls p r = each_in m d ls p r
   definition_in m d Or ls p r = implies_in m d ls p r
 
@@ -47,7 +48,8 @@ module _ (entries : EntriesAreIn) where
 abbrev pub Numbered : Numbers → Type 0
 Numbered n = (a : Atom) (k : ℕ) → variable_in n.atoms a ≡ Some k → (0 < k) × (k ≤ n.variables)
 
-new_numbered : (n : Numbers) (a b : Atom) (k : ℕ) (o : Option ℕ) → Numbered n → variable_in n.atoms b ≡ o → variable_in (n.atoms ++ (a, n.variables + 1) ∷ []) b ≡ Some k
+new_numbered : (n : Numbers) (a b : Atom) (k : ℕ) (o : Option ℕ) → Numbered n → variable_in n.atoms b ≡ o
+    → variable_in (n.atoms ++ (a, n.variables + 1) ∷ []) b ≡ Some k
     → (0 < k) × (k ≤ n.variables + 1)
 new_numbered n a b k None f e h = by (same_atom b a) (sym (found_last n.atoms a b (n.variables + 1) e) ∙ h)
   where
@@ -100,7 +102,8 @@ lit_in n (node j ps) f = signed true _ (n.variables + 1) (omega arith) (rises_al
 wider : (l m : ℕ) (x : ℕ) → l ≤ m → IsLiteral l x → IsLiteral m x
 wider l m x h p = (p.0, omega (arith, h, p.1))
 
-lits_in : (m : ℕ) (n : Numbers) (ps : Trees) → Numbered n → (after_all n ps).variables ≤ m → AreLiterals m (lits_of n ps)
+lits_in : (m : ℕ) (n : Numbers) (ps : Trees) → Numbered n → (after_all n ps).variables ≤ m
+    → AreLiterals m (lits_of n ps)
 lits_in m n none f h = tt
 lits_in m n (part p ps) f h =
     let r = rises_all (after n p) ps in
@@ -108,7 +111,8 @@ lits_in m n (part p ps) f h =
 
 module _ (entries : EntriesAreIn) where
   mutual
-    clauses_in : (m : ℕ) (n : Numbers) (p : Tree) → Numbered n → (after n p).variables ≤ m → AreEntries m (clauses_of n p)
+    clauses_in : (m : ℕ) (n : Numbers) (p : Tree) → Numbered n → (after n p).variables ≤ m
+        → AreEntries m (clauses_of n p)
     clauses_in m n (literal a positive) f h = tt
     clauses_in m n (node j ps) f h =
         let r = rises_all (with_place n) ps in
@@ -116,13 +120,15 @@ module _ (entries : EntriesAreIn) where
         (clauses_in_all m (with_place n) ps (numbered_place n f) h)
         (definition_in entries m (place_lit n) j (lits_of (with_place n) ps) (signed true m (n.variables + 1) (omega arith) (omega (arith, h, r))) (lits_in m (with_place n) ps (numbered_place n f) h))
 
-    clauses_in_all : (m : ℕ) (n : Numbers) (ps : Trees) → Numbered n → (after_all n ps).variables ≤ m → AreEntries m (clauses_of_all n ps)
+    clauses_in_all : (m : ℕ) (n : Numbers) (ps : Trees) → Numbered n → (after_all n ps).variables ≤ m
+        → AreEntries m (clauses_of_all n ps)
     clauses_in_all m n none f h = tt
     clauses_in_all m n (part p ps) f h =
         let r = rises_all (after n p) ps in
         append_entries m (clauses_of n p) (clauses_of_all (after n p) ps) (clauses_in m n p f (omega (arith, h, r))) (clauses_in_all m (after n p) ps (numbered_after n p f) h)
 
-  formulas_in : (m : ℕ) (n : Numbers) (ps : Trees) → Numbered n → (after_all n ps).variables ≤ m → AreEntries m (formula_clauses n ps)
+  formulas_in : (m : ℕ) (n : Numbers) (ps : Trees) → Numbered n → (after_all n ps).variables ≤ m
+      → AreEntries m (formula_clauses n ps)
   formulas_in m n none f h = tt
   formulas_in m n (part p ps) f h =
       let r = rises_all (after n p) ps in

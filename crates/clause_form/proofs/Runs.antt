@@ -40,7 +40,8 @@ drop_all (x ∷ xs) ys = drop_all xs ys
 differ : (m n k : ℕ) → m + (k + 1) ≡ n → (m == n) ≡ false
 differ m n k e = ne_eqb m n (λ z. absurd (omega arith))
 
-stays_open : (n : Numbers) (f : Frame) (fs : List Frame) (ls : List ℕ) (es : List Entry) (k : ℕ) → length (drop f.start ls) + (k + 1) ≡ f.parts
+stays_open : (n : Numbers) (f : Frame) (fs : List Frame) (ls : List ℕ) (es : List Entry) (k : ℕ)
+    → length (drop f.start ls) + (k + 1) ≡ f.parts
     → settle (state n (f ∷ fs) ls es) ≡ state n (f ∷ fs) ls es
 stays_open n f fs ls es k e =
     ap (λ b. cond b (settle_nodes n fs (take f.start ls) (es ++ definition f.junction f.own (drop f.start ls))) (state n (f ∷ fs) ls es))
@@ -49,7 +50,8 @@ stays_open n f fs ls es k e =
 one_more : (k : ℕ) (ls : List ℕ) (l : ℕ) → k ≤ length ls → length (drop k (ls ++ l ∷ [])) ≡ length (drop k ls) + 1
 one_more k ls l h = ap length (drop-append-le k ls (l ∷ []) h) ∙ length-append (drop k ls) (l ∷ [])
 
-node_ends : (n m : Numbers) (j : Junction) (fs : List Frame) (ls parts : List ℕ) (es : List Entry) (k : ℕ) → length parts ≡ k
+node_ends : (n m : Numbers) (j : Junction) (fs : List Frame) (ls parts : List ℕ) (es : List Entry) (k : ℕ)
+    → length parts ≡ k
     → settle (state m (frame j n k ls ∷ fs) ((ls ++ place_lit n ∷ []) ++ parts) es)
     ≡ settle (state m fs (ls ++ place_lit n ∷ []) (es ++ definition j (place_lit n) parts))
 node_ends n m j fs ls parts es k full =
@@ -67,7 +69,8 @@ none_yet : (ls : List ℕ) (l : ℕ) → length (drop (length ls + 1) (ls ++ l �
 none_yet ls l = length-drop (length ls + 1) (ls ++ l ∷ []) ∙ (let h = length-append ls (l ∷ []) in omega (arith, h))
 
 mutual
-  pub formula_runs : (p : Tree) (n : Numbers) (fs : List Frame) (ls : List ℕ) (es : List Entry) → settle (state n fs ls es) ≡ state n fs ls es
+  pub formula_runs : (p : Tree) (n : Numbers) (fs : List Frame) (ls : List ℕ) (es : List Entry)
+      → settle (state n fs ls es) ≡ state n fs ls es
       → settle (run (state n fs ls es) (calls_of p)) ≡ settle (behind n fs ls es p)
   formula_runs (literal a positive) n fs ls es e =
       ap (λ s. settle (act s (a_literal a positive))) e ∙ ap (λ x. settle (state (after n (literal a positive)) fs (ls ++ lit_of n (literal a positive) ∷ []) x)) (sym (append-nil es))
@@ -81,8 +84,10 @@ mutual
       ∙ ap (λ x. settle (state (after_all (with_place n) ps) fs (ls ++ place_lit n ∷ []) x))
       (append_assoc es (clauses_of_all (with_place n) ps) (definition j (place_lit n) (lits_of (with_place n) ps)))
 
-  pub parts_run : (ps : Trees) (n : Numbers) (f : Frame) (fs : List Frame) (ls : List ℕ) (es : List Entry) → f.start ≤ length ls
-      → length (drop f.start ls) + count ps ≡ f.parts → settle (run (state n (f ∷ fs) ls es) (calls_of_all ps)) ≡ settle (all_parts n f fs ls es ps)
+  pub parts_run : (ps : Trees) (n : Numbers) (f : Frame) (fs : List Frame) (ls : List ℕ) (es : List Entry)
+      → f.start ≤ length ls
+      → length (drop f.start ls) + count ps ≡ f.parts
+      → settle (run (state n (f ∷ fs) ls es) (calls_of_all ps)) ≡ settle (all_parts n f fs ls es ps)
   parts_run none n f fs ls es b e =
       let l = sym (append-nil ls) in
       let c = sym (append-nil es) in
@@ -97,7 +102,8 @@ mutual
       ∙ (λ i. settle (state (after_all (after n p) ps) (f ∷ fs) (append_assoc ls (lit_of n p ∷ []) (lits_of (after n p) ps) i)
       (append_assoc es (clauses_of n p) (clauses_of_all (after n p) ps) i)))
 
-formulas_run : (ps : Trees) (n : Numbers) (es : List Entry) → settle (run (state n [] [] es) (calls_of_all ps)) ≡ state (after_all n ps) [] [] (es ++ formula_clauses n ps)
+formulas_run : (ps : Trees) (n : Numbers) (es : List Entry)
+    → settle (run (state n [] [] es) (calls_of_all ps)) ≡ state (after_all n ps) [] [] (es ++ formula_clauses n ps)
 formulas_run none n es = ap (state n [] []) (sym (append-nil es))
 formulas_run (part p ps) n es =
     let unit : List Entry = Clause (lit_of n p ∷ []) ∷ [] in
@@ -108,5 +114,6 @@ formulas_run (part p ps) n es =
     ∙ formulas_run ps (after n p) ((es ++ clauses_of n p) ++ unit)
     ∙ ap (state (after_all (after n p) ps) [] []) (append_assoc (es ++ clauses_of n p) unit (formula_clauses (after n p) ps) ∙ append_assoc es (clauses_of n p) (unit ++ formula_clauses (after n p) ps))
 
-pub whole_run : (ps : Trees) → settle (run at_start (calls_of_all ps)) ≡ state (after_all start ps) [] [] (formula_clauses start ps)
+pub whole_run : (ps : Trees)
+    → settle (run at_start (calls_of_all ps)) ≡ state (after_all start ps) [] [] (formula_clauses start ps)
 whole_run ps = formulas_run ps start []

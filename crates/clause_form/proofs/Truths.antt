@@ -11,7 +11,8 @@ use Rattle.cnf_base.specs.Formulas.{Formula, Satisfies}
 use Rattle.clause_form.proofs.Below.{EntriesAreTrue}
 
 -- a literal of a variable is true where the variable has its sign
-pub literal_truth : (value : ℕ → Bool) (positive : Bool) (v : ℕ) → is_true value (literal_of positive v) ≡ cond positive (value v) (not (value v))
+pub literal_truth : (value : ℕ → Bool) (positive : Bool) (v : ℕ)
+    → is_true value (literal_of positive v) ≡ cond positive (value v) (not (value v))
 unfolding is_true
 literal_truth value true v =
     let s : is_positive (2 * v) ≡ true = eq-eqb _ 0 (omega arith) in
@@ -43,9 +44,11 @@ module _ (value : ℕ → Bool) where
   and_assoc true b c = refl
   and_assoc false b c = refl
 
-  pub all_entries_true-append : (xs ys : List Entry) → all_entries_true (xs ++ ys) ≡ (all_entries_true xs && all_entries_true ys)
+  pub all_entries_true-append : (xs ys : List Entry)
+      → all_entries_true (xs ++ ys) ≡ (all_entries_true xs && all_entries_true ys)
   all_entries_true-append [] ys = refl
-  all_entries_true-append (x ∷ xs) ys = ap (λ b. entry_true x && b) (all_entries_true-append xs ys) ∙ and_assoc (entry_true x) (all_entries_true xs) (all_entries_true ys)
+  all_entries_true-append (x ∷ xs) ys = ap (λ b. entry_true x && b) (all_entries_true-append xs ys)
+      ∙ and_assoc (entry_true x) (all_entries_true xs) (all_entries_true ys)
 
   pub or_nothing : (a : Bool) → (a || false) ≡ a
   or_nothing true = refl
@@ -56,7 +59,8 @@ module _ (value : ℕ → Bool) where
   any_of_clause [] l m t = cc m
   any_of_clause (x ∷ ls) l m t = by (eqb l x) refl m (any_of_clause ls l)
     where
-      by : (b : Bool) → eqb l x ≡ b → (b || member l ls) ≡ true → (member l ls ≡ true → is_true value l ≡ true → any_lit ls ≡ true) → (is_true value x || any_lit ls) ≡ true
+      by : (b : Bool) → eqb l x ≡ b → (b || member l ls) ≡ true
+          → (member l ls ≡ true → is_true value l ≡ true → any_lit ls ≡ true) → (is_true value x || any_lit ls) ≡ true
       by true e m r = or_left (is_true value x) (any_lit ls) (ap (is_true value) (sym (eqb-true l x e)) ∙ t)
       by false e m r = or_right (is_true value x) (any_lit ls) (r m t)
 
@@ -64,7 +68,8 @@ module _ (value : ℕ → Bool) where
   clause_of_any [] h = cc h
   clause_of_any (x ∷ ls) h = by (is_true value x) refl h (clause_of_any ls)
     where
-      by : (b : Bool) → is_true value x ≡ b → (b || any_lit ls) ≡ true → (any_lit ls ≡ true → SatisfiesClause value ls) → SatisfiesClause value (x ∷ ls)
+      by : (b : Bool) → is_true value x ≡ b → (b || any_lit ls) ≡ true
+          → (any_lit ls ≡ true → SatisfiesClause value ls) → SatisfiesClause value (x ∷ ls)
       by true e h r = (x, or_left (eqb x x) (member x ls) (eq-eqb x x refl), e)
       by false e h r = let s = r h in (s.0, or_right (eqb s.0 x) (member s.0 ls) s.1, s.2)
 
@@ -76,7 +81,8 @@ module _ (value : ℕ → Bool) where
   entry_satisfies (Clause ls) h = clause_of_any ls h
   entry_satisfies True h = tt
 
-  each_true : (es : List Entry) → ((k : ℕ) (e : Entry) → slice_get es k ≡ Some e → SatisfiesEntry value e) → all_entries_true es ≡ true
+  each_true : (es : List Entry) → ((k : ℕ) (e : Entry) → slice_get es k ≡ Some e → SatisfiesEntry value e)
+      → all_entries_true es ≡ true
   each_true [] f = refl
   each_true (e ∷ es) f = and_from _ _ (entry_is_true e (f 0 e refl)) (each_true es (λ k x h. f (suc k) x h))
 
@@ -86,7 +92,8 @@ module _ (value : ℕ → Bool) where
   some_same : {A : Type 0} (x y : A) → Some x ≡ Some y → x ≡ y
   some_same x y h = cc h
 
-  each_satisfied : (es : List Entry) → all_entries_true es ≡ true → (k : ℕ) (e : Entry) → slice_get es k ≡ Some e → SatisfiesEntry value e
+  each_satisfied : (es : List Entry) → all_entries_true es ≡ true → (k : ℕ) (e : Entry) → slice_get es k ≡ Some e
+      → SatisfiesEntry value e
   each_satisfied [] h k e g = cc g
   each_satisfied (x ∷ es) h zero e g =
       entry_satisfies e (ap entry_true (sym (some_same x e g)) ∙ (and_parts (entry_true x) (all_entries_true es) h).0)

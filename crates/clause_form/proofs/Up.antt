@@ -54,14 +54,16 @@ module _ (same_atoms : AtomsAreSame) (entries : EntriesAreTrue) (v : Atom → Bo
     atoms = λ rest a k h. subst (λ w. value_of w k ≡ v a) (sym (append_assoc before (t ∷ []) rest)) (f.atoms (t ∷ rest) a k h);
   }
 
-  last_atom : (before rest : List Bool) (a b : Atom) (n k : ℕ) (t : Bool) → same_atom b a ≡ t → length before ≡ n → cond t (Some (n + 1)) None ≡ Some k
+  last_atom : (before rest : List Bool) (a b : Atom) (n k : ℕ) (t : Bool) → same_atom b a ≡ t → length before ≡ n
+      → cond t (Some (n + 1)) None ≡ Some k
       → value_of (before ++ v a ∷ rest) k ≡ v b
   last_atom before rest a b n k true s e h =
       let i : n + 1 ≡ k = cc h in
       ap (value_of (before ++ v a ∷ rest)) (sym i) ∙ at_end before rest (v a) n e ∙ ap v (sym (same_atoms.same b a s))
   last_atom before rest a b n k false s e h = cc h
 
-  new_atom : (n : Numbers) (before rest : List Bool) (a b : Atom) (k : ℕ) (o : Option ℕ) → Fits n before → variable_in n.atoms b ≡ o
+  new_atom : (n : Numbers) (before rest : List Bool) (a b : Atom) (k : ℕ) (o : Option ℕ) → Fits n before
+      → variable_in n.atoms b ≡ o
       → variable_in (n.atoms ++ (a, n.variables + 1) ∷ []) b ≡ Some k → value_of (before ++ v a ∷ rest) k ≡ v b
   new_atom n before rest a b k None f e h =
       last_atom before rest a b n.variables k (same_atom b a) refl f.len (sym (found_last n.atoms a b (n.variables + 1) e) ∙ h)
@@ -70,7 +72,8 @@ module _ (same_atoms : AtomsAreSame) (entries : EntriesAreTrue) (v : Atom → Bo
       let i : m ≡ k = cc s in
       ap (value_of (before ++ v a ∷ rest)) (sym i) ∙ f.atoms (v a ∷ rest) b m e
 
-  fits_atom : (o : Option ℕ) (n : Numbers) (before : List Bool) (a : Atom) → Fits n before → Fits (with_atom_by o n a) (before ++ more_atom o a)
+  fits_atom : (o : Option ℕ) (n : Numbers) (before : List Bool) (a : Atom) → Fits n before
+      → Fits (with_atom_by o n a) (before ++ more_atom o a)
   fits_atom (Some k) n before a f = subst (Fits n) (sym (append-nil before)) f
   fits_atom None n before a f = record {
     len = plus_one before (v a) n.variables f.len;
@@ -84,7 +87,8 @@ module _ (same_atoms : AtomsAreSame) (entries : EntriesAreTrue) (v : Atom → Bo
         subst (Fits (after_all (with_place n) ps)) (append_assoc before (truth v (node j ps) ∷ []) (more_all (with_place n) ps))
         (fits_after_all (with_place n) ps (before ++ truth v (node j ps) ∷ []) (fits_place n before (truth v (node j ps)) f))
 
-    fits_after_all : (n : Numbers) (ps : Trees) (before : List Bool) → Fits n before → Fits (after_all n ps) (before ++ more_all n ps)
+    fits_after_all : (n : Numbers) (ps : Trees) (before : List Bool) → Fits n before
+        → Fits (after_all n ps) (before ++ more_all n ps)
     fits_after_all n none before f = subst (Fits n) (sym (append-nil before)) f
     fits_after_all n (part p ps) before f =
         subst (Fits (after_all (after n p) ps)) (append_assoc before (more n p) (more_all (after n p) ps))
@@ -107,12 +111,14 @@ module _ (same_atoms : AtomsAreSame) (entries : EntriesAreTrue) (v : Atom → Bo
     any : any_lit (value_of w) (lits_of n ps) ≡ any_true v ps
     clauses : all_entries_true (value_of w) (clauses_of_all n ps) ≡ true
 
-  joins : (j : Junction) (n : Numbers) (ps : Trees) (w : List Bool) → GoodAll n ps w → joined entries (value_of w) j (lits_of n ps) ≡ truth v (node j ps)
+  joins : (j : Junction) (n : Numbers) (ps : Trees) (w : List Bool) → GoodAll n ps w
+      → joined entries (value_of w) j (lits_of n ps) ≡ truth v (node j ps)
   joins And n ps w g = g.all
   joins Or n ps w g = g.any
 
   mutual
-    good : (n : Numbers) (p : Tree) (before rest w : List Bool) → Fits n before → w ≡ (before ++ more n p) ++ rest → Good n p w
+    good : (n : Numbers) (p : Tree) (before rest w : List Bool) → Fits n before → w ≡ (before ++ more n p) ++ rest
+        → Good n p w
     good n (literal a positive) before rest w f e = record {
       lit = literal_value same_atoms entries v (value_of w) n a positive (subst (λ x. Extends v (after n (literal a positive)).atoms (value_of x)) (sym e) ((fits_after n (literal a positive) before f).atoms rest));
       clauses = refl;
@@ -123,7 +129,8 @@ module _ (same_atoms : AtomsAreSame) (entries : EntriesAreTrue) (v : Atom → Bo
         e ∙ ap (λ x. x ++ rest) (sym (append_assoc before (t ∷ []) (more_all (with_place n) ps))) in
         let g = good_all (with_place n) ps (before ++ t ∷ []) rest w (fits_place n before t f) e' in
         let here : value_of w (n.variables + 1) ≡ t =
-        ap (λ x. value_of x (n.variables + 1)) (e ∙ append_assoc before (t ∷ more_all (with_place n) ps) rest) ∙ at_end before (more_all (with_place n) ps ++ rest) t n.variables f.len in
+        ap (λ x. value_of x (n.variables + 1)) (e ∙ append_assoc before (t ∷ more_all (with_place n) ps) rest)
+        ∙ at_end before (more_all (with_place n) ps ++ rest) t n.variables f.len in
         let own : is_true (value_of w) (place_lit n) ≡ t = literal_truth (value_of w) true (n.variables + 1) ∙ here in
         record {
           lit = own;
@@ -131,28 +138,33 @@ module _ (same_atoms : AtomsAreSame) (entries : EntriesAreTrue) (v : Atom → Bo
               ∙ and_from _ _ g.clauses (definition_truth entries (value_of w) j (place_lit n) (lits_of (with_place n) ps) ∙ same_or _ _ (own ∙ sym (joins j (with_place n) ps w g)));
         }
 
-    good_all : (n : Numbers) (ps : Trees) (before rest w : List Bool) → Fits n before → w ≡ (before ++ more_all n ps) ++ rest → GoodAll n ps w
+    good_all : (n : Numbers) (ps : Trees) (before rest w : List Bool) → Fits n before
+        → w ≡ (before ++ more_all n ps) ++ rest → GoodAll n ps w
     good_all n none before rest w f e = record { all = refl; any = refl; clauses = refl }
     good_all n (part p ps) before rest w f e =
         let e2 : w ≡ ((before ++ more n p) ++ more_all (after n p) ps) ++ rest =
         e ∙ ap (λ x. x ++ rest) (sym (append_assoc before (more n p) (more_all (after n p) ps))) in
-        let e1 : w ≡ (before ++ more n p) ++ (more_all (after n p) ps ++ rest) = e2 ∙ append_assoc (before ++ more n p) (more_all (after n p) ps) rest in
+        let e1 : w ≡ (before ++ more n p) ++ (more_all (after n p) ps ++ rest) = e2
+        ∙ append_assoc (before ++ more n p) (more_all (after n p) ps) rest in
         let g = good n p before (more_all (after n p) ps ++ rest) w f e1 in
         let gs = good_all (after n p) ps (before ++ more n p) rest w (fits_after n p before f) e2 in
         record {
           all = λ i. g.lit i && gs.all i;
           any = λ i. g.lit i || gs.any i;
-          clauses = all_entries_true-append (value_of w) (clauses_of n p) (clauses_of_all (after n p) ps) ∙ and_from _ _ g.clauses gs.clauses;
+          clauses = all_entries_true-append (value_of w) (clauses_of n p) (clauses_of_all (after n p) ps)
+              ∙ and_from _ _ g.clauses gs.clauses;
         }
 
-  formulas_good : (n : Numbers) (ps : Trees) (before rest w : List Bool) → Fits n before → w ≡ (before ++ more_all n ps) ++ rest → all_true v ps ≡ true
+  formulas_good : (n : Numbers) (ps : Trees) (before rest w : List Bool) → Fits n before
+      → w ≡ (before ++ more_all n ps) ++ rest → all_true v ps ≡ true
       → all_entries_true (value_of w) (formula_clauses n ps) ≡ true
   formulas_good n none before rest w f e h = refl
   formulas_good n (part p ps) before rest w f e h =
       let h' = and_parts (truth v p) (all_true v ps) h in
       let e2 : w ≡ ((before ++ more n p) ++ more_all (after n p) ps) ++ rest =
       e ∙ ap (λ x. x ++ rest) (sym (append_assoc before (more n p) (more_all (after n p) ps))) in
-      let e1 : w ≡ (before ++ more n p) ++ (more_all (after n p) ps ++ rest) = e2 ∙ append_assoc (before ++ more n p) (more_all (after n p) ps) rest in
+      let e1 : w ≡ (before ++ more n p) ++ (more_all (after n p) ps ++ rest) = e2
+      ∙ append_assoc (before ++ more n p) (more_all (after n p) ps) rest in
       let g = good n p before (more_all (after n p) ps ++ rest) w f e1 in
       all_entries_true-append (value_of w) (clauses_of n p) (Clause (lit_of n p ∷ []) ∷ formula_clauses (after n p) ps)
       ∙ and_from _ _ g.clauses (and_from _ _ (or_nothing (value_of w) (is_true (value_of w) (lit_of n p)) ∙ g.lit ∙ h'.0)

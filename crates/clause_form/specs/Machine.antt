@@ -24,7 +24,8 @@ abbrev pub settle_nodes : Numbers → List Frame → List ℕ → List Entry →
 settle_nodes n [] [] es = state n [] [] es
 settle_nodes n [] (l ∷ ls) es = state n [] [] (es ++ Clause (l ∷ []) ∷ [])
 settle_nodes n (f ∷ fs) ls es =
-    if length (drop f.start ls) == f.parts then settle_nodes n fs (take f.start ls) (es ++ definition f.junction f.own (drop f.start ls))
+    if length (drop f.start ls) == f.parts
+    then settle_nodes n fs (take f.start ls) (es ++ definition f.junction f.own (drop f.start ls))
     else state n (f ∷ fs) ls es
 
 abbrev pub settle : State → State
@@ -35,8 +36,11 @@ abbrev pub frame : Junction → Numbers → ℕ → List ℕ → Frame
 frame j n parts ls = record { junction = j; own = place_lit n; parts = parts; start = length ls + 1 }
 
 abbrev pub act : State → Call → State
-act s (a_literal a positive) = state (with_atom s.numbers a) s.nodes (s.lits ++ atom_lit s.numbers a positive ∷ []) s.clauses
-act s (a_node j parts) = state (with_place s.numbers) (frame j s.numbers parts s.lits ∷ s.nodes) (s.lits ++ place_lit s.numbers ∷ []) s.clauses
+act s (a_literal a positive) =
+    state (with_atom s.numbers a) s.nodes (s.lits ++ atom_lit s.numbers a positive ∷ []) s.clauses
+act s (a_node j parts) =
+    state (with_place s.numbers) (frame j s.numbers parts s.lits ∷ s.nodes)
+    (s.lits ++ place_lit s.numbers ∷ []) s.clauses
 
 abbrev pub step : State → Call → State
 step s call = act (settle s) call

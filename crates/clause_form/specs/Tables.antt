@@ -18,5 +18,6 @@ IsNumbered s a = FitsAtom (symbols s.signature) s.counts a × (atom_count (symbo
 
 -- each atom that has a number has its variable there in the row, and 0 where it has none
 pub record FindsEach (s : AtomSpace) (row : List ℕ) (atoms : List (Atom × ℕ)) : Type 0 where
-  pub found : (a : Atom) → IsNumbered s a → slice_index row (atom_number (symbols s.signature) s.counts a) ≡ unwrap_or (variable_in atoms a) 0
+  pub found : (a : Atom) → IsNumbered s a
+      → slice_index row (atom_number (symbols s.signature) s.counts a) ≡ unwrap_or (variable_in atoms a) 0
   pub given : (a : Atom) (n : ℕ) → variable_in atoms a ≡ Some n → (0 < n) × (n < 2 ^ 31)

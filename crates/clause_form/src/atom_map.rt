@@ -31,12 +31,6 @@ impl AtomMap {
         AtomMap { atoms }
     }
 
-    pub fn as_slice(&self) -> &[(Atom, u32)]
-        ensures { result.now ≡ self.now }
-    {
-        &self.atoms
-    }
-
     /// The atoms that values of the variables make true. A variable without a value is false.
     pub fn assign(&self, alloc: Global, values: &Values) -> Mem<Assignment>
         ensures { IfOk result (λ assignment. assignment ≡ true_atoms values.now self.now) }

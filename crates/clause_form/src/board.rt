@@ -1,5 +1,5 @@
-// What is written of the clauses, and what is open. A node is ended when the next call comes, and not with its last part:
-// so a call that is refused for want of memory while it ends nodes leaves what stands for the same calls.
+// What is written of the clauses, and what is open. A node is ended when the next call comes, and not with its last
+// part: so a call that is refused for want of memory while it ends nodes leaves what stands for the same calls.
 ghost use Rattle.std.specs.Prelude.{◌≡◌, ◌<◌, ◌≤◌, ◌^◌, List, [], ◌∷◌, ◌++◌, take, drop, length, true, false, Some, None, Ok, OnOk, OnErr, IfOk};
 ghost use Rattle.ground_terms.specs.Calls.{a_literal, a_node};
 ghost use Rattle.clause_form.specs.Numbers.{variable_in};
@@ -167,7 +167,8 @@ impl Board {
     pub fn literal(&mut self, atom: Atom, positive: bool) -> Mem<bool>
         requires { self.old.variables ≤ LIMIT }
         ensures taken { result ≡ Ok true → state_of self.new ≡ act (state_of self.old) (a_literal atom positive) }
-        ensures left { IfOk result (λ taken. taken ≡ false → (variable_in self.old.atoms atom ≡ None) × (self.old.variables ≡ LIMIT)) }
+        ensures left { IfOk result (λ taken. taken ≡ false
+            → (variable_in self.old.atoms atom ≡ None) × (self.old.variables ≡ LIMIT)) }
         ensures kept { OnErr result (state_of self.new ≡ state_of self.old) }
         ensures limit { self.new.variables ≤ LIMIT }
     {

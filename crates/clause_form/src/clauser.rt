@@ -29,8 +29,8 @@ pub struct Clauser {
 impl Clauser {
     ghost use Rattle.clause_form.specs.Stands.{Stands};
 
-    /// `counts` says how many terms each sort has. The atoms of this signature over so many terms are found fastest; any
-    /// others are taken too.
+    /// `counts` says how many terms each sort has. The atoms of this signature over so many terms are found fastest;
+    /// any others are taken too.
     pub fn new(alloc: Global, signature: &Signature, counts: &[u32]) -> Mem<Clauser>
         requires { length counts.now ≡ signature.now.sorts }
         ensures { IfOk result (λ clauser. Stands clauser []) }
@@ -48,7 +48,8 @@ impl Clauser {
     }
 
     fn node(&mut self, junction: Junction, parts: u64) -> Mem<()>
-        ensures taken { OnOk result ((calls : List Call) → Stands self.old calls → Stands self.new (calls ++ a_node junction parts ∷ [])) }
+        ensures taken { OnOk result ((calls : List Call) → Stands self.old calls
+            → Stands self.new (calls ++ a_node junction parts ∷ [])) }
         ensures refused { OnErr result ((calls : List Call) → Stands self.old calls → Stands self.new calls) }
     {
         if self.full {
@@ -113,7 +114,8 @@ pub fn clauses(
 ) -> Mem<(Cnf, AtomMap)>
     requires counted { length counts.now ≡ signature.now.sorts }
     requires few { (clause_form (trees formulas.now)).variables ≤ LIMIT }
-    ensures { IfOk result (λ made. (made.0 ≡ clause_form (trees formulas.now)) × (made.1 ≡ atoms_of (trees formulas.now))) }
+    ensures { IfOk result (λ made. (made.0 ≡ clause_form (trees formulas.now))
+        × (made.1 ≡ atoms_of (trees formulas.now))) }
 {
     let mut clauser = Clauser::new(alloc, signature, counts)?;
     feed_all(&mut clauser, formulas)?;

@@ -11,25 +11,31 @@ ghost use Rattle.clause_form.specs.Meaning.{Extends, ExtendsToModel, atoms_of, t
 use cnf_base::{entry_laws, opposite_laws};
 use ground_terms::atom_laws;
 
-/// An assignment of the atoms satisfies the formulas exactly where it extends to values that satisfy the clauses, and of
-/// any values the true atoms are such an assignment.
+/// An assignment of the atoms satisfies the formulas exactly where it extends to values that satisfy the clauses, and
+/// of any values the true atoms are such an assignment.
 pub fn clause_laws()
-    ensures up { (ps : Trees) (v : Atom → Bool) → all_true v ps ≡ true → ExtendsToModel v (atoms_of ps) (clause_form ps) }
-    ensures down { (ps : Trees) (v : Atom → Bool) (value : ℕ → Bool) → Extends v (atoms_of ps) value → Satisfies value (clause_form ps) → all_true v ps ≡ true }
-    ensures extends { (ps : Trees) (values : List Bool) → Extends (holds_in (true_atoms values (atoms_of ps))) (atoms_of ps) (value_of values) }
-    ensures assigned { (ps : Trees) (values : List Bool) → Satisfies (value_of values) (clause_form ps) → all_true (holds_in (true_atoms values (atoms_of ps))) ps ≡ true }
+    ensures up { (ps : Trees) (v : Atom → Bool) → all_true v ps ≡ true
+        → ExtendsToModel v (atoms_of ps) (clause_form ps) }
+    ensures down { (ps : Trees) (v : Atom → Bool) (value : ℕ → Bool) → Extends v (atoms_of ps) value
+        → Satisfies value (clause_form ps) → all_true v ps ≡ true }
+    ensures extends { (ps : Trees) (values : List Bool)
+        → Extends (holds_in (true_atoms values (atoms_of ps))) (atoms_of ps) (value_of values) }
+    ensures assigned { (ps : Trees) (values : List Bool) → Satisfies (value_of values) (clause_form ps)
+        → all_true (holds_in (true_atoms values (atoms_of ps))) ps ≡ true }
 {
     atom_laws();
     opposite_laws();
     entry_laws();
 }
 
-/// There are at most two clauses and one variable for each node, and a variable is an atom's or that of an And or an Or.
-/// Behind other formulas, formulas that are clauses already have at most two clauses each, and one place.
+/// There are at most two clauses and one variable for each node, and a variable is an atom's or that of an And or an
+/// Or. Behind other formulas, formulas that are clauses already have at most two clauses each, and one place.
 pub fn size_laws()
     ensures clauses { (ps : Trees) → length (clause_form ps).clauses ≤ 2 * nodes_all ps }
     ensures variables { (ps : Trees) → (clause_form ps).variables ≤ nodes_all ps }
     ensures each { (ps : Trees) → (clause_form ps).variables ≡ places_all ps + length (atoms_of ps) }
-    ensures clauses_behind { (ps qs : List Tree) → AreFlat qs → length (clause_form (trees_of (ps ++ qs))).clauses ≤ 2 * (nodes_all (trees_of ps) + length qs) }
-    ensures places_behind { (ps qs : List Tree) → AreFlat qs → places_all (trees_of (ps ++ qs)) ≤ places_all (trees_of ps) + length qs }
+    ensures clauses_behind { (ps qs : List Tree) → AreFlat qs
+        → length (clause_form (trees_of (ps ++ qs))).clauses ≤ 2 * (nodes_all (trees_of ps) + length qs) }
+    ensures places_behind { (ps qs : List Tree) → AreFlat qs
+        → places_all (trees_of (ps ++ qs)) ≤ places_all (trees_of ps) + length qs }
 {}

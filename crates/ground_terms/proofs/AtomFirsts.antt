@@ -17,12 +17,14 @@ sum-more f r most before count b n =
     let next : sum_below (r + 1) f ≡ sum_below r f + f r = ap (λ m. sum_below m f) (let e : r + 1 ≡ suc r = omega arith in e) in
     omega (arith, b, n, next)
 
-pub one-first : (g : ℕ → ℕ) (xs : List ℕ) → xs ≡ [] → (x : ℕ) (ys : List ℕ) → ys ≡ xs ++ x ∷ [] → x ≡ g 0 → AreValues g 1 ys
+pub one-first : (g : ℕ → ℕ) (xs : List ℕ) → xs ≡ [] → (x : ℕ) (ys : List ℕ) → ys ≡ xs ++ x ∷ [] → x ≡ g 0
+    → AreValues g 1 ys
 one-first g xs none x ys e is =
     values-more g 0 x xs ys (record { long = ap length none; each = λ i lt. absurd (omega (arith, lt)) }) e is
 
 -- a sort of a list is one that there is
-pub sort-known : (n : ℕ) (ks : List Sort) (i : ℕ) (d : Sort) → All (λ k. k < n) (numbers ks) → i < length ks → (get_or ks i d).0 < n
+pub sort-known : (n : ℕ) (ks : List Sort) (i : ℕ) (d : Sort) → All (λ k. k < n) (numbers ks) → i < length ks
+    → (get_or ks i d).0 < n
 sort-known n ks i d sorted lt =
     let inside : i < length (numbers ks) = omega (arith, lt, length-map ks (λ (k : Sort). k.0)) in
     subst (λ k. k < n) (get_or-map (λ (k : Sort). k.0) ks i d 0 lt) (sorted i 0 inside)
@@ -32,7 +34,8 @@ pub record EquationNumber (counts firsts : List ℕ) (k x y : ℕ) : Type 0 wher
   pub exact : get_or firsts k 0 + (x * get_or counts k 0 + y) ≡ equation_atoms counts k + (x * get_or counts k 0 + y)
   pub within : get_or firsts k 0 + (x * get_or counts k 0 + y) < equation_atoms counts (length counts)
 
-pub equation-number : (counts firsts : List ℕ) (k x y : ℕ) → AreEquationFirsts counts firsts → equation_atoms counts (length counts) < 2 ^ 32 → k < length counts → x < get_or counts k 0 → y < get_or counts k 0
+pub equation-number : (counts firsts : List ℕ) (k x y : ℕ) → AreEquationFirsts counts firsts
+    → equation_atoms counts (length counts) < 2 ^ 32 → k < length counts → x < get_or counts k 0 → y < get_or counts k 0
     → EquationNumber counts firsts k x y
 equation-number counts firsts k x y are few known left right =
     let n = get_or counts k 0 in

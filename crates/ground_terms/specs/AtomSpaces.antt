@@ -11,12 +11,15 @@ pub record AtomSpace : Type 0 where
 -- how many atoms stand before each relation, and behind the last one how many in all; they are counted up to 2^64 - 1
 abbrev pub AreRelationFirsts : AtomSpace → List ℕ → Type 0
 AreRelationFirsts s firsts =
-    (r : ℕ) → r ≤ length s.signature.relations → (r < length firsts) × (slice_index firsts r ≡ min (relation_atoms (symbols s.signature) s.counts r) 18446744073709551615)
+    (r : ℕ) → r ≤ length s.signature.relations
+    → (r < length firsts)
+    × (slice_index firsts r ≡ min (relation_atoms (symbols s.signature) s.counts r) 18446744073709551615)
 
 -- the same of the equations of each sort
 abbrev pub AreEquationFirsts : List ℕ → List ℕ → Type 0
 AreEquationFirsts counts firsts =
-    (k : ℕ) → k ≤ length counts → (k < length firsts) × (slice_index firsts k ≡ min (equation_atoms counts k) 18446744073709551615)
+    (k : ℕ) → k ≤ length counts
+    → (k < length firsts) × (slice_index firsts k ≡ min (equation_atoms counts k) 18446744073709551615)
 
 -- the sort is one that there is, and so are the terms
 abbrev pub IsEquation : List ℕ → ℕ → ℕ → ℕ → Type 0

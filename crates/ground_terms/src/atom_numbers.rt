@@ -15,8 +15,8 @@ use std::marker::Model;
 // Up to here atoms are numbered.
 const MOST: usize = 4294967296;
 
-/// The numbers of the atoms of a signature over so many terms of each sort: the relations at tuples of terms first, then
-/// the equations sort by sort. Where there are 2^32 atoms or more none has a number.
+/// The numbers of the atoms of a signature over so many terms of each sort: the relations at tuples of terms first,
+/// then the equations sort by sort. Where there are 2^32 atoms or more none has a number.
 #[derive(Drop)]
 pub struct AtomNumbers {
     signature: Signature,
@@ -33,7 +33,8 @@ impl Model for AtomNumbers {
 
     ghost view = { λ n. record { signature = n.signature; counts = n.counts.items } };
 
-    ghost invariant = { λ n. AreFirsts (record { signature = n.signature; counts = n.counts.items }) n.relations.items n.equations.items n.few };
+    ghost invariant = { λ n.
+        AreFirsts (record { signature = n.signature; counts = n.counts.items }) n.relations.items n.equations.items n.few };
 }
 
 impl AtomNumbers {
@@ -59,8 +60,8 @@ impl AtomNumbers {
         })
     }
 
-    /// The number of an atom; none where it names a symbol or a term that there is not, or where there are 2^32 atoms or
-    /// more.
+    /// The number of an atom; none where it names a symbol or a term that there is not, or where there are 2^32 atoms
+    /// or more.
     pub fn number(&self, atom: &Atom) -> Option<usize>
         ensures some { IfSome result (λ n. FitsAtom (symbols self.now.signature) self.now.counts atom.now
             × (n ≡ atom_number (symbols self.now.signature) self.now.counts atom.now)
@@ -91,7 +92,8 @@ impl AtomNumbers {
 // For each relation how many atoms those before it have, and behind the last how many all have.
 fn relation_firsts(alloc: Global, signature: &Signature, counts: &[u32]) -> Mem<Vec<usize>>
     requires { length counts.now ≡ signature.now.sorts }
-    ensures { IfOk result (λ firsts. AreRelationFirsts (record { signature = signature.now; counts = counts.now }) firsts.items) }
+    ensures { IfOk result (λ firsts.
+        AreRelationFirsts (record { signature = signature.now; counts = counts.now }) firsts.items) }
 {
     let _sorts = signature.sorts();
     let mut firsts = Vec::new(alloc);
@@ -173,7 +175,9 @@ fn equation_number(
 ) -> Option<usize>
     requires firsts { AreEquationFirsts counts.now firsts.now }
     requires few { equation_atoms counts.now (length counts.now) < 2 ^ 32 }
-    ensures some { IfSome result (λ n. IsEquation counts.now sort.0 left right × (n ≡ equation_atoms counts.now sort.0 + (left * slice_index counts.now sort.0 + right)) × (n < equation_atoms counts.now (length counts.now))) }
+    ensures some { IfSome result (λ n. IsEquation counts.now sort.0 left right
+        × (n ≡ equation_atoms counts.now sort.0 + (left * slice_index counts.now sort.0 + right))
+        × (n < equation_atoms counts.now (length counts.now))) }
     ensures none { result ≡ None → IsEquation counts.now sort.0 left right → ⊥ }
 {
     if sort.0 as usize >= counts.len() {

@@ -18,7 +18,8 @@ returns-then-self-eq-LIMIT-clause-taken c =
 
 pub returns-in_err-node-clause-refused : goal.returns-in_err-node-clause-refused
 returns-in_err-node-clause-refused c =
-    let kept : (calls : List Call) → Stands c.args.self.now calls → StandsBy c.args.self.now.full (state_of c.node.new.self) calls =
+    let kept : (calls : List Call) → Stands c.args.self.now calls
+    → StandsBy c.args.self.now.full (state_of c.node.new.self) calls =
     λ calls h. refuses _ c.if-self.false (state_of c.args.self.now.board) (state_of c.settle.new.self) (state_of c.node.new.self) calls c.in_ok-settle.ensures.ended c.in_err-node.ensures.kept h in
     on_err _ _ kept
 

@@ -14,7 +14,8 @@ returns-then-self-clause-taken c = λ calls h. still_full _ c.if-self.true _ cal
 
 pub returns-in_err-literal-clause-refused : goal.returns-in_err-literal-clause-refused
 returns-in_err-literal-clause-refused c =
-    let kept : (calls : List Call) → Stands c.args.self.now calls → StandsBy c.args.self.now.full (state_of c.literal.new.self) calls =
+    let kept : (calls : List Call) → Stands c.args.self.now calls
+    → StandsBy c.args.self.now.full (state_of c.literal.new.self) calls =
     λ calls h. refuses _ c.if-self.false (state_of c.args.self.now.board) (state_of c.settle.new.self) (state_of c.literal.new.self) calls c.in_ok-settle.ensures.ended c.in_err-literal.ensures.kept h in
     on_err _ _ kept
 
