@@ -8,7 +8,9 @@
 
 mod axioms;
 mod clauses;
+mod laws;
 mod scheme;
 mod tuples;
 
 pub use axioms::axioms_into;
+pub use laws::axiom_laws;
