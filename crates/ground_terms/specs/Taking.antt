@@ -74,7 +74,8 @@ pub last : {T E : Type 0} → (P Q R : List Call → Type 0) (whole rest : List 
 last P Q R whole rest (Ok t) before h = step P Q R whole rest [] (subst (Takes P Q whole) (sym (append-nil rest)) before) h
 last P Q R whole rest (Err e) before h = stop P Q R whole rest [] (subst (Takes P Q whole) (sym (append-nil rest)) before) h
 
-calls-append : (ps qs : List Tree) → calls_of_each (ps ++ qs) ≡ calls_of_each ps ++ calls_of_each qs
+-- the calls of two lists of formulas
+pub calls-append : (ps qs : List Tree) → calls_of_each (ps ++ qs) ≡ calls_of_each ps ++ calls_of_each qs
 calls-append [] qs = refl
 calls-append (p ∷ ps) qs = ap (λ cs. calls_of p ++ cs) (calls-append ps qs) ∙ sym (append_assoc (calls_of p) (calls_of_each ps) (calls_of_each qs))
 

@@ -1,0 +1,3 @@
+pub mod Axioms
+pub mod Walk
+pub mod Laws

@@ -1,0 +1,15 @@
+// What the axioms mean.
+ghost use Rattle.equality_axioms.specs.Laws.{AxiomsAreTrue, StructuresSatisfyAxioms};
+
+use fol_sig::range_laws;
+use ground_terms::{place_laws, value_laws};
+
+/// Each axiom is true of the atoms of a structure.
+pub fn axiom_laws()
+    ensures realised { AxiomsAreTrue }
+    ensures structures { StructuresSatisfyAxioms }
+{
+    range_laws();
+    place_laws();
+    value_laws();
+}
