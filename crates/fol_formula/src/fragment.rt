@@ -106,20 +106,20 @@ impl<F: Fragment> SentenceIn<F> {
 /// The normal form has no existential in the scope of a universal, and no quantifier stands inside an
 /// `Ite`: the sentences that their ground instances decide.
 #[derive(Drop, Debug)]
-pub enum ExistsForall {}
+pub struct ExistsForall;
 
 /// The negation is exists-forall, and no quantifier stands inside an `Ite`.
 #[derive(Drop, Debug)]
-pub enum ForallExists {}
+pub struct ForallExists;
 
 /// The normal form has no existential, and no quantifier stands inside an `Ite`.
 #[derive(Drop, Debug)]
-pub enum PurelyUniversal {}
+pub struct PurelyUniversal;
 
 /// Exists-forall in positive normal form, without `Ite`: negations stand at atoms alone, and there is
 /// no implication and no equivalence.
 #[derive(Drop, Debug)]
-pub enum NormalExistsForall {}
+pub struct NormalExistsForall;
 
 /// An exists-forall sentence.
 pub type Ea = SentenceIn<ExistsForall>;
