@@ -1,2 +1,0 @@
-pub mod BlockPaths
-pub mod Replaceable

@@ -1,6 +1,0 @@
-use Rattle.fol_formula.specs.View.{form, term}
-use Rattle.calls.proofs.Replaceable.{function}
-use Rattle.calls.proofs.replacing.tell_function.Goals as goal
-
-pub replace_fun-requires : goal.replace_fun-requires
-replace_fun-requires g c = function (form c.in_ok-fixed_point.field-0) (term c.in_ok-twice.field-0) c.in_ok-fixed_point.ensures c.in_ok-twice.ensures

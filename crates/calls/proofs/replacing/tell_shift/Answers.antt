@@ -1,6 +1,0 @@
-use Rattle.fol_formula.specs.View.{form}
-use Rattle.calls.proofs.Replaceable.{raised}
-use Rattle.calls.proofs.replacing.tell_shift.Goals as goal
-
-pub shift-requires : goal.shift-requires
-shift-requires g c = λ small. raised (form c.in_ok-grown.field-0) c.in_ok-grown.ensures
