@@ -1,3 +1,4 @@
 pub mod Elements
 pub mod Walks
 pub mod Truths
+pub mod Equalities

@@ -1,5 +1,5 @@
 // What the axioms mean.
-ghost use Rattle.equality_axioms.specs.Laws.{AxiomsAreTrue, StructuresSatisfyAxioms};
+ghost use Rattle.equality_axioms.specs.Laws.{AxiomsAreTrue, StructuresSatisfyAxioms, AxiomsGiveEquality};
 
 use fol_sig::range_laws;
 use ground_terms::{place_laws, value_laws};
@@ -13,3 +13,9 @@ pub fn axiom_laws()
     place_laws();
     value_laws();
 }
+
+/// Where each axiom is true, equations are an equality: an equivalence of the terms of each sort, and equal
+/// terms can be exchanged in each argument place of each relation and function.
+pub fn equality_laws()
+    ensures { AxiomsGiveEquality }
+{}

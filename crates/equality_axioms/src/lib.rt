@@ -13,4 +13,4 @@ mod scheme;
 mod tuples;
 
 pub use axioms::axioms_into;
-pub use laws::axiom_laws;
+pub use laws::{axiom_laws, equality_laws};
