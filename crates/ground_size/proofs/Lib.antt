@@ -1,0 +1,9 @@
+mod Saturated
+mod Raised
+mod Turns
+mod Along
+mod Counted
+mod LeafCounts
+mod Capped
+mod Instances
+mod AxiomCounts

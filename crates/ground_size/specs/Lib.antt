@@ -1,0 +1,5 @@
+pub mod Counting
+pub mod Sizes
+pub mod Laws
+pub mod Walks
+pub mod Leaves

@@ -1,0 +1,75 @@
+// How many ground terms each sort has once the existentials of a sentence are constants. No term is made.
+ghost use Rattle.std.specs.Prelude.{◌≡◌, ◌+◌, ◌<◌, [], length, replicate, IfOk};
+ghost use Rattle.fol_sig.specs.Symbols.{symbols};
+ghost use Rattle.fol_sig.specs.Strata.{IsStrata};
+ghost use Rattle.fol_formula.specs.Counts.{saturated};
+ghost use Rattle.fol_formula.specs.Fits.{FitsForm};
+ghost use Rattle.ground_terms.specs.TermCounts.{sum_below, application_count};
+ghost use Rattle.ground_size.specs.Counting.{AreCounted};
+ghost use Rattle.ground_size.specs.Walks.{raised, capped_count, capped_counts};
+
+use crate::counts::{Counts, count_of, set_count, tuples};
+use crate::existentials::add_existentials;
+use base::Mem;
+use fol_formula::Ea;
+use fol_sig::{FunId, Signature, Sort, Strata};
+use std::alloc::Global;
+
+/// Counts the ground terms of the signature with a constant for each existential of the sentence's normal form. An
+/// error is want of memory: two numbers are kept for each sort.
+pub fn count(alloc: Global, signature: &Signature, strata: &Strata, sentence: &Ea) -> Mem<Counts>
+    requires strata { IsStrata (symbols signature.now) strata.now }
+    requires fits { FitsForm (symbols signature.now) [] sentence.now }
+    ensures { IfOk result (AreCounted signature.now sentence.now) }
+{
+    fol_sig::growth_laws();
+    fol_nnf::exactness();
+    skolem::exactness();
+    skolem::witnesses();
+    let mut constants = vec![in alloc; 0u64; signature.sorts() as usize]?;
+    add_existentials(&mut constants, sentence.sentence().formula(), 1, 0);
+    let terms = counts_along(alloc, signature, strata, &constants)?;
+    Ok(Counts { terms })
+}
+
+// The terms of each sort from those of the sorts before it.
+fn counts_along(
+    alloc: Global,
+    signature: &Signature,
+    strata: &Strata,
+    constants: &[u64],
+) -> Mem<Vec<u64>>
+    ensures { IfOk result (λ counts. counts.items
+        ≡ capped_counts (symbols signature.now) constants.now strata.now (replicate signature.now.sorts 0)) }
+{
+    let mut counts = vec![in alloc; 0u64; signature.sorts() as usize]?;
+    for sort in strata.order() {
+        let count = terms_into(signature, &counts, count_of(constants, *sort), *sort);
+        set_count(&mut counts, *sort, count);
+    }
+    Ok(counts)
+}
+
+// The terms of a sort that has these constants besides: the functions applied to the terms that are counted, and the
+// default constant where there are none.
+fn terms_into(signature: &Signature, counts: &[u64], constants: u64, sort: Sort) -> u64
+    ensures { result ≡ capped_count (symbols signature.now) constants counts.now sort.0 }
+{
+    let mut terms = constants;
+    for f in 0..signature.function_count() {
+        terms = terms.saturating_add(applications(signature, counts, sort, FunId(f)));
+    }
+    if terms == 0 { 1 } else { terms }
+}
+
+// The applications of a function, if it is one into the sort.
+fn applications(signature: &Signature, counts: &[u64], sort: Sort, function: FunId) -> u64
+    requires { function.0 < length signature.now.functions }
+    ensures { result ≡ saturated (application_count (symbols signature.now) counts.now sort.0 function.0) }
+{
+    if signature.into_of(function).0 == sort.0 {
+        tuples(counts, signature.from_of(function))
+    } else {
+        0
+    }
+}
