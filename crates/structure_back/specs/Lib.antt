@@ -1,0 +1,5 @@
+pub mod ReadBack
+pub mod Rows
+pub mod Leaders
+pub mod Classes
+pub mod Tables
