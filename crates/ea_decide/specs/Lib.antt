@@ -1,0 +1,6 @@
+pub mod GroundForm
+pub mod Passing
+pub mod Decisions
+pub mod Searches
+pub mod Laws
+pub mod Steps
