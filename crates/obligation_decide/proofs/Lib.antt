@@ -1,0 +1,8 @@
+mod SameAnswer
+mod Shown
+mod FewConstants
+mod Conjoined
+mod Cycles
+mod OneCount
+mod FirstLimit
+mod Restricting

@@ -1,0 +1,148 @@
+-- A refuting sentence with further parts: where it is true, and what its answer says of the goal.
+use Rattle.std.proofs.Common.{
+  ◌≡◌,
+  Bool,
+  true,
+  false,
+  List,
+  [],
+  ◌∷◌,
+  ◌++◌,
+  Option,
+  Some,
+  None,
+  refl,
+  sym,
+  ap,
+  ◌∙◌,
+  subst,
+}
+use Rattle.std.specs.Prelude.{MatchBool}
+use Rattle.std.proofs.lemmas.Bool.{and_parts, and_from}
+use Rattle.fol_sig.specs.Tables.{Declared, Tables, Reading, reading}
+use Rattle.fol_sig.specs.Symbols.{symbols}
+use Rattle.fol_sig.specs.Constants.{reduct}
+use Rattle.fol_formula.specs.Syntax.{FormTree, forms_of, list_of_forms}
+use Rattle.fol_formula.specs.Truth.{truth, all_true}
+use Rattle.fol_formula.specs.Fits.{FitsForm}
+use Rattle.fol_nnf.specs.Normal.{normal}
+use Rattle.fol_nnf.specs.Laws.{TruthIsKept}
+use Rattle.skolem.specs.Laws.{EachIsSkolemised}
+use Rattle.rml_command.specs.Models.{ModelTree, FitsModel}
+use Rattle.rml_command.specs.Outcomes.{all_of, is_true}
+use Rattle.rml_command.specs.Goals.{IsGoal}
+use Rattle.rml_command.specs.declared.goal.Goal.{Goal}
+use Rattle.rml_wp.specs.Preconditions.{goal_passes_limit, refuting_parts, refuting_of}
+use Rattle.rml_wp.specs.Added.{refuting_all, NoPartsAreAdded}
+use Rattle.rml_wp.specs.Laws.{RefutingIsExact}
+use Rattle.rml_report.specs.declared.cause.Cause.{Cause}
+use Rattle.rml_report.specs.declared.cause.Cause.TheVariants as cause
+use Rattle.ea_decide.specs.declared.decided.Passed.{Passed}
+use Rattle.ea_decide.specs.declared.decided.Passed.TheVariants as passed
+use Rattle.ea_decide.specs.Passing.{Ceilings, Passes}
+use Rattle.ea_decide.specs.Decisions.{Refutes, SpendsBudget, IsOver}
+use Rattle.obligation_decide.specs.GoalPassing.{cause_of, first_cause}
+use Rattle.obligation_decide.specs.GoalDecisions.{IsDecision}
+use Rattle.obligation_decide.specs.WithConstants.{HoldsWithConstants}
+use Rattle.obligation_decide.specs.Restricted.{with_parts, IsSentenceDecision, RestrictedSentencePasses}
+use Rattle.obligation_decide.specs.Restricted.{RestrictedPassesFirst, IsLeftOpenWhere, IsRestrictedDecision}
+use Rattle.obligation_decide.specs.declared.decision.Decision.{Decision}
+use Rattle.obligation_decide.specs.declared.decision.Decision.TheVariants.{Holds, Fails, Undecided}
+
+same-list : (ps : List FormTree) → list_of_forms (forms_of ps) ≡ ps
+same-list [] = refl
+same-list (p ∷ ps) = ap (λ qs. p ∷ qs) (same-list ps)
+
+-- the refuting sentence with further parts in its And
+pub restricted_is : (m : ModelTree) (more : List FormTree) (goal : Goal)
+    → with_parts (refuting_of m m.conjectures goal) more ≡ refuting_all m m.conjectures more goal
+restricted_is m more goal =
+    ap (λ (qs : List FormTree). all_of (qs ++ more)) (same-list (refuting_parts m m.conjectures goal))
+
+-- sentences are all true where the first of them are, and the others
+both-true : (s : Reading) (ps qs : List FormTree) → all_true s (forms_of ps) [] ≡ true
+    → all_true s (forms_of qs) [] ≡ true
+    → all_true s (forms_of (ps ++ qs)) [] ≡ true
+both-true s [] qs h k = k
+both-true s (p ∷ ps) qs h k =
+    let parts = and_parts (truth s p []) (all_true s (forms_of ps) []) h in
+    and_from (truth s p []) (all_true s (forms_of (ps ++ qs)) []) parts.0 (both-true s ps qs parts.1 k)
+
+others-true : (s : Reading) (ps qs : List FormTree) → all_true s (forms_of (ps ++ qs)) [] ≡ true
+    → all_true s (forms_of qs) [] ≡ true
+others-true s [] qs h = h
+others-true s (p ∷ ps) qs h =
+    others-true s ps qs (and_parts (truth s p []) (all_true s (forms_of (ps ++ qs)) []) h).1
+
+-- without its constants a model of the sentence satisfies it
+pub holds-without : TruthIsKept → EachIsSkolemised → (sig : Declared) (p : FormTree) (t : Tables)
+    → FitsForm (symbols sig) [] (normal true p) → HoldsWithConstants sig p t
+    → is_true (reduct (symbols sig) t) p ≡ true
+holds-without kept skolem sig p t fits model =
+    let w = (skolem sig (normal true p) fits).models.without t model in
+    sym (kept (reading (reduct (symbols sig) t)) true p []) ∙ w.holds
+
+module _ (limits : Ceilings) (m : ModelTree) (goal : Goal) where
+  module _ (more : List FormTree) (within : goal_passes_limit m goal ≡ false) where
+    passes : (first : Option Cause) → RestrictedSentencePasses limits m more goal first
+        → RestrictedPassesFirst limits m more goal first
+    passes first h =
+        subst (λ (b : Bool). MatchBool b (first ≡ Some cause.Formula)
+        (RestrictedSentencePasses limits m more goal first))
+        (sym within) h
+
+    over : (p : Passed) → IsOver limits m.signature (refuting_all m m.conjectures more goal) p
+        → IsLeftOpenWhere limits m more goal (cause_of p)
+    over (passed.Terms n) h = passes (Some (cause.Terms n)) (Some (passed.Terms n), h, refl)
+    over (passed.GroundSize n) h = passes (Some (cause.Ground n)) (Some (passed.GroundSize n), h, refl)
+    over (passed.Conflicts n) h = (passes None (None, h.0, refl), h.1, h.2)
+
+    module _ (exact : RefutingIsExact) (fits : FitsModel m) (g : IsGoal m goal) where
+      by_sentence : (d : Decision) → IsSentenceDecision limits m (refuting_all m m.conjectures more goal) goal d
+          → IsRestrictedDecision limits m more goal d
+      by_sentence (Holds proof) h = (
+        passes None (None, h.0, refl),
+        (λ s elements values counterexample lawful.
+            let parts = (exact m goal s fits g counterexample.structure).1 (elements, values, counterexample) in
+            h.1 s counterexample.structure (both-true (reading s) (refuting_parts m m.conjectures goal) more parts
+            lawful)),
+        h.2,
+      )
+      by_sentence (Fails shown) h = (
+        passes None (None, h.0, refl),
+        (h.1, others-true (reading shown.structure) (refuting_parts m m.conjectures goal) more h.2),
+      )
+      by_sentence (Undecided c) h = subst (IsLeftOpenWhere limits m more goal) (sym h.1) (over h.0 h.2)
+
+      -- what is answered of the sentence is answered of the goal
+      pub restricted_by : (p : FormTree) (d : Decision) → p ≡ refuting_all m m.conjectures more goal
+          → IsSentenceDecision limits m p goal d → IsRestrictedDecision limits m more goal d
+      restricted_by p d is h =
+          by_sentence d (subst (λ (q : FormTree). IsSentenceDecision limits m q goal d) is h)
+
+  -- where there are no further sentences it is the goal itself
+  module _ (alone : NoPartsAreAdded) where
+    first-alone : (first : Option Cause) → RestrictedPassesFirst limits m [] goal first
+        → MatchBool (goal_passes_limit m goal) (first ≡ Some cause.Formula)
+        ((p : Option Passed) × Passes limits m.signature (refuting_of m m.conjectures goal) p × (first ≡ first_cause p))
+    first-alone first h =
+        subst
+        (λ (q : FormTree). MatchBool (goal_passes_limit m goal) (first ≡ Some cause.Formula)
+        ((p : Option Passed) × Passes limits m.signature q p × (first ≡ first_cause p)))
+        (alone m m.conjectures goal) h
+
+    pub unrestricted : (d : Decision) → IsRestrictedDecision limits m [] goal d → IsDecision limits m goal d
+    unrestricted (Holds proof) h = (
+      first-alone None h.0,
+      (λ s elements values counterexample. h.1 s elements values counterexample refl),
+      subst (λ (q : FormTree). Refutes m.signature q proof) (alone m m.conjectures goal) h.2,
+    )
+    unrestricted (Fails shown) h = (first-alone None h.0, h.1.0)
+    unrestricted (Undecided cause.Formula) h = first-alone (Some cause.Formula) h
+    unrestricted (Undecided (cause.Terms n)) h = first-alone (Some (cause.Terms n)) h
+    unrestricted (Undecided (cause.Ground n)) h = first-alone (Some (cause.Ground n)) h
+    unrestricted (Undecided (cause.Conflicts n)) h = (
+      first-alone None h.0,
+      h.1,
+      subst (λ (q : FormTree). SpendsBudget m.signature q n) (alone m m.conjectures goal) h.2,
+    )

@@ -1,0 +1,86 @@
+-- What a model of a goal's refuting sentence shows, once its existentials are constants.
+use Rattle.std.proofs.Common.{◌≡◌, ℕ, ◌+◌, ◌<◌, ◌^◌, true, List, [], length, get_or, sym, ap, ◌∙◌, subst, arith}
+use Rattle.fol_sig.specs.Tables.{Tables, fun_at}
+use Rattle.fol_sig.specs.Symbols.{symbols}
+use Rattle.fol_sig.specs.Constants.{reduct}
+use Rattle.fol_formula.specs.Syntax.{FormTree}
+use Rattle.fol_formula.specs.Counts.{saturated}
+use Rattle.fol_formula.specs.Fits.{FitsForm}
+use Rattle.fol_formula.specs.Witnesses.{existentials}
+use Rattle.fol_nnf.specs.Normal.{normal}
+use Rattle.skolem.specs.Laws.{HasConstant, ConstantsAreThere}
+use Rattle.rml_command.specs.Models.{ModelTree}
+use Rattle.rml_command.specs.Fragment.{IsChecked}
+use Rattle.rml_command.specs.Goals.{IsGoal, IsCounterexample}
+use Rattle.rml_command.specs.declared.goal.Goal.{Goal}
+use Rattle.rml_wp.specs.Added.{refuting_all, NoPartsAreAdded, ConjecturesAreAdded}
+use Rattle.rml_wp.specs.Laws.{AllConjecturesHeld}
+use Rattle.rml_wp.specs.Witnesses.{witness_places, values_at}
+use Rattle.witness.specs.Laws.{IsRefutingNormal, RefutingNormalsFit, ModelsGiveCounterexamples}
+use Rattle.obligation_decide.specs.GoalPassing.{refuting_sentence}
+use Rattle.obligation_decide.specs.Restricted.{IsRefutingWith}
+use Rattle.obligation_decide.specs.WithConstants.{constant_sorts, HoldsWithConstants}
+
+-- what is known of refuting sentences
+pub record AreRead : Type 0 where
+  pub none : NoPartsAreAdded
+  pub conjectures : ConjecturesAreAdded
+  pub normals : RefutingNormalsFit
+
+-- so many functions stand before the constants of a sentence, and so many constants are counted
+pub record AreCounted (m : ModelTree) (p : FormTree) (f n : ℕ) : Type 0 where
+  pub functions : f ≡ length m.signature.functions
+  pub count : n ≡ saturated (existentials p)
+  pub few : length m.signature.functions + length (constant_sorts p) < 2 ^ 32
+
+-- the refuting sentence has no further parts
+pub alone : AreRead → (m : ModelTree) (goal : Goal) → IsChecked m → IsRefutingWith m goal (refuting_sentence m goal)
+alone laws m goal checked = record {
+  more = [];
+  added = (laws.conjectures m [] checked tt tt).all;
+  is = sym (laws.none m m.conjectures goal);
+}
+
+module _ (normals : RefutingNormalsFit) (m : ModelTree) (goal : Goal) (checked : IsChecked m) (g : IsGoal m goal)
+    (p : FormTree) (with : IsRefutingWith m goal p) where
+  -- the refuting sentence with these parts
+  whole : p ≡ refuting_all m m.conjectures with.more goal
+  whole = with.is
+
+  normal_fits : IsRefutingNormal m m.conjectures with.more goal
+  normal_fits = normals m m.conjectures with.more goal checked g with.added
+
+  pub normal-fits : FitsForm (symbols m.signature) [] (normal true p)
+  normal-fits =
+      subst (λ (q : FormTree). FitsForm (symbols m.signature) [] (normal true q)) (sym whole) normal_fits.fits
+
+  -- it has a constant for each of its existentials
+  constant-count : existentials p ≡ length (constant_sorts p)
+  constant-count =
+      let count = sym (ap length normal_fits.sorts) in
+      subst (λ (q : FormTree). existentials q ≡ length (constant_sorts q)) (sym whole) count
+
+  module _ (t : Tables) (model : HoldsWithConstants m.signature p t) (f n : ℕ) (h : AreCounted m p f n) where
+    all-counted : n ≡ length (constant_sorts p)
+    all-counted = let same = constant-count in let e = h.count in let few = h.few in omega (arith, e, same, few)
+
+    pub each-there : ConstantsAreThere → (i : ℕ) → i < n → HasConstant t (f + i)
+    each-there there i lt =
+        let within : i < length (constant_sorts p) = subst (λ (k : ℕ). i < k) all-counted lt in
+        subst (λ (k : ℕ). HasConstant t (k + i)) (sym h.functions)
+        (there m.signature (normal true p) t normal-fits model.structure i within)
+
+    -- with the values of the constants it is a counterexample
+    pub is-shown : ModelsGiveCounterexamples → AllConjecturesHeld → (xs : List ℕ)
+        → ((i : ℕ) → i < n → get_or xs i 0 ≡ fun_at t (f + i) [])
+        → IsCounterexample m goal (reduct (symbols m.signature) t)
+        (values_at xs (witness_places m goal).havocs) (values_at xs (witness_places m goal).values)
+    is-shown models same xs values =
+        let each = λ (q : FormTree).
+        (i : ℕ) → i < length (constant_sorts q) → get_or xs i 0 ≡ fun_at t (length m.signature.functions + i) [] in
+        let read : each p = λ i lt.
+        let within : i < n = subst (λ (k : ℕ). i < k) (sym all-counted) lt in
+        values i within ∙ ap (λ (k : ℕ). fun_at t (k + i) []) h.functions in
+        let holds = subst (λ (q : FormTree). HoldsWithConstants m.signature q t) whole model in
+        (same m goal _ _ _).0 (models m m.conjectures with.more goal t xs checked g with.added holds
+        (subst each whole read))

@@ -1,0 +1,55 @@
+use Rattle.std.proofs.Common.{◌≡◌, ◌≤◌, true, sum, refl, sym, subst, arith}
+use Rattle.fol_sig.specs.Tables.{Tables}
+use Rattle.fol_nnf.specs.Normal.{normal}
+use Rattle.rml_command.specs.Outcomes.{is_true}
+use Rattle.ea_decide.specs.Passing.{ceilings}
+use Rattle.obligation_decide.specs.WithConstants.{constant_sorts}
+use Rattle.obligation_decide.proofs.SameAnswer.{signature_of, same_answer}
+use Rattle.obligation_decide.proofs.Shown.{normal-fits}
+use Rattle.obligation_decide.proofs.FewConstants.{few}
+use Rattle.obligation_decide.proofs.Restricting.{holds-without}
+use Rattle.obligation_decide.proofs.decide_sentence.Goals as goal
+
+pub read_counterexample-requires-clause-few : goal.read_counterexample-requires-clause-few
+read_counterexample-requires-clause-few c =
+    let m = c.args.checked.now in
+    let p = c.args.sentence.now in
+    let limits = ceilings c.args.limits.now in
+    let checked = c.model.ensures.checked in
+    let fits = normal-fits c.sentence_law-2.ensures m c.args.goal.now checked c.requires.goal p c.requires.sentence in
+    let skolem = c.exactness.ensures.models m.signature (normal true p) fits in
+    let sig = signature_of _ _ m c.signature-signature.ensures.value c.model.ensures.value in
+    let decided = same_answer limits _ m.signature p p _ _ sig refl c.in-Satisfied.is c.in_ok-proof.ensures in
+    let model = checked.model.few in
+    let terms : limits.terms ≤ 100000 = omega arith in
+    few limits m.signature (constant_sorts p) p skolem.grows terms (omega (arith, model)) decided.0
+
+pub returns-in-Refuted : goal.returns-in-Refuted
+returns-in-Refuted c =
+    let m = c.args.checked.now in
+    let p = c.args.sentence.now in
+    let sig = signature_of _ _ m c.signature-signature.ensures.value c.model.ensures.value in
+    same_answer (ceilings c.args.limits.now) _ m.signature p p _ _ sig refl c.in-Refuted.is c.in_ok-proof.ensures
+
+pub returns-in_ok-shown-in-Satisfied : goal.returns-in_ok-shown-in-Satisfied
+returns-in_ok-shown-in-Satisfied c =
+    let m = c.args.checked.now in
+    let p = c.args.sentence.now in
+    let limits = ceilings c.args.limits.now in
+    let checked = c.model.ensures.checked in
+    let t = c.in-Satisfied.model in
+    let shown = c.in_ok-shown-in-Satisfied.ensures in
+    let fits = normal-fits c.sentence_law-2.ensures m c.args.goal.now checked c.requires.goal p c.requires.sentence in
+    let sig = signature_of _ _ m c.signature-signature.ensures.value c.model.ensures.value in
+    let decided = same_answer limits _ m.signature p p _ _ sig refl c.in-Satisfied.is c.in_ok-proof.ensures in
+    let holds = holds-without c.exactness-2.ensures.truth c.exactness.ensures.models m.signature p t fits
+    decided.1.model in (
+      decided.0,
+      record {
+        same = shown.goal;
+        path = shown.path;
+        refutes = shown.refutes;
+        few = subst (λ (s : Tables). sum s.sizes ≤ limits.terms) (sym shown.structure) decided.1.few;
+      },
+      subst (λ (s : Tables). is_true s p ≡ true) (sym shown.structure) holds,
+    )

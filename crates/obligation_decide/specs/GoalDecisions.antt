@@ -1,0 +1,48 @@
+-- What is answered of a goal, and of the axioms, and what shows it.
+use Rattle.std.specs.Prelude.{◌≡◌, ◌≤◌, sum, Some, None}
+use Rattle.rml_command.specs.Models.{ModelTree}
+use Rattle.rml_command.specs.Outcomes.{all_of}
+use Rattle.rml_command.specs.Goals.{IsCounterexample, HasNone}
+use Rattle.rml_command.specs.declared.goal.Goal.{Goal}
+use Rattle.rml_exec.specs.declared.trace.Counterexample.{Counterexample}
+use Rattle.rml_report.specs.declared.cause.Cause.{Cause}
+use Rattle.rml_report.specs.declared.cause.Cause.TheVariants as cause
+use Rattle.rml_report.specs.declared.report.Axioms.{Axioms}
+use Rattle.rml_report.specs.declared.report.Axioms.TheVariants as axioms
+use Rattle.rml_report.specs.Reports.{AxiomsAre}
+use Rattle.ea_decide.specs.declared.decided.Passed.{Passed}
+use Rattle.ea_decide.specs.Passing.{Ceilings, Passes}
+use Rattle.ea_decide.specs.Decisions.{Refutes, SpendsBudget, IsOver}
+use Rattle.obligation_decide.specs.GoalPassing.{cause_of, refuting_sentence, PassesFirst}
+use Rattle.obligation_decide.specs.declared.decision.Decision.{Decision}
+use Rattle.obligation_decide.specs.declared.decision.Decision.TheVariants.{Holds, Fails, Undecided}
+
+-- The execution is a counterexample of the goal, whose structure has at most so many elements as terms are allowed.
+pub record IsFailing (limits : Ceilings) (m : ModelTree) (goal : Goal) (shown : Counterexample) : Type 0 where
+  pub same : shown.goal ≡ goal
+  pub path : shown.trace.path ≡ goal.path
+  pub refutes : IsCounterexample m goal shown.structure shown.trace.havoc shown.values
+  pub few : sum shown.structure.sizes ≤ limits.terms
+
+-- A goal is left open: it passes no limit by its size, and the budget of conflicts is spent on its clauses; or it
+-- passes this limit.
+abbrev pub IsLeftOpen : Ceilings → ModelTree → Goal → Cause → Type 0
+IsLeftOpen limits m goal (cause.Conflicts n) =
+    PassesFirst limits m goal None × (n ≡ limits.conflicts) × SpendsBudget m.signature (refuting_sentence m goal) n
+IsLeftOpen limits m goal c = PassesFirst limits m goal (Some c)
+
+-- The answer to a goal under limits.
+abbrev pub IsDecision : Ceilings → ModelTree → Goal → Decision → Type 0
+IsDecision limits m goal (Holds proof) =
+    PassesFirst limits m goal None × HasNone m goal × Refutes m.signature (refuting_sentence m goal) proof
+IsDecision limits m goal (Fails shown) = PassesFirst limits m goal None × IsFailing limits m goal shown
+IsDecision limits m goal (Undecided c) = IsLeftOpen limits m goal c
+
+-- whether some structure satisfies the axioms, decided as a sentence: their conjunction
+abbrev pub AreAxiomsDecided : Ceilings → ModelTree → Axioms → Type 0
+AreAxiomsDecided limits m axioms.Consistent =
+    Passes limits m.signature (all_of m.axioms) None × AxiomsAre m axioms.Consistent
+AreAxiomsDecided limits m axioms.Inconsistent =
+    Passes limits m.signature (all_of m.axioms) None × AxiomsAre m axioms.Inconsistent
+AreAxiomsDecided limits m (axioms.Undecided c) =
+    (passed : Passed) × (c ≡ cause_of passed) × IsOver limits m.signature (all_of m.axioms) passed

@@ -1,0 +1,5 @@
+pub mod GoalPassing
+pub mod GoalDecisions
+pub mod WithConstants
+pub mod Laws
+pub mod Restricted

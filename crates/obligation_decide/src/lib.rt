@@ -1,0 +1,127 @@
+//! Decides goals: whether a path, begun where induction allows it, can abort or break a conjecture.
+//!
+//! The structures from which a goal has a counterexample are those that satisfy its refuting sentence. A model of that
+//! sentence has constants in the place of its existentials, and these are the elements of the path's havocs and the
+//! values of the conjecture's variables: the counterexample is read off, and nothing is searched.
+#![tactic(auto)]
+
+mod axioms;
+mod decision;
+mod laws;
+mod parts;
+mod walk;
+
+ghost use Rattle.std.specs.Prelude.{◌≡◌, [], IfOk};
+ghost use Rattle.std.specs.List.{AllByRecursion};
+ghost use Rattle.fol_sig.specs.Symbols.{symbols};
+ghost use Rattle.fol_sig.specs.Strata.{IsStrata};
+ghost use Rattle.fol_formula.specs.Fits.{FitsForm};
+ghost use Rattle.fol_formula.specs.Fragments.{IsEa};
+ghost use Rattle.rml_command.specs.Goals.{IsGoal};
+ghost use Rattle.ea_decide.specs.Passing.{ceilings};
+ghost use Rattle.obligation_decide.specs.GoalPassing.{cause_of as named_cause};
+ghost use Rattle.obligation_decide.specs.GoalDecisions.{IsDecision};
+ghost use Rattle.obligation_decide.specs.Restricted.{IsRefutingWith, IsSentenceDecision, IsRestrictedDecision};
+
+pub use axioms::decide_axioms;
+use base::{Mem, Refused};
+pub use decision::Decision;
+use ea_decide::{Decided, Passed};
+use fol_formula::{Ea, Sentence};
+use fol_sig::Strata;
+pub use laws::passing_law;
+use lrat_log::Limits;
+use parts::restricted;
+use rml_command::{Checked, Goal};
+use rml_report::Cause;
+use std::alloc::{AllocError, Global};
+use walk::read_counterexample;
+
+/// Decides a goal of the model under limits, which are looked at in their order: formula, ground terms, ground size,
+/// conflicts.
+pub fn decide(
+    alloc: Global,
+    checked: &Checked,
+    strata: &Strata,
+    goal: &Goal,
+    limits: &Limits,
+) -> Mem<Decision>
+    requires strata { IsStrata (symbols checked.now.signature) strata.now }
+    requires goal { IsGoal checked.now goal.now }
+    ensures { IfOk result (IsDecision (ceilings limits.now) checked.now goal.now) }
+{
+    rml_wp::sentence_law();
+    let decision = decide_where(alloc, checked, strata, goal, &[], limits)?;
+    Ok(decision)
+}
+
+/// Decides whether a goal of the model has a counterexample in a structure that satisfies further sentences, under the
+/// same limits.
+pub fn decide_where(
+    alloc: Global,
+    checked: &Checked,
+    strata: &Strata,
+    goal: &Goal,
+    more: &[Sentence],
+    limits: &Limits,
+) -> Mem<Decision>
+    requires strata { IsStrata (symbols checked.now.signature) strata.now }
+    requires goal { IsGoal checked.now goal.now }
+    requires fragment { AllByRecursion IsEa more.now }
+    requires fits { AllByRecursion (FitsForm (symbols checked.now.signature) []) more.now }
+    ensures { IfOk result (IsRestrictedDecision (ceilings limits.now) checked.now more.now goal.now) }
+{
+    rml_wp::sentence_law();
+    rml_wp::refuting_law();
+    let _checked = checked.model();
+    match restricted(alloc, checked, goal, more) {
+        Ok(sentence) => {
+            let decision = decide_sentence(alloc, checked, strata, goal, &sentence, limits)?;
+            Ok(decision)
+        }
+        Err(Refused::NoMemory) => Err(AllocError),
+        Err(Refused::For(_)) => Ok(Decision::Undecided(Cause::Formula)),
+    }
+}
+
+// By its refuting sentence, which may have further parts.
+fn decide_sentence(
+    alloc: Global,
+    checked: &Checked,
+    strata: &Strata,
+    goal: &Goal,
+    sentence: &Ea,
+    limits: &Limits,
+) -> Mem<Decision>
+    requires strata { IsStrata (symbols checked.now.signature) strata.now }
+    requires goal { IsGoal checked.now goal.now }
+    requires sentence { IsRefutingWith checked.now goal.now sentence.now }
+    ensures { IfOk result (IsSentenceDecision (ceilings limits.now) checked.now sentence.now goal.now) }
+{
+    rml_wp::sentence_law();
+    witness::sentence_law();
+    skolem::exactness();
+    fol_nnf::exactness();
+    let signature = checked.model().signature();
+    // The limits are read here, so that their ranges are known.
+    let limits = *limits;
+    match ea_decide::decide(alloc, signature, strata, sentence, &limits)? {
+        Decided::Refuted(proof) => Ok(Decision::Holds(proof)),
+        Decided::Satisfied(model) => {
+            let shown = read_counterexample(alloc, checked, goal, sentence, model)?;
+            Ok(Decision::Fails(shown))
+        }
+        Decided::Over(passed) => Ok(Decision::Undecided(cause_of(passed))),
+    }
+}
+
+// A limit, as a report names it.
+fn cause_of(passed: Passed) -> Cause
+    ensures { result ≡ named_cause passed }
+{
+    match passed {
+        Passed::Terms(count) => Cause::Terms(count),
+        Passed::GroundSize(count) => Cause::Ground(count),
+        Passed::Conflicts(budget) => Cause::Conflicts(budget),
+    }
+}

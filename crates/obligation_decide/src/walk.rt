@@ -1,0 +1,71 @@
+// From a model of a refuting sentence with constants to the counterexample that it is. Nothing is searched.
+ghost use Rattle.std.specs.Prelude.{◌≡◌, ℕ, ◌+◌, ◌<◌, ◌^◌, [], length, slice_index, IfOk};
+ghost use Rattle.fol_sig.specs.Tables.{fun_at};
+ghost use Rattle.fol_sig.specs.Symbols.{symbols};
+ghost use Rattle.fol_sig.specs.Constants.{reduct};
+ghost use Rattle.skolem.specs.Laws.{HasConstant};
+ghost use Rattle.rml_command.specs.Goals.{IsGoal, IsCounterexample};
+ghost use Rattle.obligation_decide.specs.Restricted.{IsRefutingWith};
+ghost use Rattle.obligation_decide.specs.WithConstants.{constant_sorts, HoldsWithConstants};
+
+use base::Mem;
+use fol_formula::Ea;
+use fol_sig::{FunId, Structure};
+use rml_command::{Checked, Goal};
+use rml_exec::{Counterexample, Trace};
+use rml_wp::read_witness;
+use std::alloc::Global;
+
+/// The counterexample of a goal that a model of its refuting sentence is, with constants in the place of the
+/// existentials: the elements and values stand among those of the constants, and the structure is the model without
+/// them.
+pub fn read_counterexample(
+    alloc: Global,
+    checked: &Checked,
+    goal: &Goal,
+    sentence: &Ea,
+    model: Structure,
+) -> Mem<Counterexample>
+    requires goal { IsGoal checked.now goal.now }
+    requires sentence { IsRefutingWith checked.now goal.now sentence.now }
+    requires model { HoldsWithConstants checked.now.signature sentence.now model }
+    requires few { length checked.now.signature.functions + length (constant_sorts sentence.now) < 2 ^ 32 }
+    ensures goal { IfOk result (λ shown. shown.goal ≡ goal.now) }
+    ensures path { IfOk result (λ shown. shown.trace.path ≡ goal.now.path) }
+    ensures refutes { IfOk result (λ s. IsCounterexample checked.now goal.now s.structure s.trace.havoc s.values) }
+    ensures structure { IfOk result (λ s. s.structure ≡ reduct (symbols checked.now.signature) model) }
+{
+    skolem::witnesses();
+    rml_wp::refuting_law();
+    witness::sentence_law();
+    witness::counterexample_law();
+    let signature = checked.model().signature();
+    let functions = signature.function_count();
+    let count = sentence.sentence().formula().existentials() as u32;
+    let constants = constants(alloc, &model, functions, count)?;
+    let witness = read_witness(alloc, checked, goal, &constants)?;
+    let mut structure = model;
+    structure.restrict(signature);
+    Ok(Counterexample {
+        structure,
+        trace: Trace {
+            path: goal.path,
+            havoc: witness.havoc,
+        },
+        goal: *goal,
+        values: witness.values,
+    })
+}
+
+// The values of so many functions without arguments, behind these functions.
+fn constants(alloc: Global, model: &Structure, functions: u32, count: u32) -> Mem<Vec<u32>>
+    requires few { functions + count < 2 ^ 32 }
+    requires there { (i : ℕ) → i < count → HasConstant model.now (functions + i) }
+    ensures { IfOk result (λ v. (i : ℕ) → i < count → slice_index v.items i ≡ fun_at model.now (functions + i) []) }
+{
+    let mut values = Vec::with_capacity(alloc, count as usize)?;
+    for i in 0..count {
+        values.push(model.fun(FunId(functions + i), &[]))?;
+    }
+    Ok(values)
+}
