@@ -2,5 +2,4 @@ pub mod Words
 pub mod TableText
 pub mod ReportText
 pub mod Reports
-pub mod Causes
 pub mod Laws

@@ -48,7 +48,6 @@ stopped_text sort size cause = labelled (codes "stopped ") sort (codes " ") ++ d
 
 abbrev pub least_text : Names → Least → List ℕ
 least_text names least.Yes = codes "yes"
-least_text names least.NotSought = codes "not sought"
 least_text names (least.Stopped sort size cause) = stopped_text (name_at names.sorts sort.0) size cause
 
 unfoldable pub least_line : Names → Least → List ℕ

@@ -1,4 +1,5 @@
--- What a report says of a model, apart from causes.
+-- What a report says of a model. When a question may be left open, and for which cause, is for the layers that decide
+-- it.
 use Rattle.std.specs.Prelude.{◌≡◌, ℕ, ◌<◌, Bool, true, false, if◌then◌else◌, List, length, map}
 use Rattle.std.specs.List.{AllByRecursion, list_all, list_any}
 use Rattle.fol_sig.specs.Tables.{Tables}

@@ -21,7 +21,6 @@ cause_text cause.Formula = codes "formula"
 cause_text (cause.Terms n) = codes "terms " ++ decimal n
 cause_text (cause.Ground n) = codes "ground " ++ decimal n
 cause_text (cause.Conflicts n) = codes "conflicts " ++ decimal n
-cause_text cause.Later = codes "later"
 
 -- a blank and each number
 unfoldable pub numbers_text : List ℕ → List ℕ

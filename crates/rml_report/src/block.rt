@@ -50,7 +50,6 @@ fn push_least(alloc: Global, out: &mut Vec<u8>, names: &Names, least: &Least) ->
 {
     match least {
         Least::Yes => push_text(out, "yes"),
-        Least::NotSought => push_text(out, "not sought"),
         Least::Stopped { sort, size, cause } => push_stopped(
             alloc, out, names, *sort, *size, cause,
         ),

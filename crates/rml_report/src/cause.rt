@@ -2,8 +2,7 @@
 use fol_sig::Sort;
 
 /// Why a question was left open: its formula is too large, the counted ground terms or the counted
-/// ground size exceed their limit, or the budget of conflicts is spent. `Later` stands where a model is
-/// not decided yet.
+/// ground size exceed their limit, or the budget of conflicts is spent.
 #[derive(Clone, Copy, Debug, PartialEq, Eq)]
 pub enum Cause {
     Formula,
@@ -13,15 +12,12 @@ pub enum Cause {
     Ground(u64),
     /// The budget.
     Conflicts(u64),
-    Later,
 }
 
 /// Whether no counterexample of the goal has smaller sizes, the sorts taken in order.
 #[derive(Clone, Copy, Debug, PartialEq, Eq)]
 pub enum Least {
     Yes,
-    /// No smaller one was looked for.
-    NotSought,
     /// Whether this sort may have at most `size` elements was left open.
     Stopped { sort: Sort, size: u64, cause: Cause },
 }

@@ -76,7 +76,6 @@ pub fn push_cause(alloc: Global, out: &mut Vec<u8>, cause: &Cause) -> Mem<()>
         Cause::Terms(n) => push_counted(alloc, out, "terms ", *n),
         Cause::Ground(n) => push_counted(alloc, out, "ground ", *n),
         Cause::Conflicts(n) => push_counted(alloc, out, "conflicts ", *n),
-        Cause::Later => push_text(out, "later"),
     }
 }
 
