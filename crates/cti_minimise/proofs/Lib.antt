@@ -1,0 +1,5 @@
+mod Pigeons
+mod BoundTruth
+mod BoundFits
+mod Bounded
+mod Searching

@@ -1,0 +1,4 @@
+pub mod SizeBounds
+pub mod Minimal
+pub mod Steps
+pub mod Laws
