@@ -1,4 +1,0 @@
-pub mod Decided
-pub mod Answers
-pub mod Seeking
-pub mod Laws

@@ -1,0 +1,4 @@
+pub mod Groups
+pub mod GoalLists
+pub mod Completing
+pub mod Right

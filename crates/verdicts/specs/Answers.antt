@@ -1,0 +1,91 @@
+-- What is answered of goals, and the report that these answers make.
+use Rattle.std.specs.Prelude.{◌≡◌, ℕ, List, [], ◌∷◌, length, map, Option, Some, None}
+use Rattle.std.specs.List.{AllByRecursion}
+use Rattle.rml_command.specs.Models.{ModelTree}
+use Rattle.rml_command.specs.Goals.{stage_paths, groups_of, group_goals, HasNone}
+use Rattle.rml_command.specs.Goals as goals
+use Rattle.rml_command.specs.declared.goal.Goal.{Goal}
+use Rattle.rml_exec.specs.declared.trace.Counterexample.{Counterexample}
+use Rattle.rml_report.specs.declared.cause.Cause.{Cause}
+use Rattle.rml_report.specs.declared.cause.Least.{Least}
+use Rattle.rml_report.specs.declared.report.Answer.{Answer}
+use Rattle.rml_report.specs.declared.report.Answer.TheVariants as answer
+use Rattle.rml_report.specs.declared.report.Group.{Group}
+use Rattle.rml_report.specs.declared.report.Report.{Report}
+use Rattle.rml_report.specs.Reports.{head_of, verdict_of}
+use Rattle.ea_decide.specs.Passing.{Ceilings}
+use Rattle.obligation_decide.specs.GoalPassing.{PassesFirst}
+use Rattle.obligation_decide.specs.GoalDecisions.{IsFailing, IsLeftOpen, AreAxiomsDecided}
+use Rattle.cti_minimise.specs.Minimal.{IsLeast}
+
+-- a counterexample, and whether its sizes are least
+pub record Failure : Type 0 where
+  pub shown : Counterexample
+  pub least : Least
+
+-- the answer to a goal: it has no counterexample; or this is one; or it was left open
+pub data GoalAnswer : Type 0 where
+  safe : GoalAnswer
+  failing : Failure → GoalAnswer
+  left_open : Cause → GoalAnswer
+
+-- what the answer says is so, and a goal is left open exactly where it passes a limit or spends the budget of conflicts
+abbrev pub IsGoalAnswer : Ceilings → ModelTree → Goal → GoalAnswer → Type 0
+IsGoalAnswer limits m goal safe = PassesFirst limits m goal None × HasNone m goal
+IsGoalAnswer limits m goal (failing f) =
+    PassesFirst limits m goal None × IsFailing limits m goal f.shown × IsLeast limits m goal f.shown.structure f.least
+IsGoalAnswer limits m goal (left_open c) = IsLeftOpen limits m goal c
+
+-- Right answers to goals in order, as far as the first that fails: the goals behind it are not decided.
+abbrev pub AreAnswers : Ceilings → ModelTree → List Goal → List GoalAnswer → Type 0
+AreAnswers limits m [] [] = Unit {0}
+AreAnswers limits m [] (a ∷ more) = ⊥
+AreAnswers limits m (goal ∷ rest) [] = ⊥
+AreAnswers limits m (goal ∷ rest) (safe ∷ more) = IsGoalAnswer limits m goal safe × AreAnswers limits m rest more
+AreAnswers limits m (goal ∷ rest) (failing f ∷ more) = IsGoalAnswer limits m goal (failing f) × (more ≡ [])
+AreAnswers limits m (goal ∷ rest) (left_open c ∷ more) =
+    IsGoalAnswer limits m goal (left_open c) × AreAnswers limits m rest more
+
+-- that of the first goal that fails
+abbrev pub first_failing : List GoalAnswer → Option Failure
+first_failing [] = None
+first_failing (safe ∷ more) = first_failing more
+first_failing (failing f ∷ more) = Some f
+first_failing (left_open c ∷ more) = first_failing more
+
+-- the path and the cause of the first goal that is left open, else `holds`
+abbrev pub open_or_holds : List Goal → List GoalAnswer → Answer
+open_or_holds [] answers = answer.Holds
+open_or_holds (goal ∷ rest) [] = answer.Holds
+open_or_holds (goal ∷ rest) (safe ∷ more) = open_or_holds rest more
+open_or_holds (goal ∷ rest) (failing f ∷ more) = answer.Holds
+open_or_holds (goal ∷ rest) (left_open c ∷ more) = answer.Undecided goal.path c
+
+-- this failure is shown of a block with so many paths; where there is none, the other answer stands
+abbrev pub fails_or : ℕ → Option Failure → Answer → Answer
+fails_or paths None other = other
+fails_or paths (Some f) other = answer.Fails paths f.least f.shown
+
+-- What is printed of goals of a block with so many paths: the first that fails, else the first that is left open, else
+-- that they hold.
+abbrev pub printed : ℕ → List Goal → List GoalAnswer → Answer
+printed paths goals answers = fails_or paths (first_failing answers) (open_or_holds goals answers)
+
+-- Right answers to these goals make this answer.
+pub record IsAnswerTo (limits : Ceilings) (m : ModelTree) (paths : ℕ) (goals : List Goal) (a : Answer) : Type 0 where
+  pub answers : List GoalAnswer
+  pub right : AreAnswers limits m goals answers
+  pub is : a ≡ printed paths goals answers
+
+abbrev pub IsGroupAnswer : Ceilings → ModelTree → goals.Group → Answer → Type 0
+IsGroupAnswer limits m group a = IsAnswerTo limits m (length (stage_paths m group.stage)) (group_goals m group) a
+
+abbrev pub IsGroupNow : Ceilings → ModelTree → Group → Type 0
+IsGroupNow limits m g = IsGroupAnswer limits m (head_of g) g.answer
+
+-- A report under limits: all groups of the model, in order and once each, each answered as above.
+pub record IsReport (limits : Ceilings) (m : ModelTree) (report : Report) : Type 0 where
+  pub groups : map head_of report.groups ≡ groups_of m
+  pub answers : AllByRecursion (IsGroupNow limits m) report.groups
+  pub verdict : report.verdict ≡ verdict_of report.groups
+  pub axioms : AreAxiomsDecided limits m report.axioms

@@ -1,0 +1,105 @@
+// The answer to a group: its goals are decided in order, up to the first that fails.
+ghost use Rattle.std.specs.Prelude.{◌≡◌, length, IfOk};
+ghost use Rattle.std.specs.List.{AllByRecursion};
+ghost use Rattle.fol_sig.specs.Symbols.{symbols};
+ghost use Rattle.fol_sig.specs.Strata.{IsStrata};
+ghost use Rattle.rml_command.specs.Goals.{HasAbout, IsGoal, stage_paths};
+ghost use Rattle.rml_report.specs.Reports.{head_of};
+ghost use Rattle.ea_decide.specs.Passing.{ceilings};
+ghost use Rattle.verdicts.specs.Answers.{IsAnswerTo, IsGroupNow};
+ghost use Rattle.verdicts.specs.Earliest.{earlier_of, answer_of};
+
+use crate::listing::group_goals;
+use base::Mem;
+use cti_minimise::least;
+use fol_sig::Strata;
+use lrat_log::Limits;
+use obligation_decide::{Decision, decide};
+use rml_command::{About, Checked, Goal, Stage};
+use rml_report::{Answer, Cause, Group};
+use std::alloc::Global;
+
+// A goal that was left open, by its path.
+#[derive(Clone, Copy)]
+struct OpenGoal {
+    path: u32,
+    cause: Cause,
+}
+
+// The first open goal, where one more is open.
+fn earlier_of(earliest: Option<OpenGoal>, next: OpenGoal) -> Option<OpenGoal>
+    ensures { result ≡ earlier_of earliest next }
+{
+    match earliest {
+        Some(first) => Some(first),
+        None => Some(next),
+    }
+}
+
+// The answer where no goal fails, by the first that is open.
+fn answer_of(earliest: Option<OpenGoal>) -> Answer
+    ensures { result ≡ answer_of earliest }
+{
+    match earliest {
+        Some(OpenGoal { path, cause }) => Answer::Undecided { path, cause },
+        None => Answer::Holds,
+    }
+}
+
+// The answer to some goals of a block with so many paths.
+fn decide_goals(
+    alloc: Global,
+    checked: &Checked,
+    strata: &Strata,
+    limits: &Limits,
+    goals: &[Goal],
+    paths: u32,
+) -> Mem<Answer>
+    requires strata { IsStrata (symbols checked.now.signature) strata.now }
+    requires goals { AllByRecursion (IsGoal checked.now) goals.now }
+    ensures { IfOk result (IsAnswerTo (ceilings limits.now) checked.now paths goals.now) }
+{
+    let mut earliest = None;
+    for goal in goals {
+        match decide(alloc, checked, strata, goal, limits)? {
+            Decision::Holds(_) => {}
+            Decision::Fails(shown) => {
+                let (shown, least) = least(alloc, checked, strata, goal, shown, limits)?;
+                return Ok(Answer::Fails {
+                    paths,
+                    least,
+                    shown,
+                });
+            }
+            Decision::Undecided(cause) => {
+                let path = goal.path;
+                earliest = earlier_of(earliest, OpenGoal { path, cause });
+            }
+        }
+    }
+    Ok(answer_of(earliest))
+}
+
+/// A group with its answer.
+pub fn decide_group(
+    alloc: Global,
+    checked: &Checked,
+    strata: &Strata,
+    limits: &Limits,
+    stage: Stage,
+    about: About,
+) -> Mem<Group>
+    requires strata { IsStrata (symbols checked.now.signature) strata.now }
+    requires about { HasAbout checked.now stage about }
+    ensures now { IfOk result (IsGroupNow (ceilings limits.now) checked.now) }
+    ensures head { IfOk result (λ g. head_of g ≡ record { stage = stage; about = about }) }
+{
+    let goals = group_goals(alloc, checked, stage, about)?;
+    let paths = checked.stage_paths(stage).len() as u32;
+    let answer = decide_goals(alloc, checked, strata, limits, &goals, paths)?;
+    Ok(Group {
+        stage,
+        about,
+        answer,
+    })
+}
