@@ -1,0 +1,107 @@
+//! The clauses of a goal, for other solvers, and the decision of a single goal.
+//!
+//! The clauses are those of the goal's refuting sentence, so they have a model exactly where the goal has a
+//! counterexample. No solver runs for them.
+#![tactic(auto)]
+
+ghost use Rattle.std.specs.Prelude.{◌≡◌, false, IfOk};
+ghost use Rattle.fol_sig.specs.Symbols.{symbols};
+ghost use Rattle.fol_sig.specs.Strata.{IsStrata};
+ghost use Rattle.rml_command.specs.Goals.{IsGoal};
+ghost use Rattle.ea_decide.specs.Passing.{ceilings};
+ghost use Rattle.rml_wp.specs.Preconditions.{goal_passes_limit};
+ghost use Rattle.obligation_decide.specs.GoalPassing.{cause_of as named_cause, refuting_sentence};
+ghost use Rattle.obligation_decide.specs.GoalDecisions.{IsDecision};
+ghost use Rattle.goal_clauses.specs.GoalClauses.{AreGoalClauses};
+
+use base::{Mem, Refused};
+use cnf_base::Cnf;
+use ea_decide::{Clauses, Passed};
+use fol_formula::Ea;
+use fol_sig::{Strata, strata};
+use lrat_log::Limits;
+use obligation_decide::Decision;
+use rml_command::{Checked, Goal};
+use rml_report::Cause;
+use rml_wp::refuting;
+use std::alloc::{AllocError, Global};
+
+/// The clauses of a goal.
+#[derive(Drop)]
+pub enum GoalClauses {
+    Written(Cnf),
+    /// The first limit that is passed: formula, ground terms, ground size.
+    Over(Cause),
+}
+
+// An order of the sorts of a checked model: its functions stand on no cycle.
+fn strata_of(alloc: Global, checked: &Checked) -> Mem<Strata>
+    ensures { IfOk result (IsStrata (symbols checked.now.signature)) }
+{
+    match strata(alloc, checked.model().signature()) {
+        Ok(strata) => Ok(strata),
+        Err(Refused::NoMemory) => Err(AllocError),
+        Err(Refused::For(_)) => unreachable!(),
+    }
+}
+
+// A limit, as a report names it.
+fn cause_of(passed: Passed) -> Cause
+    ensures { result ≡ named_cause passed }
+{
+    match passed {
+        Passed::Terms(count) => Cause::Terms(count),
+        Passed::GroundSize(count) => Cause::Ground(count),
+        Passed::Conflicts(budget) => Cause::Conflicts(budget),
+    }
+}
+
+/// The clauses of a goal of the model under the limits of formulas, ground terms and ground size, which are looked at
+/// in this order: the very ones that a decision of the goal searches.
+pub fn clauses_of_goal(
+    alloc: Global,
+    checked: &Checked,
+    goal: &Goal,
+    limits: &Limits,
+) -> Mem<GoalClauses>
+    requires { IsGoal checked.now goal.now }
+    ensures { IfOk result (AreGoalClauses (ceilings limits.now) checked.now goal.now) }
+{
+    match refuting(alloc, checked, goal) {
+        Ok(sentence) => clauses_of_sentence(alloc, checked, goal, &sentence, limits),
+        Err(Refused::NoMemory) => Err(AllocError),
+        Err(Refused::For(_)) => Ok(GoalClauses::Over(Cause::Formula)),
+    }
+}
+
+// By its refuting sentence.
+fn clauses_of_sentence(
+    alloc: Global,
+    checked: &Checked,
+    goal: &Goal,
+    sentence: &Ea,
+    limits: &Limits,
+) -> Mem<GoalClauses>
+    requires goal { IsGoal checked.now goal.now }
+    requires sentence { sentence.now ≡ refuting_sentence checked.now goal.now }
+    requires within { goal_passes_limit checked.now goal.now ≡ false }
+    ensures { IfOk result (AreGoalClauses (ceilings limits.now) checked.now goal.now) }
+{
+    rml_wp::sentence_law();
+    let strata = strata_of(alloc, checked)?;
+    let signature = checked.model().signature();
+    match ea_decide::clauses_of(alloc, signature, &strata, sentence, limits)? {
+        Clauses::Written(cnf) => Ok(GoalClauses::Written(cnf)),
+        Clauses::Over(passed) => Ok(GoalClauses::Over(cause_of(passed))),
+    }
+}
+
+/// Decides a single goal of the model.
+pub fn decide_goal(alloc: Global, checked: &Checked, goal: &Goal, limits: &Limits) -> Mem<Decision>
+    requires { IsGoal checked.now goal.now }
+    ensures { IfOk result (IsDecision (ceilings limits.now) checked.now goal.now) }
+{
+    let strata = strata_of(alloc, checked)?;
+    let decision = obligation_decide::decide(alloc, checked, &strata, goal, limits)?;
+    Ok(decision)
+}
