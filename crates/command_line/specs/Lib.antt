@@ -1,2 +1,4 @@
+pub mod Numbers
+pub mod Asking
 pub mod Lines
 pub mod Rows

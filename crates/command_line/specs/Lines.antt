@@ -1,45 +1,109 @@
 -- The command lines of the program: a command's word first, and behind it words that `clap` takes for that command.
-use Rattle.std.specs.Prelude.{◌==◌, true, List, [], ◌∷◌, length, Option, Some, None, option_map, option_and_then, codes, if◌then◌else◌}
+use Rattle.std.specs.Prelude.{ℕ, ◌==◌, true, List, [], ◌∷◌, length, Option, Some, None, option_map, option_and_then, codes, if◌then◌else◌}
 use Rattle.std.specs.Str.{bytes_eq}
 use Rattle.clap.specs.declared.builder.action.ArgAction.TheVariants.{Set}
 use Rattle.clap.specs.Words.{App, Row, Rule, Text, new_app, new_rule, with_rule, fault_of, matches_of, first_of}
+use Rattle.command_line.specs.Numbers.{number_option, required_number, number_in, number_of}
+use Rattle.command_line.specs.Asking.{default_asked}
+use Rattle.command_line.specs.declared.request.Asked.{Asked}
+use Rattle.command_line.specs.declared.request.Emission.{Emission}
+use Rattle.command_line.specs.declared.request.What.{What}
+use Rattle.command_line.specs.declared.request.What.TheVariants.{Cnf, Lrat}
 use Rattle.command_line.specs.declared.request.Request.{Request}
 use Rattle.command_line.specs.declared.request.Request.TheVariants as request
 
 -- a command line: what it asks for, with the names of its files
 pub data Line : Type 0 where
-  check : Text → Line
+  check : Text → Asked → Line
   lrat : Text → Text → Line
+  emit : Text → Emission → Line
+  sample : ℕ → Line
 
 abbrev pub request_line : Request → Line
-request_line (request.Check file) = check file.now
+request_line (request.Check file asked) = check file.now asked
 request_line (request.Lrat formula log) = lrat formula.now log.now
+request_line (request.Emit file emission) = emit file.now emission
+request_line (request.Sample n) = sample n
 
 -- an argument that has to be there
 abbrev pub required_rule : Text → Rule
 required_rule id = record (new_rule id) { action = Some Set; required = true }
 
+-- the options of a decision
+abbrev pub with_limits : App → App
+with_limits app = with_rule (with_rule (with_rule app (number_option (codes "terms") 1 100000)) (number_option (codes "ground") 1 50000000))
+    (number_option (codes "conflicts") 1 10000000)
+
 -- the commands as `clap` knows them
 abbrev pub check_app : App
-check_app = with_rule (new_app (codes "check")) (required_rule (codes "FILE"))
+check_app = with_limits (with_rule (new_app (codes "check")) (required_rule (codes "FILE")))
 
 abbrev pub lrat_app : App
 lrat_app = with_rule (with_rule (new_app (codes "lrat")) (required_rule (codes "CNF"))) (required_rule (codes "LOG"))
+
+abbrev pub emit_app : App
+emit_app = with_limits (with_rule (with_rule (with_rule (new_app (codes "emit")) (required_rule (codes "FILE")))
+    (required_number (codes "GOAL") 1 1000000000)) (required_rule (codes "WHAT")))
+
+abbrev pub sample_app : App
+sample_app = with_rule (new_app (codes "sample")) (required_number (codes "N") 0 40)
 
 -- what `clap` makes of the words for a command: its arguments with their values, where it has nothing against the words
 abbrev pub matched : App → List Text → Option (List Row)
 matched app words = if length (fault_of app words) == 0 then Some (matches_of app words) else None
 
+-- what a decision may spend, by the options; what is left out has its default
+abbrev pub asked_by : List Row → Option Asked
+asked_by rows =
+    option_and_then (λ terms. option_and_then (λ size. option_map (λ conflicts. record { terms = terms; ground_size = size; conflicts = conflicts })
+    (number_of 1 10000000 default_asked.conflicts (first_of (codes "conflicts") rows)))
+    (number_of 1 50000000 default_asked.ground_size (first_of (codes "ground") rows)))
+    (number_of 1 100000 default_asked.terms (first_of (codes "terms") rows))
+
 abbrev pub check_by : Option (List Row) → Option Line
-check_by rows = option_and_then (λ rows. option_map check (first_of (codes "FILE") rows)) rows
+check_by rows = option_and_then (λ rows. option_and_then (λ file. option_map (check file) (asked_by rows)) (first_of (codes "FILE") rows)) rows
 
 abbrev pub lrat_by : Option (List Row) → Option Line
 lrat_by rows = option_and_then (λ rows. option_and_then (λ formula. option_map (lrat formula) (first_of (codes "LOG") rows)) (first_of (codes "CNF") rows)) rows
+
+-- what is to be written, by its word
+abbrev pub what_of : Text → Option What
+what_of word =
+    if bytes_eq word (codes "cnf") then Some Cnf
+    else if bytes_eq word (codes "lrat") then Some Lrat
+    else None
+
+abbrev pub emission_by : List Row → Option Emission
+emission_by rows =
+    option_and_then (λ goal. option_and_then (λ what. option_map (λ asked. record { goal = goal; what = what; limits = asked }) (asked_by rows))
+    (option_and_then what_of (first_of (codes "WHAT") rows)))
+    (option_and_then (number_in 1 1000000000) (first_of (codes "GOAL") rows))
+
+abbrev pub emit_by : Option (List Row) → Option Line
+emit_by rows = option_and_then (λ rows. option_and_then (λ file. option_map (emit file) (emission_by rows)) (first_of (codes "FILE") rows)) rows
+
+abbrev pub sample_by : Option (List Row) → Option Line
+sample_by rows = option_and_then (λ rows. option_map sample (option_and_then (number_in 0 40) (first_of (codes "N") rows))) rows
+
+-- what words ask for that begin with a command's word
+unfoldable pub check_line : List Text → Option Line
+check_line words = check_by (matched check_app words)
+
+unfoldable pub lrat_line : List Text → Option Line
+lrat_line words = lrat_by (matched lrat_app words)
+
+unfoldable pub emit_line : List Text → Option Line
+emit_line words = emit_by (matched emit_app words)
+
+unfoldable pub sample_line : List Text → Option Line
+sample_line words = sample_by (matched sample_app words)
 
 -- the first word is the command's
 abbrev pub line_of : List Text → Option Line
 line_of [] = None
 line_of (command ∷ words) =
-    if bytes_eq command (codes "check") then check_by (matched check_app (command ∷ words))
-    else if bytes_eq command (codes "lrat") then lrat_by (matched lrat_app (command ∷ words))
+    if bytes_eq command (codes "check") then check_line (command ∷ words)
+    else if bytes_eq command (codes "lrat") then lrat_line (command ∷ words)
+    else if bytes_eq command (codes "emit") then emit_line (command ∷ words)
+    else if bytes_eq command (codes "sample") then sample_line (command ∷ words)
     else None

@@ -1,6 +1,10 @@
 //! The words of the command line, read by `clap`.
 #![tactic(auto)]
 
+mod emit;
+mod number;
 mod request;
+mod sample;
+mod words;
 
-pub use request::{Request, read_words};
+pub use request::{Asked, Emission, Request, What, default_asked, read_words};

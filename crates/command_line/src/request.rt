@@ -1,28 +1,75 @@
 // What a list of words asks for.
-ghost use Rattle.std.specs.Prelude.{◌≡◌, true, false, map, string_bytes, IfOk, IfSome, IfNone, option_map, codes};
-ghost use Rattle.std.specs.Str.{bytes_eq};
-ghost use Rattle.clap.specs.Words.{app_of, rule_of, first_of, is_simple_and_free};
-ghost use Rattle.command_line.specs.Lines.{required_rule, check_app, lrat_app, matched, check_by, lrat_by, line_of, request_line};
+ghost use Rattle.std.specs.Prelude.{◌≡◌, map, string_bytes, IfOk, IfSome, option_map};
+ghost use Rattle.clap.specs.Words.{app_of};
+ghost use Rattle.command_line.specs.Lines.{check_app, lrat_app, with_limits, asked_by, check_by, lrat_by, check_line, lrat_line, line_of, request_line};
+ghost use Rattle.command_line.specs.Asking.{default_asked, IsInRange, HasRanges};
 ghost use Rattle.command_line.specs.Rows.{rows_in};
 
+use crate::emit::emit;
+use crate::number::{number_of, number_option};
+use crate::sample::sample;
+use crate::words::{is_word, matches, required, value};
 use base::Mem;
-use clap::error::ErrorKind;
-use clap::{Arg, ArgAction, ArgMatches, Command};
-use std::alloc::{AllocError, Global};
+use clap::{ArgMatches, Command};
+use std::alloc::Global;
+
+/// What a decision may spend: ground terms (1 to 100,000), the size of ground formulas (1 to 50,000,000), and learnt
+/// clauses (1 to 10,000,000).
+#[derive(Clone, Copy, Debug)]
+pub struct Asked {
+    pub terms: u64,
+    pub ground_size: u64,
+    pub conflicts: u64,
+}
+
+/// What stands where no option is given: 400 ground terms, ground formulas of size 2,000,000, and 100,000 learnt
+/// clauses.
+pub fn default_asked() -> Asked
+    ensures value { result ≡ default_asked }
+    ensures ranges { IsInRange result }
+{
+    Asked {
+        terms: 400,
+        ground_size: 2_000_000,
+        conflicts: 100_000,
+    }
+}
+
+/// What is written of a goal.
+#[derive(Clone, Copy, Debug)]
+pub enum What {
+    /// `cnf`: its clauses.
+    Cnf,
+    /// `lrat`: the log that refutes them.
+    Lrat,
+}
+
+/// What is to be written: of which goal (1 to 1,000,000,000), what, and what a decision may spend.
+#[derive(Clone, Copy, Debug)]
+pub struct Emission {
+    pub goal: u64,
+    pub what: What,
+    pub limits: Asked,
+}
 
 /// A command line of the program.
 #[derive(Clone, Copy, Debug)]
 pub enum Request<'a> {
     /// `check FILE`: the file of a model.
-    Check(&'a str),
+    Check(&'a str, Asked),
     /// `lrat CNF LOG`: the files of a formula and of a log.
     Lrat(&'a str, &'a str),
+    /// `emit FILE GOAL WHAT`: the file of a model, and what is to be written of it.
+    Emit(&'a str, Emission),
+    /// `sample N`: the size of a sample model, 0 to 40.
+    Sample(u64),
 }
 
 /// What the words behind the program's name ask for, or nothing where they are no command line. A call
 /// for help or version is none.
 pub fn read_words<'a>(alloc: Global, words: &'a [String]) -> Mem<Option<Request<'a>>>
-    ensures { IfOk result (λ r. option_map request_line r ≡ line_of (map (λ w. string_bytes w) words.entry.now)) }
+    ensures line { IfOk result (λ r. option_map request_line r ≡ line_of (map (λ w. string_bytes w) words.entry.now)) }
+    ensures ranges { IfOk result (λ r. IfSome r HasRanges) }
 {
     let [command, ..] = words else {
         return Ok(None);
@@ -31,29 +78,30 @@ pub fn read_words<'a>(alloc: Global, words: &'a [String]) -> Mem<Option<Request<
         check(alloc, words)
     } else if is_word(command.as_bytes(), "lrat") {
         lrat(alloc, words)
+    } else if is_word(command.as_bytes(), "emit") {
+        emit(alloc, words)
+    } else if is_word(command.as_bytes(), "sample") {
+        sample(alloc, words)
     } else {
         Ok(None)
     }
 }
 
-fn is_word(bytes: &[u8], word: &str) -> bool
-    ensures { result ≡ bytes_eq bytes.now word.now }
+/// A command with the options of a decision.
+pub fn with_limits<'a>(alloc: Global, command: Command<'a>) -> Mem<Command<'a>>
+    ensures { IfOk result (λ c. app_of c ≡ with_limits (app_of command.entry)) }
 {
-    bytes == word.as_bytes()
-}
-
-// An argument that has to be there.
-fn required<'a>(alloc: Global, id: &'a str) -> Arg<'a>
-    ensures rule { rule_of result ≡ required_rule id.entry.now }
-    ensures local { result.global ≡ false }
-{
-    Arg::new(alloc, id).required(true).action(ArgAction::Set)
+    let terms = command.arg(number_option(alloc, "terms", 1, 100000))?;
+    let ground = terms.arg(number_option(alloc, "ground", 1, 50000000))?;
+    let command = ground.arg(number_option(alloc, "conflicts", 1, 10000000))?;
+    Ok(command)
 }
 
 fn check_command<'a>(alloc: Global) -> Mem<Command<'a>>
     ensures { IfOk result (λ command. app_of command ≡ check_app) }
 {
-    let command = Command::new(alloc, "check").arg(required(alloc, "FILE"))?;
+    let file = Command::new(alloc, "check").arg(required(alloc, "FILE"))?;
+    let command = with_limits(alloc, file)?;
     Ok(command)
 }
 
@@ -65,40 +113,39 @@ fn lrat_command<'a>(alloc: Global) -> Mem<Command<'a>>
     Ok(command)
 }
 
-// What `clap` makes of the words for a command, or nothing where it refuses them.
-fn matches<'a>(command: Command<'a>, words: &'a [String]) -> Mem<Option<ArgMatches<'a>>>
-    requires { is_simple_and_free (app_of command) ≡ true }
-    ensures { IfOk result (λ r. option_map rows_in r ≡ matched (app_of command.entry) (map (λ w. string_bytes w) words.entry.now)) }
+/// What a decision may spend, by the options.
+pub fn limits(matches: &ArgMatches) -> Option<Asked>
+    ensures value { result ≡ asked_by (rows_in matches.now) }
+    ensures ranges { IfSome result IsInRange }
 {
-    match command.try_get_matches_from(words) {
-        Ok(matches) => Ok(Some(matches)),
-        Err(error) => match error.kind() {
-            ErrorKind::OutOfMemory => Err(AllocError),
-            _ => Ok(None),
-        },
-    }
-}
-
-fn value<'a>(matches: &ArgMatches<'a>, id: &str) -> Option<&'a str>
-    ensures { option_map (λ s. s.now) result ≡ first_of id.now (rows_in matches.now) }
-{
-    matches.get_str(id)
+    let terms = number_of(1, 100000, 400, value(matches, "terms"))?;
+    let ground_size = number_of(1, 50000000, 2000000, value(matches, "ground"))?;
+    let conflicts = number_of(1, 10000000, 100000, value(matches, "conflicts"))?;
+    Some(Asked {
+        terms,
+        ground_size,
+        conflicts,
+    })
 }
 
 fn check_of<'a>(matches: &Option<ArgMatches<'a>>) -> Option<Request<'a>>
-    ensures { option_map request_line result ≡ check_by (option_map rows_in matches.now) }
+    ensures line { option_map request_line result ≡ check_by (option_map rows_in matches.now) }
+    ensures ranges { IfSome result HasRanges }
 {
     match matches {
         None => None,
         Some(matches) => {
             let file = value(matches, "FILE")?;
-            Some(Request::Check(file))
+            let asked = limits(matches)?;
+            Some(Request::Check(file, asked))
         }
     }
 }
 
+#[tactic(auto, unfolding(crate::specs::Lines::check_line))]
 fn check<'a>(alloc: Global, words: &'a [String]) -> Mem<Option<Request<'a>>>
-    ensures { IfOk result (λ r. option_map request_line r ≡ check_by (matched check_app (map (λ w. string_bytes w) words.entry.now))) }
+    ensures line { IfOk result (λ r. option_map request_line r ≡ check_line (map (λ w. string_bytes w) words.entry.now)) }
+    ensures ranges { IfOk result (λ r. IfSome r HasRanges) }
 {
     let command = check_command(alloc)?;
     let matches = matches(command, words)?;
@@ -106,7 +153,8 @@ fn check<'a>(alloc: Global, words: &'a [String]) -> Mem<Option<Request<'a>>>
 }
 
 fn lrat_of<'a>(matches: &Option<ArgMatches<'a>>) -> Option<Request<'a>>
-    ensures { option_map request_line result ≡ lrat_by (option_map rows_in matches.now) }
+    ensures line { option_map request_line result ≡ lrat_by (option_map rows_in matches.now) }
+    ensures ranges { IfSome result HasRanges }
 {
     match matches {
         None => None,
@@ -118,8 +166,10 @@ fn lrat_of<'a>(matches: &Option<ArgMatches<'a>>) -> Option<Request<'a>>
     }
 }
 
+#[tactic(auto, unfolding(crate::specs::Lines::lrat_line))]
 fn lrat<'a>(alloc: Global, words: &'a [String]) -> Mem<Option<Request<'a>>>
-    ensures { IfOk result (λ r. option_map request_line r ≡ lrat_by (matched lrat_app (map (λ w. string_bytes w) words.entry.now))) }
+    ensures line { IfOk result (λ r. option_map request_line r ≡ lrat_line (map (λ w. string_bytes w) words.entry.now)) }
+    ensures ranges { IfOk result (λ r. IfSome r HasRanges) }
 {
     let command = lrat_command(alloc)?;
     let matches = matches(command, words)?;

@@ -1,6 +1,6 @@
 use Rattle.std.proofs.Common.{◌≡◌, ◌==◌, ◌&&◌, Bool, true, false, if◌then◌else◌, List, [], ◌∷◌, length, Some, None, refl, ap}
 use Rattle.clap.specs.Words.{Row, Kinds, app_of, is_simple}
-use Rattle.command_line.proofs.request.matches.Goals as goal
+use Rattle.command_line.proofs.words.matches.Goals as goal
 
 left : (a b : Bool) → (a && b) ≡ true → a ≡ true
 left true b h = refl

@@ -1,6 +1,0 @@
-use Rattle.std.proofs.Common.{ap₂, ◌∙◌}
-use Rattle.clap.specs.Words.{with_rule}
-use Rattle.command_line.proofs.request.check_command.Goals as goal
-
-pub returns : goal.returns
-returns c = c.in_ok-command.ensures.shape c.required.ensures.local ∙ ap₂ with_rule c.new.ensures.app c.required.ensures.rule
