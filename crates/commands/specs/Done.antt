@@ -1,0 +1,13 @@
+-- An answer with its text. Private contracts alone cite this.
+use Rattle.std.specs.Prelude.{Result, Ok, Err}
+use Rattle.rml_bytes.specs.declared.outside.LoadError.{LoadError}
+use Rattle.commands.specs.Due.{Due, stop_due}
+use Rattle.commands.specs.declared.command.Done.{Done}
+
+abbrev pub outcome_in : {A : Type 0} → Result (Done A) LoadError → Result A LoadError
+outcome_in (Ok done) = Ok done.answer
+outcome_in (Err why) = Err why
+
+abbrev pub due_in : {A : Type 0} → Result (Done A) LoadError → Due
+due_in (Ok done) = done.said
+due_in (Err why) = stop_due why
