@@ -1,7 +1,8 @@
 // The lines of faults and refusals.
-ghost use Rattle.std.specs.Prelude.{◌≡◌, ◌++◌, ◌≤◌, length, map, OnOk, IfOk, decimal};
+ghost use Rattle.std.specs.Prelude.{◌≡◌, ◌≤◌, length, map, IfOk};
 ghost use Rattle.ivy_run.specs.Faults.{letter_of, text_in, fault_text, fault_line, refusal_line};
 
+use crate::pieces::{push_number, push_text};
 use base::Mem;
 use rml_lex::place;
 use std::alloc::Global;
@@ -99,19 +100,6 @@ fn letter(kind: FaultKind) -> &'static str
         FaultKind::Log => "L",
         FaultKind::Refusal => "C",
     }
-}
-
-fn push_text(out: &mut Vec<u8>, text: &str) -> Mem<()>
-    ensures { OnOk result (out.new.items ≡ out.old.items ++ text.now) }
-{
-    out.extend_from_slice(text.as_bytes())
-}
-
-fn push_number(alloc: Global, out: &mut Vec<u8>, n: u64) -> Mem<()>
-    ensures { OnOk result (out.new.items ≡ out.old.items ++ decimal n) }
-{
-    let text = n.to_string(alloc)?;
-    out.extend_from_slice(text.as_bytes())
 }
 
 /// The line of a fault: its letter and number, where it stands, and what it is.

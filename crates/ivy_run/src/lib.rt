@@ -1,12 +1,27 @@
-//! The top call: from the words of a command line and the files to the sinks and the status.
+//! The top call: from the words of a command line and the files to the sinks and the status. Each command is a module.
 #![tactic(auto)]
 
-mod due;
+mod check;
+mod emit;
+mod emit_text;
 mod ended;
 mod fault_text;
-mod judge;
+mod limits;
+mod log_text;
+mod lrat;
+mod model_text;
+mod perform;
+mod pieces;
+mod sample;
+mod saying;
 mod top;
-mod work;
+mod usage;
 
-pub use ended::{Ended, Loaded, Outcome, Written};
+pub use check::CheckAnswer;
+pub use commands::Written;
+pub use emit::{EmitAnswer, Emitted};
+pub use ended::{Answer, Ended, Loaded};
+pub use limits::limits_of;
+pub use lrat::LratAnswer;
+pub use sample::{SampleAnswer, Sampled};
 pub use top::run;

@@ -1,13 +1,20 @@
 // The top call: from the words and the files to the sinks and the status.
-ghost use Rattle.std.specs.Prelude.{map, string_bytes};
-ghost use Rattle.command_line.specs.Lines.{line_of};
-ghost use Rattle.ivy_run.specs.Ends.{IsSafeWhereInductive, IsReportOn, IsReportNow, IsFaultIn, IsOnlyAnswer, IsComplete, IsLoaded};
-ghost use Rattle.ivy_run.specs.Refutations.{IsRefutationOf, IsUnsatisfiableWhereRefuted};
-ghost use Rattle.ivy_run.specs.Due.{due_of, IsWritten};
+ghost use Rattle.std.specs.Prelude.{◌≡◌, ℕ, List, Some, None, map, string_bytes};
+ghost use Rattle.command_line.specs.Lines.{line_of, check, lrat, emit, sample};
+ghost use Rattle.command_line.specs.declared.request.Asked.{Asked};
+ghost use Rattle.command_line.specs.declared.request.Emission.{Emission};
+ghost use Rattle.commands.specs.Ends.{EndsNone, EndsOne, EndsTwo};
+ghost use Rattle.commands.specs.Due.{IsWritten};
+ghost use Rattle.ivy_run.specs.ModelTexts.{model_limit};
+ghost use Rattle.ivy_run.specs.Check.{IsCheckAnswer, ceilings_of};
+ghost use Rattle.ivy_run.specs.Lrat.{IsRefutation, clause_limit};
+ghost use Rattle.ivy_run.specs.Emit.{IsEmitAnswer};
+ghost use Rattle.ivy_run.specs.Sample.{IsSampleAnswer};
+ghost use Rattle.ivy_run.specs.Run.{IsUsage, OfCheck, OfLrat, OfEmit, OfSample, due_of};
 
-use crate::due::{finish, fixed_text, say};
 use crate::ended::{Ended, Loaded};
-use crate::work::work;
+use crate::perform::work;
+use commands::finish;
 use rml_bytes::{Bytes, Files, Sink};
 use std::alloc::Global;
 
@@ -19,49 +26,54 @@ pub fn run<F: Files, O: Sink, E: Sink>(
     out: &mut O,
     err: &mut E,
 ) -> Ended
-    ensures loaded { IsLoaded (F.told files.old) (F.faults files.old) (F.faults files.new)
-        (line_of (map (λ w. string_bytes w) words.now)) result.outcome result.loaded.first result.loaded.second }
+    // The files tell the same as before.
+    ensures same { (n : List ℕ) → F.told files.new n ≡ F.told files.old n }
 
-    // Where the verdict is inductive, no run of the model aborts or breaks a conjecture.
-    ensures safe { IsSafeWhereInductive result.outcome }
+    // Words that are no command line load nothing.
+    ensures no_line { line_of (map (λ w. string_bytes w) words.now) ≡ None
+        → EndsNone (F.faults files.old) (F.faults files.new) result.loaded.first result.loaded.second
+        (λ text other a. IsUsage a) result.outcome }
 
-    // The report is on the one model of the text, has all its groups, and each of its lines is right.
-    ensures report { IsReportOn result.loaded.first result.outcome }
+    // `check FILE`: the text has one model or one fault. The report on the model is made of right answers to all goals
+    // under the limits that were asked for, and where its verdict is inductive, no run of the model aborts or breaks a
+    // conjecture.
+    ensures check { (file : List ℕ) (asked : Asked) → line_of (map (λ w. string_bytes w) words.now) ≡ Some (check file asked)
+        → EndsOne (F.told files.old file) model_limit (F.faults files.old) (F.faults files.new) result.loaded.first result.loaded.second
+        (λ text other a. OfCheck (IsCheckAnswer (ceilings_of asked) text) a) result.outcome }
 
-    // Which models are decided, and that the first failing path and a least counterexample are shown.
-    ensures now { IsReportNow result.outcome }
-    ensures fault { IsFaultIn result.loaded.first result.outcome }
-    ensures only { IsOnlyAnswer result.loaded.first result.outcome }
+    // `lrat CNF LOG`: both texts have one answer, and where that is that the log refutes, no truth values satisfy the
+    // formula.
+    ensures lrat { (formula log : List ℕ) → line_of (map (λ w. string_bytes w) words.now) ≡ Some (lrat formula log)
+        → EndsTwo (F.told files.old formula) (F.told files.old log) clause_limit clause_limit (F.faults files.old) (F.faults files.new)
+        result.loaded.first result.loaded.second (λ text other a. OfLrat (IsRefutation text other) a) result.outcome }
 
-    // A formula and a log have one answer, and where that is that the log refutes, no truth values satisfy the formula.
-    ensures refutation { IsRefutationOf result.loaded.first result.loaded.second result.outcome }
-    ensures unsatisfiable { IsUnsatisfiableWhereRefuted result.loaded.first result.outcome }
-    ensures complete { IsComplete (F.told files.old) (F.faults files.old) (F.faults files.new)
-        (line_of (map (λ w. string_bytes w) words.now)) result.outcome }
+    // `emit FILE GOAL WHAT`: the clauses of the goal's refuting sentence, wherever it passes no limit by its size; or the
+    // accepted log that refutes them, where the goal has no counterexample.
+    ensures emit { (file : List ℕ) (emission : Emission) → line_of (map (λ w. string_bytes w) words.now) ≡ Some (emit file emission)
+        → EndsOne (F.told files.old file) model_limit (F.faults files.old) (F.faults files.new) result.loaded.first result.loaded.second
+        (λ text other a. OfEmit (IsEmitAnswer emission text) a) result.outcome }
 
-    // All of the due text was written, or a front of it, and that only where a sink failed.
-    ensures written { IsWritten (due_of result.loaded.first result.loaded.second result.outcome) result.written result.status
-        (O.taken out.old) (O.taken out.new) (E.taken err.old) (E.taken err.new)
+    // `sample N`: the report on the model of the sample text, under the limits of a `check` without options.
+    ensures sample { (n : ℕ) → line_of (map (λ w. string_bytes w) words.now) ≡ Some (sample n)
+        → EndsNone (F.faults files.old) (F.faults files.new) result.loaded.first result.loaded.second
+        (λ text other a. OfSample (IsSampleAnswer n) a) result.outcome }
+
+    // All of the due text was written, or a front of it, and that only where its sink failed.
+    ensures written { IsWritten (due_of (line_of (map (λ w. string_bytes w) words.now)) result.loaded.first result.loaded.second result.outcome)
+        result.written result.status (O.taken out.old) (O.taken out.new) (E.taken err.old) (E.taken err.new)
         (O.faults out.old) (O.faults out.new) (E.faults err.old) (E.faults err.new) }
 {
-    rml_front::text_law();
-    rml_report::report_law();
     let mut first = Vec::new(alloc);
     let mut second = Vec::new(alloc);
-    let outcome = work(alloc, words, files, &mut first, &mut second);
-    let said = say(alloc, outcome, &first, &second);
-    let due = match &said.text {
-        Some(due) => due.as_slice(),
-        None => fixed_text(&said.outcome).as_bytes(),
-    };
-    let (written, status) = finish(&said.outcome, &first, &second, due, out, err);
+    let done = work(alloc, words, files, &mut first, &mut second);
+    let finished = finish(done, out, err);
     Ended {
-        status,
-        outcome: said.outcome,
+        status: finished.status,
+        outcome: finished.outcome,
         loaded: Loaded {
             first: Bytes::from_vec(first),
             second: Bytes::from_vec(second),
         },
-        written,
+        written: finished.written,
     }
 }

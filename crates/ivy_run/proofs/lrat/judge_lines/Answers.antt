@@ -1,7 +1,7 @@
 use Rattle.std.proofs.Common.{◌≡◌, refl, ap, subst}
 use Rattle.cnf_base.specs.Formulas.{Formula, IsUnsatisfiable}
 use Rattle.lrat_check.specs.Checked.{Checked}
-use Rattle.ivy_run.proofs.judge.judge_lines.Goals as goal
+use Rattle.ivy_run.proofs.lrat.judge_lines.Goals as goal
 
 pub returns-then-is_refuted-clause-unsatisfiable : goal.returns-then-is_refuted-clause-unsatisfiable
 returns-then-is_refuted-clause-unsatisfiable c =

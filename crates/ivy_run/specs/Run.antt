@@ -1,0 +1,79 @@
+-- The one page that names every command: whose answer is whose, and what is due.
+use Rattle.std.specs.Prelude.{◌≡◌, ℕ, List, Option, Some, None, Result, Ok, Err}
+use Rattle.rml_bytes.specs.declared.outside.LoadError.{LoadError}
+use Rattle.rml_bytes.specs.Outside.{Told}
+use Rattle.commands.specs.Ends.{EndsNone, EndsOne, EndsTwo}
+use Rattle.commands.specs.Due.{Due, stop_due}
+use Rattle.command_line.specs.Lines.{Line, check, lrat, emit, sample}
+use Rattle.command_line.specs.declared.request.Asked.{Asked}
+use Rattle.command_line.specs.declared.request.Emission.{Emission}
+use Rattle.ivy_run.specs.ModelTexts.{model_limit}
+use Rattle.ivy_run.specs.Usage.{usage_due}
+use Rattle.ivy_run.specs.Check.{IsCheckAnswer, ceilings_of, check_due}
+use Rattle.ivy_run.specs.Lrat.{IsRefutation, clause_limit, lrat_due}
+use Rattle.ivy_run.specs.Emit.{IsEmitAnswer, emit_due}
+use Rattle.ivy_run.specs.Sample.{IsSampleAnswer, sample_due}
+use Rattle.ivy_run.specs.declared.check.CheckAnswer.{CheckAnswer}
+use Rattle.ivy_run.specs.declared.lrat.LratAnswer.{LratAnswer}
+use Rattle.ivy_run.specs.declared.emit.EmitAnswer.{EmitAnswer}
+use Rattle.ivy_run.specs.declared.sample.SampleAnswer.{SampleAnswer}
+use Rattle.ivy_run.specs.declared.ended.Answer.{Answer}
+use Rattle.ivy_run.specs.declared.ended.Answer.TheVariants as answer
+
+-- the answer to words that are no command line
+abbrev pub IsUsage : Answer → Type 0
+IsUsage a = a ≡ answer.Usage
+
+-- an answer of `check` of which P holds
+abbrev pub OfCheck : (CheckAnswer → Type 0) → Answer → Type 0
+OfCheck P (answer.Check a) = P a
+OfCheck P _ = ⊥
+
+-- an answer of `lrat` of which P holds
+abbrev pub OfLrat : (LratAnswer → Type 0) → Answer → Type 0
+OfLrat P (answer.Lrat a) = P a
+OfLrat P _ = ⊥
+
+-- an answer of `emit` of which P holds
+abbrev pub OfEmit : (EmitAnswer → Type 0) → Answer → Type 0
+OfEmit P (answer.Emit a) = P a
+OfEmit P _ = ⊥
+
+-- an answer of `sample` of which P holds
+abbrev pub OfSample : (SampleAnswer → Type 0) → Answer → Type 0
+OfSample P (answer.Sample a) = P a
+OfSample P _ = ⊥
+
+-- How each command line ends: a field for each command. Private contracts alone cite this; the clauses of `run` are its
+-- fields.
+pub record Does (line : Option Line) (told : List ℕ → Told) (before now : ℕ) (first second : List ℕ) (end : Result Answer LoadError) : Type 0 where
+  pub of_none : line ≡ None → EndsNone before now first second (λ text other a. IsUsage a) end
+  pub of_check : (file : List ℕ) (asked : Asked) → line ≡ Some (check file asked)
+      → EndsOne (told file) model_limit before now first second (λ text other a. OfCheck (IsCheckAnswer (ceilings_of asked) text) a) end
+  pub of_lrat : (formula log : List ℕ) → line ≡ Some (lrat formula log)
+      → EndsTwo (told formula) (told log) clause_limit clause_limit before now first second (λ text other a. OfLrat (IsRefutation text other) a) end
+  pub of_emit : (file : List ℕ) (emission : Emission) → line ≡ Some (emit file emission)
+      → EndsOne (told file) model_limit before now first second (λ text other a. OfEmit (IsEmitAnswer emission text) a) end
+  pub of_sample : (n : ℕ) → line ≡ Some (sample n) → EndsNone before now first second (λ text other a. OfSample (IsSampleAnswer n) a) end
+
+-- the goal that is to be written
+abbrev pub emitted_goal : Option Line → ℕ
+emitted_goal (Some (emit file emission)) = emission.goal
+emitted_goal _ = 0
+
+-- the size of the sample
+abbrev pub sample_size : Option Line → ℕ
+sample_size (Some (sample n)) = n
+sample_size _ = 0
+
+abbrev pub answer_due : Option Line → List ℕ → List ℕ → Answer → Due
+answer_due line first second answer.Usage = usage_due
+answer_due line first second (answer.Check a) = check_due first a
+answer_due line first second (answer.Lrat a) = lrat_due first second a
+answer_due line first second (answer.Emit a) = emit_due (emitted_goal line) first a
+answer_due line first second (answer.Sample a) = sample_due (sample_size line) a
+
+-- what is due, by the command line, the texts and the outcome
+abbrev pub due_of : Option Line → List ℕ → List ℕ → Result Answer LoadError → Due
+due_of line first second (Ok a) = answer_due line first second a
+due_of line first second (Err why) = stop_due why

@@ -1,0 +1,7 @@
+-- What is due for words that are no command line.
+use Rattle.std.specs.Prelude.{codes}
+use Rattle.commands.specs.Due.{Due}
+use Rattle.ivy_run.specs.Saying.{on_err}
+
+abbrev pub usage_due : Due
+usage_due = on_err (codes "usage: ivycheck check FILE, emit FILE GOAL cnf|lrat, lrat CNF LOG, or sample N\n") 2

@@ -1,0 +1,66 @@
+// The text of a log, line by line.
+ghost use Rattle.std.specs.Prelude.{◌≡◌, ◌++◌, ◌∷◌, OnOk, IfOk};
+ghost use Rattle.lrat_log.specs.Writing.{ids_text, line_text, text_of};
+
+use base::Mem;
+use cnf_base::{push_decimal, push_literals};
+use lrat_log::Line;
+use std::alloc::Global;
+
+#[tactic(auto, using(std::proofs::Common::append_assoc))]
+fn push_ids(out: &mut Vec<u8>, ids: &[u64]) -> Mem<()>
+    ensures { OnOk result (out.new.items ≡ out.old.items ++ ids_text ids.now) }
+{
+    let mut rest = ids;
+    while let [id, after @ ..] = rest {
+        push_decimal(out, *id)?;
+        out.push(b' ')?;
+        rest = after;
+    }
+    Ok(())
+}
+
+#[tactic(auto, using(std::proofs::Common::append_assoc))]
+fn push_line(out: &mut Vec<u8>, line: &Line) -> Mem<()>
+    ensures { OnOk result (out.new.items ≡ out.old.items ++ line_text line.now) }
+{
+    match line {
+        Line::Add { id, lits, hints } => {
+            push_decimal(out, *id)?;
+            out.push(b' ')?;
+            push_literals(out, lits.as_slice())?;
+            out.extend_from_slice(b"0 ")?;
+            push_ids(out, hints.as_slice())?;
+            out.extend_from_slice(b"0\n")?;
+            Ok(())
+        }
+        Line::Delete { id, ids } => {
+            push_decimal(out, *id)?;
+            out.extend_from_slice(b" d ")?;
+            push_ids(out, ids.as_slice())?;
+            out.extend_from_slice(b"0\n")?;
+            Ok(())
+        }
+    }
+}
+
+#[tactic(auto, using(std::proofs::Common::append_assoc))]
+fn push_lines(out: &mut Vec<u8>, lines: &[Line]) -> Mem<()>
+    ensures { OnOk result (out.new.items ≡ out.old.items ++ text_of lines.now) }
+{
+    let mut rest = lines;
+    while let [line, after @ ..] = rest {
+        push_line(out, line)?;
+        rest = after;
+    }
+    Ok(())
+}
+
+/// The text of the lines of a log.
+pub fn log_text(alloc: Global, lines: &[Line]) -> Mem<Vec<u8>>
+    ensures { IfOk result (λ text. text.items ≡ text_of lines.now) }
+{
+    let mut out = Vec::new(alloc);
+    push_lines(&mut out, lines)?;
+    Ok(out)
+}

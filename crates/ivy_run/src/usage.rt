@@ -1,0 +1,34 @@
+// Words that are no command line.
+ghost use Rattle.ivy_run.specs.Usage.{usage_due};
+
+use base::Mem;
+use commands::{Command, Said, Side};
+use std::alloc::Global;
+
+/// No command.
+#[derive(Drop)]
+pub struct Usage;
+
+impl Command for Usage {
+    type Answer = ();
+
+    ghost is_answer = { λ c first second a. Unit {0} };
+
+    ghost due = { λ c first second a. usage_due };
+
+    fn judge(&self, alloc: Global, first: &[u8], second: &[u8]) -> Mem<()> {
+        Ok(())
+    }
+
+    fn say(&self, alloc: Global, first: &[u8], second: &[u8], answer: &()) -> Mem<Said> {
+        let text =
+            b"usage: ivycheck check FILE, emit FILE GOAL cnf|lrat, lrat CNF LOG, or sample N\n".to_vec(
+                alloc,
+            )?;
+        Ok(Said {
+            side: Side::Err,
+            status: 2,
+            text,
+        })
+    }
+}
