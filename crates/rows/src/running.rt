@@ -5,8 +5,9 @@ ghost use Rattle.rml_bytes.specs.Memory.{NamesDiffer, IncreaseAbove, firsts};
 use crate::reader::Parsed;
 use crate::row::{Row, Stream, Text};
 use base::{Mem, Refused};
-use ivy_run::{Ended, Outcome, Written, run};
-use rml_bytes::{Bytes, DiskFiles, FileName, Files, MemFiles, MemSink};
+use commands::Written;
+use ivy_run::{Answer, CheckAnswer, EmitAnswer, Emitted, Ended, LratAnswer, run};
+use rml_bytes::{Bytes, DiskFiles, FileName, Files, LoadError, MemFiles, MemSink};
 use std::alloc::Global;
 
 /// What a run leaves, in the words of a file of rows, and on the two sinks.
@@ -116,28 +117,56 @@ fn sink_of(alloc: Global, stream: &Stream) -> Parsed<MemSink> {
     Ok(MemSink::new(alloc, stream.room, failing)?)
 }
 
-fn name_of(outcome: &Outcome) -> &'static str {
+fn name_of_check(answer: &CheckAnswer) -> &'static str {
+    match answer {
+        CheckAnswer::Checked { .. } => "checked",
+        CheckAnswer::Fault(_) => "fault",
+    }
+}
+
+fn name_of_lrat(answer: &LratAnswer) -> &'static str {
+    match answer {
+        LratAnswer::Refuted => "refuted",
+        LratAnswer::NotRefuted => "not refuted",
+        LratAnswer::CnfFault(_) => "formula fault",
+        LratAnswer::LogFault(_) => "log fault",
+        LratAnswer::Refused(_) => "refused",
+    }
+}
+
+fn name_of_emit(answer: &EmitAnswer) -> &'static str {
+    match answer {
+        EmitAnswer::Emitted(Emitted::Clauses(_)) => "clauses",
+        EmitAnswer::Emitted(Emitted::Refutation(_, _)) => "refutation",
+        EmitAnswer::Emitted(Emitted::Fails) => "fails",
+        EmitAnswer::Emitted(Emitted::Undecided(_)) => "undecided",
+        EmitAnswer::Emitted(Emitted::NoGoal(_)) => "no goal",
+        EmitAnswer::Fault(_) => "fault",
+    }
+}
+
+fn name_of(outcome: &Result<Answer, LoadError>) -> &'static str {
     match outcome {
-        Outcome::Checked { .. } => "checked",
-        Outcome::Refuted => "refuted",
-        Outcome::NotRefuted => "not refuted",
-        Outcome::CnfFault(_) => "formula fault",
-        Outcome::LogFault(_) => "log fault",
-        Outcome::Refused(_) => "refused",
-        Outcome::Fault(_) => "fault",
-        Outcome::Usage => "usage",
-        Outcome::TooLong => "too long",
-        Outcome::ReadFault => "read fault",
-        Outcome::NoMemory => "no memory",
+        Ok(Answer::Usage) => "usage",
+        Ok(Answer::Check(answer)) => name_of_check(answer),
+        Ok(Answer::Lrat(answer)) => name_of_lrat(answer),
+        Ok(Answer::Emit(answer)) => name_of_emit(answer),
+        Ok(Answer::Sample(_)) => "sampled",
+        Err(LoadError::TooLong) => "too long",
+        Err(LoadError::Failed) => "read fault",
+        Err(LoadError::NoMemory) => "no memory",
     }
 }
 
 fn stands_in_text(ended: &Ended) -> bool {
     let first = ended.loaded.first.len() as u64;
     match &ended.outcome {
-        Outcome::Fault(fault) => fault.at <= first,
-        Outcome::CnfFault(fault) => fault.at <= first,
-        Outcome::LogFault(fault) => fault.at <= ended.loaded.second.len() as u64,
+        Ok(Answer::Check(CheckAnswer::Fault(fault))) => fault.at <= first,
+        Ok(Answer::Emit(EmitAnswer::Fault(fault))) => fault.at <= first,
+        Ok(Answer::Lrat(LratAnswer::CnfFault(fault))) => fault.at <= first,
+        Ok(Answer::Lrat(LratAnswer::LogFault(fault))) => {
+            fault.at <= ended.loaded.second.len() as u64
+        }
         _ => true,
     }
 }
