@@ -1,0 +1,32 @@
+//! Prints what is answered to models: in which fragments their axioms and conjectures lie, the normal forms of these,
+//! and the paths of a block. What `stdout` holds was written down from outside: by hand, from the definitions.
+#![tactic(auto)]
+
+mod fragments;
+mod models;
+mod normal_forms;
+mod paths;
+
+use call_files::tell;
+use fragments::Fragments;
+use normal_forms::NormalForms;
+use paths::BlockPaths;
+use std::io;
+use std::process::ExitCode;
+
+fn tell_all(rt: HostRuntime) -> io::Result<()> {
+    let alloc = rt.alloc();
+    tell::<Fragments>(rt, alloc, "sentences.txt")?;
+    tell::<NormalForms>(rt, alloc, "normal_forms.txt")?;
+    tell::<BlockPaths>(rt, alloc, "paths.txt")
+}
+
+fn main(rt: HostRuntime) -> ExitCode {
+    match tell_all(rt) {
+        Ok(()) => ExitCode::SUCCESS,
+        Err(_) => {
+            let _ = eprintln!(&rt; "a file can't be read, or the memory or the output fails");
+            ExitCode::FAILURE
+        }
+    }
+}

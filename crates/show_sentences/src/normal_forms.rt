@@ -1,0 +1,59 @@
+// The normal forms of a model's axioms, and of the negations of its conjectures.
+use crate::models::{fault_of, model_of};
+use base::Mem;
+use call_files::Call;
+use fol_formula::{Ae, Ea, Formula, Sentence};
+use fol_nnf::{negate, normal};
+use rml_command::Model;
+use std::alloc::Global;
+
+fn push_formula(alloc: Global, list: &mut String, formula: &Formula) -> Mem<()> {
+    list.push_str(format!(in alloc; "[{formula:?}]")?.as_str())
+}
+
+fn push_normal_form(alloc: Global, list: &mut String, sentence: &Ea) -> Mem<()> {
+    let normal = normal(alloc, sentence)?;
+    push_formula(alloc, list, normal.sentence().formula())
+}
+
+fn push_axiom(alloc: Global, list: &mut String, sentence: &Sentence) -> Mem<()> {
+    let copy = sentence.copy(alloc)?;
+    match Ea::of(copy) {
+        Ok(sentence) => push_normal_form(alloc, list, &sentence),
+        Err(_) => list.push_str("[not exists-forall]"),
+    }
+}
+
+fn push_conjecture(alloc: Global, list: &mut String, sentence: &Sentence) -> Mem<()> {
+    let copy = sentence.copy(alloc)?;
+    match Ae::of(copy) {
+        Ok(sentence) => {
+            let opposite = negate(alloc, sentence)?;
+            push_normal_form(alloc, list, &opposite)
+        }
+        Err(_) => list.push_str("[not forall-exists]"),
+    }
+}
+
+fn normal_forms(alloc: Global, model: &Model) -> Mem<String> {
+    let mut list = String::new(alloc);
+    for axiom in model.axioms() {
+        push_axiom(alloc, &mut list, axiom)?;
+    }
+    for conjecture in model.conjectures() {
+        push_conjecture(alloc, &mut list, conjecture)?;
+    }
+    Ok(list)
+}
+
+/// The normal form of each axiom, and that of the negation of each conjecture.
+pub struct NormalForms;
+
+impl Call for NormalForms {
+    fn answer(alloc: Global, input: &str) -> Mem<String> {
+        match model_of(alloc, input.as_bytes()) {
+            Ok(model) => normal_forms(alloc, &model),
+            Err(refused) => fault_of(alloc, refused),
+        }
+    }
+}
