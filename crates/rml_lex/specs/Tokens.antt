@@ -1,5 +1,25 @@
 -- The tokens of a text, and its first fault.
-use Rattle.std.specs.Prelude.{◌≡◌, ℕ, ◌+◌, ◌-◌, false, ◌||◌, nat_lt, ◌<◌, ◌≤◌, List, [], ◌∷◌, Option, Some, None, length, take, drop, if◌then◌else◌}
+use Rattle.std.specs.Prelude.{
+  ◌≡◌,
+  ℕ,
+  ◌+◌,
+  ◌-◌,
+  false,
+  ◌||◌,
+  nat_lt,
+  ◌<◌,
+  ◌≤◌,
+  List,
+  [],
+  ◌∷◌,
+  Option,
+  Some,
+  None,
+  length,
+  take,
+  drop,
+  if◌then◌else◌,
+}
 use Rattle.std.specs.List.{prefix_len}
 use Rattle.rml_lex.specs.declared.token.Token.{Token}
 use Rattle.rml_lex.specs.declared.token.Kind.{Kind}
@@ -7,6 +27,7 @@ use Rattle.rml_lex.specs.declared.token.Kind.TheVariants as kind
 use Rattle.rml_lex.specs.declared.token.Word.{Word}
 use Rattle.rml_lex.specs.declared.token.Sign.{Sign}
 use Rattle.rml_lex.specs.declared.token.Fault.{Fault}
+use Rattle.rml_lex.specs.declared.fault_code.FaultCode.TheVariants as fault_code
 use Rattle.rml_lex.specs.declared.token.Front.{Front}
 use Rattle.rml_lex.specs.declared.token.Front.TheVariants as front
 use Rattle.rml_lex.specs.Bytes.{is_letter, is_digit, goes_on, gap_len}
@@ -19,15 +40,19 @@ word_kind None = kind.Name
 
 -- n bytes of a letter and what goes on with it: a reserved word or a name, of at most 64
 abbrev pub word_front : List ℕ → ℕ → Front
-word_front bytes n = if nat_lt 64 n then front.Fault 2 else front.Token (word_kind (reserved (take n bytes))) n
+word_front bytes n =
+    if nat_lt 64 n then front.Fault fault_code.LongName
+    else front.Token (word_kind (reserved (take n bytes))) n
 
 -- n digits, among bytes of which m go on as a name does: at most 9, and no letter behind them
 abbrev pub number_front : ℕ → ℕ → Front
-number_front n m = if nat_lt 9 n || nat_lt n m then front.Fault 3 else front.Token kind.Number n
+number_front n m =
+    if nat_lt 9 n || nat_lt n m then front.Fault fault_code.BadNumber
+    else front.Token kind.Number n
 
 abbrev pub sign_front : Option (List ℕ × Sign) → Front
 sign_front (Some row) = front.Token (kind.Sign row.1) (length row.0)
-sign_front None = front.Fault 1
+sign_front None = front.Fault fault_code.BadByte
 
 -- what stands at the front of bytes that begin with no blank and no comment
 abbrev pub front_of : List ℕ → Front
@@ -57,7 +82,9 @@ AreTokens text tokens = (end : ℕ) × Reads text 0 tokens [] end
 
 -- the text's first fault: a byte, word or number that is none, behind tokens
 abbrev pub IsFault : List ℕ → Fault → Type 0
-IsFault text fault = (tokens : List Token) × (rest : List ℕ) × Reads text 0 tokens rest fault.at × (front_of rest ≡ front.Fault fault.code)
+IsFault text fault =
+    (tokens : List Token) × (rest : List ℕ) × Reads text 0 tokens rest fault.at
+    × (front_of rest ≡ front.Fault fault.code)
 
 -- a token's bytes are among n
 abbrev pub EndsBy : ℕ → Token → Type 0

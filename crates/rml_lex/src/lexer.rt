@@ -7,7 +7,7 @@ ghost use Rattle.rml_lex.specs.Spelling.{spelled, reserved, sign_at};
 ghost use Rattle.rml_lex.specs.Tokens.{front_of, sign_front, IsWithin, AreTokens, IsFault, EndsBy, StandsBy, word_of};
 
 use crate::token::Front;
-use crate::{Fault, Kind, Sign, Token, Word};
+use crate::{Fault, FaultCode, Kind, Sign, Token, Word};
 use base::Refused;
 use std::alloc::Global;
 
@@ -162,7 +162,7 @@ fn sign(bytes: &[u8]) -> Front
         [b'&', ..] => Front::Token(Kind::Sign(Sign::And), 1),
         [b'|', ..] => Front::Token(Kind::Sign(Sign::Or), 1),
         [b'*', ..] => Front::Token(Kind::Sign(Sign::Star), 1),
-        _ => Front::Fault(1),
+        _ => Front::Fault(FaultCode::BadByte),
     }
 }
 
@@ -177,7 +177,7 @@ fn front(bytes: &[u8]) -> Front
     if is_letter(*b) {
         let count = word_len(bytes);
         if count > LONGEST_NAME {
-            return Front::Fault(2);
+            return Front::Fault(FaultCode::LongName);
         }
         match reserved(&bytes[..count]) {
             Some(word) => Front::Token(Kind::Word(word), count),
@@ -186,7 +186,7 @@ fn front(bytes: &[u8]) -> Front
     } else if is_digit(*b) {
         let count = digits_len(bytes);
         if count > LONGEST_NUMBER || count < word_len(bytes) {
-            return Front::Fault(3);
+            return Front::Fault(FaultCode::BadNumber);
         }
         Front::Token(Kind::Number, count)
     } else {
@@ -194,8 +194,8 @@ fn front(bytes: &[u8]) -> Front
     }
 }
 
-/// The tokens of a text, or its first fault: a bad byte (1), a name over 64 bytes (2), or a number
-/// over 9 digits or with a letter behind it (3).
+/// The tokens of a text, or its first fault: a bad byte, a name over 64 bytes, or a number over 9 digits or with a
+/// letter behind it.
 pub fn lex(alloc: Global, text: &[u8]) -> Result<Vec<Token>, Refused<Fault>>
     ensures tokens { IfOk result (λ tokens. AreTokens text.now tokens.items) }
     ensures within { IfOk result (λ tokens. AllByRecursion (EndsBy (length text.now)) tokens.items) }

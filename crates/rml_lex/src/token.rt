@@ -1,4 +1,5 @@
 // What a text is made of.
+use crate::FaultCode;
 
 /// The bytes of a text from `start` up to `end`, counted from 0.
 #[derive(Clone, Copy, Debug, PartialEq, Eq)]
@@ -87,11 +88,10 @@ pub enum Sign {
     Star,
 }
 
-/// A fault of a text: the number behind the `F` of its code, and the byte where it stands, counted
-/// from 0. A fault at the text's end stands at the byte that would come next.
+/// A fault of a text: what is wrong, and the byte where it stands, counted from 0. A fault at the text's end stands at the byte that would come next.
 #[derive(Clone, Copy, Debug, PartialEq, Eq)]
 pub struct Fault {
-    pub code: u8,
+    pub code: FaultCode,
     pub at: u64,
 }
 
@@ -100,5 +100,5 @@ pub struct Fault {
 pub enum Front {
     End,
     Token(Kind, usize),
-    Fault(u8),
+    Fault(FaultCode),
 }
