@@ -1,5 +1,6 @@
 -- The atoms that are read back have the values of their variables.
-use Rattle.std.proofs.Common.{◌≡◌, ℕ, ◌+◌, Bool, true, false, List, [], ◌∷◌, ◌++◌, Option, Some, None, refl, sym, ◌∙◌, ap, cond}
+use Rattle.std.proofs.Common.{◌≡◌, ℕ, ◌+◌, Bool, true, false, List, [], ◌∷◌, ◌++◌, Option, Some, None, refl, sym, ◌∙◌}
+use Rattle.std.proofs.Common.{ap, cond}
 use Rattle.std.specs.Prelude.{◌||◌}
 use Rattle.cnf_base.specs.Formulas.{value_of}
 use Rattle.ground_terms.specs.declared.atom.Atom.{Atom}
@@ -79,7 +80,8 @@ module _ (atoms : AtomsAreSame) where
       where
         by : (t : Bool) → same_atom a x.0 ≡ t
             → (variable_in xs a ≡ Some n → value_of values n ≡ holds_in (true_atoms values xs) a)
-            → value_of values n ≡ cond (value_of values x.1) (same_atom a x.0 || holds_in (true_atoms values xs) a) (holds_in (true_atoms values xs) a)
+            → value_of values n ≡ cond (value_of values x.1) (same_atom a x.0 || holds_in (true_atoms values xs) a)
+            (holds_in (true_atoms values xs) a)
         by true e rest =
             let f : Some x.1 ≡ Some n = sym (ap (λ t. cond t (Some x.1) (variable_in xs a)) e) ∙ h in
             let i : x.1 ≡ n = cc f in

@@ -1,5 +1,6 @@
 -- How many clauses and variables there are.
-use Rattle.std.proofs.Common.{◌≡◌, ℕ, ◌+◌, ◌*◌, ◌≤◌, List, [], ◌∷◌, Option, Some, None, length, refl, arith, length-append}
+use Rattle.std.proofs.Common.{◌≡◌, ℕ, ◌+◌, ◌*◌, ◌≤◌, List, [], ◌∷◌, Option, Some, None, length, refl, arith}
+use Rattle.std.proofs.Common.{length-append}
 use Rattle.cnf_base.specs.declared.cnf.Entry.{Entry}
 use Rattle.cnf_base.specs.declared.cnf.Entry.TheVariants.{Clause, True}
 use Rattle.cnf_base.specs.Clauses.{entry_of}
@@ -8,9 +9,11 @@ use Rattle.ground_terms.specs.declared.ground.Junction.{Junction}
 use Rattle.ground_terms.specs.declared.ground.Junction.TheVariants.{And, Or}
 use Rattle.ground_terms.specs.declared.atom.Atom.{Atom}
 use Rattle.ground_terms.specs.Trees.{Tree, Trees, literal, node, none, part, count, nodes, nodes_all}
-use Rattle.clause_form.specs.Numbers.{Numbers, start, variable_in, with_place, with_atom_by, after, after_all, place_lit, lit_of, lits_of}
+use Rattle.clause_form.specs.Numbers.{Numbers, start, variable_in, with_place, with_atom_by, after, after_all}
+use Rattle.clause_form.specs.Numbers.{place_lit, lit_of, lits_of}
 use Rattle.clause_form.specs.Meaning.{atoms_of, places, places_all}
-use Rattle.clause_form.specs.Clauses.{unless_true, implies, implies_each, definition, clauses_of, clauses_of_all, formula_clauses, clause_form}
+use Rattle.clause_form.specs.Clauses.{unless_true, implies, implies_each, definition, clauses_of, clauses_of_all}
+use Rattle.clause_form.specs.Clauses.{formula_clauses, clause_form}
 
 one : (e : Entry) → length (unless_true e) ≤ 1
 one (Clause ls) = omega arith
@@ -42,7 +45,14 @@ mutual
       let h = few_all (with_place n) ps in
       let d = defined j (place_lit n) (lits_of (with_place n) ps) in
       let l = length-lits_of (with_place n) ps in
-      omega (arith, h, d, l, length-append (clauses_of_all (with_place n) ps) (definition j (place_lit n) (lits_of (with_place n) ps)))
+      omega (
+        arith,
+        h,
+        d,
+        l,
+        length-append (clauses_of_all (with_place n) ps)
+            (definition j (place_lit n) (lits_of (with_place n) ps)),
+      )
 
   few_all : (n : Numbers) (ps : Trees) → length (clauses_of_all n ps) + count ps ≤ 2 * nodes_all ps
   few_all n none = omega arith
@@ -69,7 +79,8 @@ mutual
 
   few_variables_all : (n : Numbers) (ps : Trees) → (after_all n ps).variables ≤ n.variables + nodes_all ps
   few_variables_all n none = omega arith
-  few_variables_all n (part p ps) = let h = few_variables n p in let r = few_variables_all (after n p) ps in omega (arith, h, r)
+  few_variables_all n (part p ps) = let h = few_variables n p in let r = few_variables_all (after n p) ps in
+      omega (arith, h, r)
 
 pub few_clauses : (ps : Trees) → length (clause_form ps).clauses ≤ 2 * nodes_all ps
 few_clauses ps = few_formulas start ps

@@ -9,7 +9,8 @@ use Rattle.ground_terms.specs.declared.ground.Junction.{Junction}
 use Rattle.ground_terms.specs.declared.ground.Junction.TheVariants.{And, Or}
 use Rattle.clause_form.specs.Clauses.{unless_true, implies, implies_each, definition}
 use Rattle.clause_form.proofs.Below.{EntriesAreTrue}
-use Rattle.clause_form.proofs.Truths.{any_lit, all_lits, entry_true, all_entries_true, all_entries_true-append, or_nothing, made_true}
+use Rattle.clause_form.proofs.Truths.{any_lit, all_lits, entry_true, all_entries_true, all_entries_true-append}
+use Rattle.clause_form.proofs.Truths.{or_nothing, made_true}
 
 module _ (truth : EntriesAreTrue) (value : ℕ → Bool) where
   and_nothing : (a : Bool) → a && true ≡ a
@@ -44,7 +45,8 @@ module _ (truth : EntriesAreTrue) (value : ℕ → Bool) where
   each_truth d [] = or_true (not (is_true value d))
   each_truth d (l ∷ ls) =
       all_entries_true-append value (implies d (l ∷ [])) (implies_each d ls)
-      ∙ ap (λ b. b && all_entries_true value (implies_each d ls)) (implies_truth d (l ∷ []) ∙ ap (λ b. not (is_true value d) || b) (or_nothing value (is_true value l)))
+      ∙ ap (λ b. b && all_entries_true value (implies_each d ls))
+      (implies_truth d (l ∷ []) ∙ ap (λ b. not (is_true value d) || b) (or_nothing value (is_true value l)))
       ∙ ap (λ b. (not (is_true value d) || is_true value l) && b) (each_truth d ls)
       ∙ spread (not (is_true value d)) (is_true value l) (all_lits value ls)
 

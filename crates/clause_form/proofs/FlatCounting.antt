@@ -24,7 +24,13 @@ one_clause n (literal a positive) h = omega arith
 one_clause n (node Or ps) h =
     let none_below = no_clauses (with_place n) ps h in
     let own = implied (place_lit n) (lits_of (with_place n) ps) in
-    omega (arith, none_below, own, length-append (clauses_of_all (with_place n) ps) (implies (place_lit n) (lits_of (with_place n) ps)))
+    omega (
+      arith,
+      none_below,
+      own,
+      length-append (clauses_of_all (with_place n) ps)
+          (implies (place_lit n) (lits_of (with_place n) ps)),
+    )
 one_clause n (node And ps) h = absurd h
 
 one_place : (p : Tree) → IsFlat p → places p ≤ 1
@@ -37,7 +43,12 @@ flat_clauses n [] h = omega arith
 flat_clauses n (q ∷ qs) h =
     let one = one_clause n q h.0 in
     let rest = flat_clauses (after n q) qs h.1 in
-    omega (arith, one, rest, length-append (clauses_of n q) (Clause (lit_of n q ∷ []) ∷ formula_clauses (after n q) (trees_of qs)))
+    omega (
+      arith,
+      one,
+      rest,
+      length-append (clauses_of n q) (Clause (lit_of n q ∷ []) ∷ formula_clauses (after n q) (trees_of qs)),
+    )
 
 flat_places : (qs : List Tree) → AreFlat qs → places_all (trees_of qs) ≤ length qs
 flat_places [] h = omega arith
@@ -49,7 +60,12 @@ clauses_behind n [] qs h = let r = flat_clauses n qs h in omega (arith, r)
 clauses_behind n (p ∷ ps) qs h =
     let here = few n p in
     let rest = clauses_behind (after n p) ps qs h in
-    omega (arith, here, rest, length-append (clauses_of n p) (Clause (lit_of n p ∷ []) ∷ formula_clauses (after n p) (trees_of (ps ++ qs))))
+    omega (
+      arith,
+      here,
+      rest,
+      length-append (clauses_of n p) (Clause (lit_of n p ∷ []) ∷ formula_clauses (after n p) (trees_of (ps ++ qs))),
+    )
 
 pub few_clauses_behind : (ps qs : List Tree) → AreFlat qs
     → length (clause_form (trees_of (ps ++ qs))).clauses ≤ 2 * (nodes_all (trees_of ps) + length qs)

@@ -1,11 +1,13 @@
 -- Atoms keep their variables.
-use Rattle.std.proofs.Common.{◌≡◌, ℕ, ◌+◌, Bool, true, false, List, [], ◌∷◌, ◌++◌, Option, Some, None, refl, ◌∙◌, ap, cond}
+use Rattle.std.proofs.Common.{◌≡◌, ℕ, ◌+◌, Bool, true, false, List, [], ◌∷◌, ◌++◌, Option, Some, None, refl, ◌∙◌, ap}
+use Rattle.std.proofs.Common.{cond}
 use Rattle.std.specs.Option.{unwrap_or}
 use Rattle.ground_terms.specs.declared.atom.Atom.{Atom}
 use Rattle.ground_terms.specs.Same.{same_atom}
 use Rattle.ground_terms.specs.Trees.{Tree, Trees, literal, node, none, part}
 use Rattle.clause_form.proofs.Below.{AtomsAreSame}
-use Rattle.clause_form.specs.Numbers.{Numbers, variable_in, with_place, with_atom_by, with_atom, after, after_all, atom_variable}
+use Rattle.clause_form.specs.Numbers.{Numbers, variable_in, with_place, with_atom_by, with_atom, after, after_all}
+use Rattle.clause_form.specs.Numbers.{atom_variable}
 
 abbrev pub Keeps : List (Atom × ℕ) → List (Atom × ℕ) → Type 0
 Keeps old new = (a : Atom) (k : ℕ) → variable_in old a ≡ Some k → variable_in new a ≡ Some k
@@ -17,7 +19,8 @@ kept_one false k v r s f h = f h
 
 pub keeps_append : (xs ys : List (Atom × ℕ)) → Keeps xs (xs ++ ys)
 keeps_append [] ys a k h = cc h
-keeps_append (x ∷ xs) ys a k h = kept_one (same_atom a x.0) k x.1 (variable_in xs a) (variable_in (xs ++ ys) a) (keeps_append xs ys a k) h
+keeps_append (x ∷ xs) ys a k h =
+    kept_one (same_atom a x.0) k x.1 (variable_in xs a) (variable_in (xs ++ ys) a) (keeps_append xs ys a k) h
 
 pub keeps_atom_by : (o : Option ℕ) (n : Numbers) (a : Atom) → Keeps n.atoms (with_atom_by o n a).atoms
 keeps_atom_by None n a b k h = keeps_append n.atoms ((a, n.variables + 1) ∷ []) b k h
@@ -41,7 +44,8 @@ pub found_last : (xs : List (Atom × ℕ)) (a b : Atom) (k : ℕ) → variable_i
     → variable_in (xs ++ (a, k) ∷ []) b ≡ cond (same_atom b a) (Some k) None
 found_last [] a b k h = refl
 found_last (x ∷ xs) a b k h =
-    later (same_atom b x.0) x.1 (variable_in xs b) (variable_in (xs ++ (a, k) ∷ []) b) (cond (same_atom b a) (Some k) None) (found_last xs a b k) h
+    later (same_atom b x.0) x.1 (variable_in xs b) (variable_in (xs ++ (a, k) ∷ []) b)
+    (cond (same_atom b a) (Some k) None) (found_last xs a b k) h
 
 -- an atom has its variable once it has stood
 module _ (atoms : AtomsAreSame) where

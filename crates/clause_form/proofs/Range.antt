@@ -1,5 +1,6 @@
 -- The literals are of the variables.
-use Rattle.std.proofs.Common.{◌≡◌, ℕ, ◌+◌, ◌<◌, ◌≤◌, Bool, true, false, List, [], ◌∷◌, ◌++◌, Option, Some, None, refl, sym, ◌∙◌, cond, arith}
+use Rattle.std.proofs.Common.{◌≡◌, ℕ, ◌+◌, ◌<◌, ◌≤◌, Bool, true, false, List, [], ◌∷◌, ◌++◌, Option, Some, None, refl}
+use Rattle.std.proofs.Common.{sym, ◌∙◌, cond, arith}
 use Rattle.std.specs.Option.{unwrap_or}
 use Rattle.cnf_base.specs.declared.cnf.Entry.{Entry}
 use Rattle.cnf_base.specs.declared.cnf.Entry.TheVariants.{Clause, True}
@@ -11,8 +12,10 @@ use Rattle.ground_terms.specs.Same.{same_atom}
 use Rattle.ground_terms.specs.declared.ground.Junction.{Junction}
 use Rattle.ground_terms.specs.declared.ground.Junction.TheVariants.{And, Or}
 use Rattle.ground_terms.specs.Trees.{Tree, Trees, literal, node, none, part}
-use Rattle.clause_form.specs.Numbers.{Numbers, start, variable_in, with_place, with_atom_by, after, after_all, atom_variable, place_lit, lit_of, lits_of}
-use Rattle.clause_form.specs.Clauses.{unless_true, implies, implies_each, definition, clauses_of, clauses_of_all, formula_clauses, clause_form}
+use Rattle.clause_form.specs.Numbers.{Numbers, start, variable_in, with_place, with_atom_by, after, after_all}
+use Rattle.clause_form.specs.Numbers.{atom_variable, place_lit, lit_of, lits_of}
+use Rattle.clause_form.specs.Clauses.{unless_true, implies, implies_each, definition, clauses_of, clauses_of_all}
+use Rattle.clause_form.specs.Clauses.{formula_clauses, clause_form}
 use Rattle.clause_form.proofs.Below.{EntriesAreIn}
 use Rattle.clause_form.proofs.Growth.{found_last, keeps_append}
 
@@ -37,7 +40,9 @@ module _ (entries : EntriesAreIn) where
 
   each_in : (m d : ℕ) (ls : List ℕ) → IsLiteral m d → AreLiterals m ls → AreEntries m (implies_each d ls)
   each_in m d [] p r = tt
-  each_in m d (l ∷ ls) p r = append_entries m (implies d (l ∷ [])) (implies_each d ls) (implies_in m d (l ∷ []) p (r.0, tt)) (each_in m d ls p r.1)
+  each_in m d (l ∷ ls) p r =
+      append_entries m (implies d (l ∷ [])) (implies_each d ls) (implies_in m d (l ∷ []) p (r.0, tt))
+      (each_in m d ls p r.1)
 
   definition_in : (m d : ℕ) (j : Junction) (ls : List ℕ) → IsLiteral m d → AreLiterals m ls
       → AreEntries m (definition j d ls)
@@ -96,7 +101,8 @@ atom_in (Some v) n a f e = f a v e
 atom_in None n a f e = (omega arith, omega arith)
 
 lit_in : (n : Numbers) (p : Tree) → Numbered n → IsLiteral (after n p).variables (lit_of n p)
-lit_in n (literal a positive) f = let h = atom_in (variable_in n.atoms a) n a f refl in signed positive _ (atom_variable n a) h.0 h.1
+lit_in n (literal a positive) f = let h = atom_in (variable_in n.atoms a) n a f refl in
+    signed positive _ (atom_variable n a) h.0 h.1
 lit_in n (node j ps) f = signed true _ (n.variables + 1) (omega arith) (rises_all (with_place n) ps)
 
 wider : (l m : ℕ) (x : ℕ) → l ≤ m → IsLiteral l x → IsLiteral m x
@@ -106,8 +112,10 @@ lits_in : (m : ℕ) (n : Numbers) (ps : Trees) → Numbered n → (after_all n p
     → AreLiterals m (lits_of n ps)
 lits_in m n none f h = tt
 lits_in m n (part p ps) f h =
-    let r = rises_all (after n p) ps in
-    (wider (after n p).variables m (lit_of n p) (omega (arith, h, r)) (lit_in n p f), lits_in m (after n p) ps (numbered_after n p f) h)
+    let r = rises_all (after n p) ps in (
+      wider (after n p).variables m (lit_of n p) (omega (arith, h, r)) (lit_in n p f),
+      lits_in m (after n p) ps (numbered_after n p f) h,
+    )
 
 module _ (entries : EntriesAreIn) where
   mutual
@@ -118,22 +126,28 @@ module _ (entries : EntriesAreIn) where
         let r = rises_all (with_place n) ps in
         append_entries m (clauses_of_all (with_place n) ps) (definition j (place_lit n) (lits_of (with_place n) ps))
         (clauses_in_all m (with_place n) ps (numbered_place n f) h)
-        (definition_in entries m (place_lit n) j (lits_of (with_place n) ps) (signed true m (n.variables + 1) (omega arith) (omega (arith, h, r))) (lits_in m (with_place n) ps (numbered_place n f) h))
+        (definition_in entries m (place_lit n) j (lits_of (with_place n) ps)
+        (signed true m (n.variables + 1) (omega arith) (omega (arith, h, r)))
+        (lits_in m (with_place n) ps (numbered_place n f) h))
 
     clauses_in_all : (m : ℕ) (n : Numbers) (ps : Trees) → Numbered n → (after_all n ps).variables ≤ m
         → AreEntries m (clauses_of_all n ps)
     clauses_in_all m n none f h = tt
     clauses_in_all m n (part p ps) f h =
         let r = rises_all (after n p) ps in
-        append_entries m (clauses_of n p) (clauses_of_all (after n p) ps) (clauses_in m n p f (omega (arith, h, r))) (clauses_in_all m (after n p) ps (numbered_after n p f) h)
+        append_entries m (clauses_of n p) (clauses_of_all (after n p) ps) (clauses_in m n p f (omega (arith, h, r)))
+        (clauses_in_all m (after n p) ps (numbered_after n p f) h)
 
   formulas_in : (m : ℕ) (n : Numbers) (ps : Trees) → Numbered n → (after_all n ps).variables ≤ m
       → AreEntries m (formula_clauses n ps)
   formulas_in m n none f h = tt
   formulas_in m n (part p ps) f h =
       let r = rises_all (after n p) ps in
-      append_entries m (clauses_of n p) (Clause (lit_of n p ∷ []) ∷ formula_clauses (after n p) ps) (clauses_in m n p f (omega (arith, h, r)))
-      (((refl, refl, tt), (wider (after n p).variables m (lit_of n p) (omega (arith, h, r)) (lit_in n p f), tt)), formulas_in m (after n p) ps (numbered_after n p f) h)
+      append_entries m (clauses_of n p) (Clause (lit_of n p ∷ []) ∷ formula_clauses (after n p) ps)
+      (clauses_in m n p f (omega (arith, h, r))) (
+        ((refl, refl, tt), (wider (after n p).variables m (lit_of n p) (omega (arith, h, r)) (lit_in n p f), tt)),
+        formulas_in m (after n p) ps (numbered_after n p f) h,
+      )
 
   pub is_formula : (ps : Trees) → IsFormula (clause_form ps)
   is_formula ps = formulas_in (clause_form ps).variables start ps (λ a k h. cc h) (omega arith)

@@ -1,5 +1,6 @@
 -- The clauses that are written call by call are those of the formulas.
-use Rattle.std.proofs.Common.{◌≡◌, ℕ, ◌+◌, ◌≤◌, false, List, [], ◌∷◌, ◌++◌, length, take, drop, refl, sym, ◌∙◌, ap, cond, arith, append_assoc, length-append}
+use Rattle.std.proofs.Common.{◌≡◌, ℕ, ◌+◌, ◌≤◌, false, List, [], ◌∷◌, ◌++◌, length, take, drop, refl, sym, ◌∙◌, ap}
+use Rattle.std.proofs.Common.{cond, arith, append_assoc, length-append}
 use Rattle.std.specs.Prelude.{◌==◌}
 use Rattle.std.proofs.lemmas.Bool.{ne_eqb, eq-eqb}
 use Rattle.std.proofs.lemmas.List.{append-nil, drop-append-le, length-drop}
@@ -44,7 +45,8 @@ stays_open : (n : Numbers) (f : Frame) (fs : List Frame) (ls : List ℕ) (es : L
     → length (drop f.start ls) + (k + 1) ≡ f.parts
     → settle (state n (f ∷ fs) ls es) ≡ state n (f ∷ fs) ls es
 stays_open n f fs ls es k e =
-    ap (λ b. cond b (settle_nodes n fs (take f.start ls) (es ++ definition f.junction f.own (drop f.start ls))) (state n (f ∷ fs) ls es))
+    ap (λ b. cond b (settle_nodes n fs (take f.start ls) (es ++ definition f.junction f.own (drop f.start ls)))
+    (state n (f ∷ fs) ls es))
     (differ (length (drop f.start ls)) f.parts k e)
 
 one_more : (k : ℕ) (ls : List ℕ) (l : ℕ) → k ≤ length ls → length (drop k (ls ++ l ∷ [])) ≡ length (drop k ls) + 1
@@ -73,14 +75,18 @@ mutual
       → settle (state n fs ls es) ≡ state n fs ls es
       → settle (run (state n fs ls es) (calls_of p)) ≡ settle (behind n fs ls es p)
   formula_runs (literal a positive) n fs ls es e =
-      ap (λ s. settle (act s (a_literal a positive))) e ∙ ap (λ x. settle (state (after n (literal a positive)) fs (ls ++ lit_of n (literal a positive) ∷ []) x)) (sym (append-nil es))
+      ap (λ s. settle (act s (a_literal a positive))) e
+      ∙ ap (λ x. settle (state (after n (literal a positive)) fs (ls ++ lit_of n (literal a positive) ∷ []) x))
+      (sym (append-nil es))
   formula_runs (node j ps) n fs ls es e =
       let f : Frame = frame j n (count ps) ls in
       let h1 = length-append ls (place_lit n ∷ []) in
       let h2 = none_yet ls (place_lit n) in
       ap (λ s. settle (run (act s (a_node j (count ps))) (calls_of_all ps))) e
-      ∙ parts_run ps (with_place n) f fs (ls ++ place_lit n ∷ []) es (omega (arith, h1)) (ap (λ k. k + count ps) h2 ∙ omega arith)
-      ∙ node_ends n (after_all (with_place n) ps) j fs ls (lits_of (with_place n) ps) (es ++ clauses_of_all (with_place n) ps) (count ps) (length-lits_of (with_place n) ps)
+      ∙ parts_run ps (with_place n) f fs (ls ++ place_lit n ∷ []) es (omega (arith, h1))
+      (ap (λ k. k + count ps) h2 ∙ omega arith)
+      ∙ node_ends n (after_all (with_place n) ps) j fs ls (lits_of (with_place n) ps)
+      (es ++ clauses_of_all (with_place n) ps) (count ps) (length-lits_of (with_place n) ps)
       ∙ ap (λ x. settle (state (after_all (with_place n) ps) fs (ls ++ place_lit n ∷ []) x))
       (append_assoc es (clauses_of_all (with_place n) ps) (definition j (place_lit n) (lits_of (with_place n) ps)))
 
@@ -97,9 +103,12 @@ mutual
       let longer = length-append ls (lit_of n p ∷ []) in
       let more = one_more f.start ls (lit_of n p) b in
       ap settle (run-append s (calls_of p) (calls_of_all ps))
-      ∙ same_runs (calls_of_all ps) (run s (calls_of p)) (behind n (f ∷ fs) ls es p) (formula_runs p n (f ∷ fs) ls es (stays_open n f fs ls es (count ps) e))
-      ∙ parts_run ps (after n p) f fs (ls ++ lit_of n p ∷ []) (es ++ clauses_of n p) (omega (arith, longer)) (ap (λ k. k + count ps) more ∙ omega arith)
-      ∙ (λ i. settle (state (after_all (after n p) ps) (f ∷ fs) (append_assoc ls (lit_of n p ∷ []) (lits_of (after n p) ps) i)
+      ∙ same_runs (calls_of_all ps) (run s (calls_of p)) (behind n (f ∷ fs) ls es p)
+      (formula_runs p n (f ∷ fs) ls es (stays_open n f fs ls es (count ps) e))
+      ∙ parts_run ps (after n p) f fs (ls ++ lit_of n p ∷ []) (es ++ clauses_of n p) (omega (arith, longer))
+      (ap (λ k. k + count ps) more ∙ omega arith)
+      ∙ (λ i. settle
+      (state (after_all (after n p) ps) (f ∷ fs) (append_assoc ls (lit_of n p ∷ []) (lits_of (after n p) ps) i)
       (append_assoc es (clauses_of n p) (clauses_of_all (after n p) ps) i)))
 
 formulas_run : (ps : Trees) (n : Numbers) (es : List Entry)
@@ -112,7 +121,9 @@ formulas_run (part p ps) n es =
     ap settle (run-append s (calls_of p) (calls_of_all ps))
     ∙ same_runs (calls_of_all ps) (run s (calls_of p)) next (formula_runs p n [] [] es refl)
     ∙ formulas_run ps (after n p) ((es ++ clauses_of n p) ++ unit)
-    ∙ ap (state (after_all (after n p) ps) [] []) (append_assoc (es ++ clauses_of n p) unit (formula_clauses (after n p) ps) ∙ append_assoc es (clauses_of n p) (unit ++ formula_clauses (after n p) ps))
+    ∙ ap (state (after_all (after n p) ps) [] [])
+    (append_assoc (es ++ clauses_of n p) unit (formula_clauses (after n p) ps)
+    ∙ append_assoc es (clauses_of n p) (unit ++ formula_clauses (after n p) ps))
 
 pub whole_run : (ps : Trees)
     → settle (run at_start (calls_of_all ps)) ≡ state (after_all start ps) [] [] (formula_clauses start ps)

@@ -1,5 +1,6 @@
 -- What a Clauser stands for after a call.
-use Rattle.std.proofs.Common.{◌≡◌, ℕ, ◌≤◌, Bool, true, false, List, [], ◌∷◌, ◌++◌, Option, Some, None, length, drop, take, refl, sym, ◌∙◌, ap, subst, cond, arith}
+use Rattle.std.proofs.Common.{◌≡◌, ℕ, ◌≤◌, Bool, true, false, List, [], ◌∷◌, ◌++◌, Option, Some, None, length, drop}
+use Rattle.std.proofs.Common.{take, refl, sym, ◌∙◌, ap, subst, cond, arith}
 use Rattle.std.specs.Prelude.{◌==◌}
 use Rattle.cnf_base.specs.declared.cnf.Entry.{Entry}
 use Rattle.cnf_base.specs.Formulas.{IsFormula}
@@ -25,7 +26,9 @@ numbers-settle_nodes : (n : Numbers) (fs : List Frame) (ls : List ℕ) (es : Lis
 numbers-settle_nodes n [] [] es = refl
 numbers-settle_nodes n [] (l ∷ ls) es = refl
 numbers-settle_nodes n (f ∷ fs) ls es =
-    either (length (drop f.start ls) == f.parts) (settle_nodes n fs (take f.start ls) (es ++ definition f.junction f.own (drop f.start ls))) (state n (f ∷ fs) ls es) n
+    either (length (drop f.start ls) == f.parts)
+    (settle_nodes n fs (take f.start ls) (es ++ definition f.junction f.own (drop f.start ls)))
+    (state n (f ∷ fs) ls es) n
     (numbers-settle_nodes n fs (take f.start ls) (es ++ definition f.junction f.own (drop f.start ls))) refl
 
 pub numbers-settle : (s : State) → (settle s).numbers ≡ s.numbers
@@ -69,7 +72,8 @@ pub fills_literal : (old mid t : State) (calls : List Call) (a : Atom) (positive
     → mid ≡ settle old → variable_in mid.numbers.atoms a ≡ None
     → mid.numbers.variables ≡ 2147483647 → StandsBy true t (calls ++ a_literal a positive ∷ [])
 fills_literal old mid t calls a positive h e new full =
-    let l = ap (λ x. x.numbers.variables) (run_last calls (a_literal a positive) ∙ ap (λ s. act s (a_literal a positive)) (sym (e ∙ h))) in
+    let l = ap (λ x. x.numbers.variables) (run_last calls (a_literal a positive)
+    ∙ ap (λ s. act s (a_literal a positive)) (sym (e ∙ h))) in
     let o = ap (λ (o : Option ℕ). (with_atom_by o mid.numbers a).variables) new in
     omega (arith, l, o, full)
 
@@ -85,7 +89,8 @@ pub not_full : (s : State) (ps : Trees) (full : Bool) → StandsBy full s (calls
     → (clause_form ps).variables ≤ 2147483647 → StandsBy false s (calls_of_all ps)
 not_full s ps false h b = h
 not_full s ps true h b =
-    let e = ap (λ n. n.variables) (sym (numbers-settle (run at_start (calls_of_all ps))) ∙ ap (λ s. s.numbers) (whole_run ps)) in
+    let e = ap (λ n. n.variables) (sym (numbers-settle (run at_start (calls_of_all ps)))
+    ∙ ap (λ s. s.numbers) (whole_run ps)) in
     absurd (omega (arith, h, b, e))
 
 settled_by : (b : Bool) (n : Numbers) (f : Frame) (fs : List Frame) (ls : List ℕ) (es : List Entry) (x : State)
@@ -100,7 +105,8 @@ settled_twice : (n : Numbers) (fs : List Frame) (ls : List ℕ) (es : List Entry
 settled_twice n [] [] es = refl
 settled_twice n [] (l ∷ ls) es = refl
 settled_twice n (f ∷ fs) ls es =
-    settled_by (length (drop f.start ls) == f.parts) n f fs ls es (settle_nodes n fs (take f.start ls) (es ++ definition f.junction f.own (drop f.start ls)))
+    settled_by (length (drop f.start ls) == f.parts) n f fs ls es
+    (settle_nodes n fs (take f.start ls) (es ++ definition f.junction f.own (drop f.start ls)))
     (settled_twice n fs (take f.start ls) (es ++ definition f.junction f.own (drop f.start ls))) refl
 
 settle-settle : (s : State) → settle (settle s) ≡ settle s
@@ -137,5 +143,6 @@ too_many_atoms false e old mid t calls a positive p n q h = fills_literal old mi
 pub is_formula_of : EntriesAreIn → (s : State) (ps : Trees) → Whole s ps
     → IsFormula (record { variables = s.numbers.variables; clauses = s.clauses })
 is_formula_of entries s ps w =
-    let e : clause_form ps ≡ record { variables = s.numbers.variables; clauses = s.clauses } = sym (λ i. record { variables = (w.numbers i).variables; clauses = w.clauses i }) in
+    let e : clause_form ps ≡ record { variables = s.numbers.variables; clauses = s.clauses } = sym
+    (λ i. record { variables = (w.numbers i).variables; clauses = w.clauses i }) in
     subst IsFormula e (is_formula entries ps)

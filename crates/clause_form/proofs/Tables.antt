@@ -1,5 +1,6 @@
 -- The row of the atoms' variables.
-use Rattle.std.proofs.Common.{◌≡◌, ℕ, ◌<◌, ◌≤◌, ◌^◌, Bool, true, false, cond, List, [], ◌∷◌, ◌++◌, Option, Some, None, length, get_or, slice_set, refl, sym, ◌∙◌, ap, subst, arith}
+use Rattle.std.proofs.Common.{◌≡◌, ℕ, ◌<◌, ◌≤◌, ◌^◌, Bool, true, false, cond, List, [], ◌∷◌, ◌++◌, Option, Some, None}
+use Rattle.std.proofs.Common.{length, get_or, slice_set, refl, sym, ◌∙◌, ap, subst, arith}
 use Rattle.std.specs.Option.{unwrap_or}
 use Rattle.std.proofs.lemmas.Grind.{common_steps}
 use Rattle.fol_sig.specs.Symbols.{symbols}
@@ -58,7 +59,8 @@ module _ (same : AtomsAreSame) where
       differs b h = by (same_atom b a) refl
         where
           by : (t : Bool) → same_atom b a ≡ t → t ≡ false
-          by true e = let m = none (subst (FitsAtom (symbols s.signature) s.counts) (same.same b a e) h.0) in absurd (omega (arith, m, h.1))
+          by true e = let m = none (subst (FitsAtom (symbols s.signature) s.counts) (same.same b a e) h.0) in
+              absurd (omega (arith, m, h.1))
           by false e = refl
 
   set-there : (row : List ℕ) (n m v : ℕ) → m ≡ n → n < length row → get_or (slice_set row n v) m 0 ≡ v
@@ -78,13 +80,17 @@ module _ (same : AtomsAreSame) where
     given = given-more xs a v f.given new r;
   }
     where
-      by : (b : Atom) → IsNumbered s b → (t : Bool) → same_atom b a ≡ t → get_or (slice_set row n v) (atom_number (symbols s.signature) s.counts b) 0 ≡ unwrap_or (variable_in (xs ++ (a, v) ∷ []) b) 0
+      by : (b : Atom) → IsNumbered s b → (t : Bool) → same_atom b a ≡ t
+          → get_or (slice_set row n v) (atom_number (symbols s.signature) s.counts b) 0
+          ≡ unwrap_or (variable_in (xs ++ (a, v) ∷ []) b) 0
       by b h true e =
           let i : b ≡ a = same.same b a e in
-          set-there row n (atom_number (symbols s.signature) s.counts b) v (ap (atom_number (symbols s.signature) s.counts) i ∙ sym is) lt
+          set-there row n (atom_number (symbols s.signature) s.counts b) v
+          (ap (atom_number (symbols s.signature) s.counts) i ∙ sym is) lt
           ∙ ap (λ o. unwrap_or o 0) (sym (new-found xs a v new))
           ∙ ap (λ x. unwrap_or (variable_in (xs ++ (a, v) ∷ []) x) 0) (sym i)
       by b h false e =
           set-elsewhere row n (atom_number (symbols s.signature) s.counts b) v
-          (λ m. let i : true ≡ false = sym (same.reflexive a) ∙ ap (λ x. same_atom x a) (sym (numbered.once b a h.0 fits (m ∙ is))) ∙ e in cc i)
+          (λ m. let i : true ≡ false = sym (same.reflexive a)
+          ∙ ap (λ x. same_atom x a) (sym (numbered.once b a h.0 fits (m ∙ is))) ∙ e in cc i)
           ∙ f.found b h ∙ ap (λ o. unwrap_or o 0) (sym (other-found xs a b v e))

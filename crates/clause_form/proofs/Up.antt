@@ -1,5 +1,6 @@
 -- An assignment that satisfies the formulas extends to values that satisfy the clauses: each And and Or has its truth.
-use Rattle.std.proofs.Common.{◌≡◌, ℕ, ◌+◌, ◌-◌, Bool, true, false, List, [], ◌∷◌, ◌++◌, Option, Some, None, length, refl, sym, ◌∙◌, ap, subst, cond, arith, append_assoc, length-append, get_or}
+use Rattle.std.proofs.Common.{◌≡◌, ℕ, ◌+◌, ◌-◌, Bool, true, false, List, [], ◌∷◌, ◌++◌, Option, Some, None, length}
+use Rattle.std.proofs.Common.{refl, sym, ◌∙◌, ap, subst, cond, arith, append_assoc, length-append, get_or}
 use Rattle.std.specs.Prelude.{◌&&◌, ◌||◌, not}
 use Rattle.std.proofs.lemmas.Bool.{and_parts, and_from}
 use Rattle.std.proofs.lemmas.List.{get_or-append-add, append-nil}
@@ -11,11 +12,13 @@ use Rattle.ground_terms.specs.Same.{same_atom}
 use Rattle.ground_terms.specs.declared.ground.Junction.{Junction}
 use Rattle.ground_terms.specs.declared.ground.Junction.TheVariants.{And, Or}
 use Rattle.ground_terms.specs.Trees.{Tree, Trees, literal, node, none, part, truth, all_true, any_true}
-use Rattle.clause_form.specs.Numbers.{Numbers, start, variable_in, with_place, with_atom_by, after, after_all, place_lit, lit_of, lits_of}
+use Rattle.clause_form.specs.Numbers.{Numbers, start, variable_in, with_place, with_atom_by, after, after_all}
+use Rattle.clause_form.specs.Numbers.{place_lit, lit_of, lits_of}
 use Rattle.clause_form.specs.Clauses.{definition, clauses_of, clauses_of_all, formula_clauses, clause_form}
 use Rattle.clause_form.specs.Meaning.{Extends, ExtendsToModel, atoms_of}
 use Rattle.clause_form.proofs.Below.{AtomsAreSame, EntriesAreTrue}
-use Rattle.clause_form.proofs.Truths.{literal_truth, any_lit, all_lits, all_entries_true, all_entries_true-append, or_nothing, satisfies_of}
+use Rattle.clause_form.proofs.Truths.{literal_truth, any_lit, all_lits, all_entries_true, all_entries_true-append}
+use Rattle.clause_form.proofs.Truths.{or_nothing, satisfies_of}
 use Rattle.clause_form.proofs.Definitions.{joined, definition_truth}
 use Rattle.clause_form.proofs.Growth.{found_last, keeps_append}
 use Rattle.clause_form.proofs.Down.{literal_value}
@@ -51,7 +54,8 @@ module _ (same_atoms : AtomsAreSame) (entries : EntriesAreTrue) (v : Atom → Bo
   fits_place : (n : Numbers) (before : List Bool) (t : Bool) → Fits n before → Fits (with_place n) (before ++ t ∷ [])
   fits_place n before t f = record {
     len = plus_one before t n.variables f.len;
-    atoms = λ rest a k h. subst (λ w. value_of w k ≡ v a) (sym (append_assoc before (t ∷ []) rest)) (f.atoms (t ∷ rest) a k h);
+    atoms = λ rest a k h. subst (λ w. value_of w k ≡ v a) (sym (append_assoc before (t ∷ []) rest))
+        (f.atoms (t ∷ rest) a k h);
   }
 
   last_atom : (before rest : List Bool) (a b : Atom) (n k : ℕ) (t : Bool) → same_atom b a ≡ t → length before ≡ n
@@ -66,7 +70,8 @@ module _ (same_atoms : AtomsAreSame) (entries : EntriesAreTrue) (v : Atom → Bo
       → variable_in n.atoms b ≡ o
       → variable_in (n.atoms ++ (a, n.variables + 1) ∷ []) b ≡ Some k → value_of (before ++ v a ∷ rest) k ≡ v b
   new_atom n before rest a b k None f e h =
-      last_atom before rest a b n.variables k (same_atom b a) refl f.len (sym (found_last n.atoms a b (n.variables + 1) e) ∙ h)
+      last_atom before rest a b n.variables k (same_atom b a) refl f.len
+      (sym (found_last n.atoms a b (n.variables + 1) e) ∙ h)
   new_atom n before rest a b k (Some m) f e h =
       let s : Some m ≡ Some k = sym (keeps_append n.atoms ((a, n.variables + 1) ∷ []) b m e) ∙ h in
       let i : m ≡ k = cc s in
@@ -77,15 +82,18 @@ module _ (same_atoms : AtomsAreSame) (entries : EntriesAreTrue) (v : Atom → Bo
   fits_atom (Some k) n before a f = subst (Fits n) (sym (append-nil before)) f
   fits_atom None n before a f = record {
     len = plus_one before (v a) n.variables f.len;
-    atoms = λ rest b k h. subst (λ w. value_of w k ≡ v b) (sym (append_assoc before (v a ∷ []) rest)) (new_atom n before rest a b k (variable_in n.atoms b) f refl h);
+    atoms = λ rest b k h. subst (λ w. value_of w k ≡ v b) (sym (append_assoc before (v a ∷ []) rest))
+        (new_atom n before rest a b k (variable_in n.atoms b) f refl h);
   }
 
   mutual
     fits_after : (n : Numbers) (p : Tree) (before : List Bool) → Fits n before → Fits (after n p) (before ++ more n p)
     fits_after n (literal a positive) before f = fits_atom (variable_in n.atoms a) n before a f
     fits_after n (node j ps) before f =
-        subst (Fits (after_all (with_place n) ps)) (append_assoc before (truth v (node j ps) ∷ []) (more_all (with_place n) ps))
-        (fits_after_all (with_place n) ps (before ++ truth v (node j ps) ∷ []) (fits_place n before (truth v (node j ps)) f))
+        subst (Fits (after_all (with_place n) ps))
+        (append_assoc before (truth v (node j ps) ∷ []) (more_all (with_place n) ps))
+        (fits_after_all (with_place n) ps (before ++ truth v (node j ps) ∷ [])
+        (fits_place n before (truth v (node j ps)) f))
 
     fits_after_all : (n : Numbers) (ps : Trees) (before : List Bool) → Fits n before
         → Fits (after_all n ps) (before ++ more_all n ps)
@@ -120,7 +128,9 @@ module _ (same_atoms : AtomsAreSame) (entries : EntriesAreTrue) (v : Atom → Bo
     good : (n : Numbers) (p : Tree) (before rest w : List Bool) → Fits n before → w ≡ (before ++ more n p) ++ rest
         → Good n p w
     good n (literal a positive) before rest w f e = record {
-      lit = literal_value same_atoms entries v (value_of w) n a positive (subst (λ x. Extends v (after n (literal a positive)).atoms (value_of x)) (sym e) ((fits_after n (literal a positive) before f).atoms rest));
+      lit = literal_value same_atoms entries v (value_of w) n a positive
+          (subst (λ x. Extends v (after n (literal a positive)).atoms (value_of x)) (sym e)
+          ((fits_after n (literal a positive) before f).atoms rest));
       clauses = refl;
     }
     good n (node j ps) before rest w f e =
@@ -134,8 +144,11 @@ module _ (same_atoms : AtomsAreSame) (entries : EntriesAreTrue) (v : Atom → Bo
         let own : is_true (value_of w) (place_lit n) ≡ t = literal_truth (value_of w) true (n.variables + 1) ∙ here in
         record {
           lit = own;
-          clauses = all_entries_true-append (value_of w) (clauses_of_all (with_place n) ps) (definition j (place_lit n) (lits_of (with_place n) ps))
-              ∙ and_from _ _ g.clauses (definition_truth entries (value_of w) j (place_lit n) (lits_of (with_place n) ps) ∙ same_or _ _ (own ∙ sym (joins j (with_place n) ps w g)));
+          clauses = all_entries_true-append (value_of w) (clauses_of_all (with_place n) ps)
+              (definition j (place_lit n) (lits_of (with_place n) ps))
+              ∙ and_from _ _ g.clauses
+              (definition_truth entries (value_of w) j (place_lit n) (lits_of (with_place n) ps)
+              ∙ same_or _ _ (own ∙ sym (joins j (with_place n) ps w g)));
         }
 
     good_all : (n : Numbers) (ps : Trees) (before rest w : List Bool) → Fits n before
@@ -167,7 +180,8 @@ module _ (same_atoms : AtomsAreSame) (entries : EntriesAreTrue) (v : Atom → Bo
       ∙ append_assoc (before ++ more n p) (more_all (after n p) ps) rest in
       let g = good n p before (more_all (after n p) ps ++ rest) w f e1 in
       all_entries_true-append (value_of w) (clauses_of n p) (Clause (lit_of n p ∷ []) ∷ formula_clauses (after n p) ps)
-      ∙ and_from _ _ g.clauses (and_from _ _ (or_nothing (value_of w) (is_true (value_of w) (lit_of n p)) ∙ g.lit ∙ h'.0)
+      ∙ and_from _ _ g.clauses
+      (and_from _ _ (or_nothing (value_of w) (is_true (value_of w) (lit_of n p)) ∙ g.lit ∙ h'.0)
       (formulas_good (after n p) ps (before ++ more n p) rest w (fits_after n p before f) e2 h'.1))
 
   fits_start : Fits start []

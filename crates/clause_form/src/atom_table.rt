@@ -1,7 +1,8 @@
 // The variables of atoms while clauses are written. An atom's variable is found at the atom's number, in a row that is
 // as long as the greatest number that came. An atom without a number (it names a symbol or a term that there is not, or
 // there are 2^32 atoms or more) is sought among all atoms, so that no caller has to promise anything of its atoms.
-ghost use Rattle.std.specs.Prelude.{◌≡◌, ◌<◌, ◌≤◌, ◌^◌, ◌+◌, ℕ, List, [], ◌∷◌, ◌++◌, length, slice_index, None, OnOk, OnErr, IfSome};
+ghost use Rattle.std.specs.Prelude.{◌≡◌, ◌<◌, ◌≤◌, ◌^◌, ◌+◌, ℕ, List, [], ◌∷◌, ◌++◌, length, slice_index, None, OnOk};
+ghost use Rattle.std.specs.Prelude.{OnErr, IfSome};
 ghost use Rattle.clause_form.specs.Numbers.{variable_in};
 ghost use Rattle.clause_form.specs.Tables.{some_variable};
 

@@ -1,6 +1,7 @@
 // What is written of the clauses, and what is open. A node is ended when the next call comes, and not with its last
 // part: so a call that is refused for want of memory while it ends nodes leaves what stands for the same calls.
-ghost use Rattle.std.specs.Prelude.{◌≡◌, ◌<◌, ◌≤◌, ◌^◌, List, [], ◌∷◌, ◌++◌, take, drop, length, true, false, Some, None, Ok, OnOk, OnErr, IfOk};
+ghost use Rattle.std.specs.Prelude.{◌≡◌, ◌<◌, ◌≤◌, ◌^◌, List, [], ◌∷◌, ◌++◌, take, drop, length, true, false, Some};
+ghost use Rattle.std.specs.Prelude.{None, Ok, OnOk, OnErr, IfOk};
 ghost use Rattle.ground_terms.specs.Calls.{a_literal, a_node};
 ghost use Rattle.clause_form.specs.Numbers.{variable_in};
 ghost use Rattle.cnf_base.specs.Literals.{literal_of};

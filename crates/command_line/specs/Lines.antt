@@ -1,5 +1,6 @@
 -- The command lines of the program: a command's word first, and behind it words that `clap` takes for that command.
-use Rattle.std.specs.Prelude.{ℕ, ◌==◌, true, List, [], ◌∷◌, length, Option, Some, None, option_map, option_and_then, codes, if◌then◌else◌}
+use Rattle.std.specs.Prelude.{ℕ, ◌==◌, true, List, [], ◌∷◌, length, Option, Some, None, option_map, option_and_then}
+use Rattle.std.specs.Prelude.{codes, if◌then◌else◌}
 use Rattle.std.specs.Str.{bytes_eq}
 use Rattle.clap.specs.declared.builder.action.ArgAction.TheVariants.{Set}
 use Rattle.clap.specs.Words.{App, Row, Rule, Text, new_app, new_rule, with_rule, fault_of, matches_of, first_of}
@@ -31,7 +32,9 @@ required_rule id = record (new_rule id) { action = Some Set; required = true }
 
 -- the options of a decision
 abbrev pub with_limits : App → App
-with_limits app = with_rule (with_rule (with_rule app (number_option (codes "terms") 1 100000)) (number_option (codes "ground") 1 50000000))
+with_limits app =
+    with_rule (with_rule (with_rule app (number_option (codes "terms") 1 100000))
+    (number_option (codes "ground") 1 50000000))
     (number_option (codes "conflicts") 1 10000000)
 
 -- the commands as `clap` knows them
@@ -55,16 +58,23 @@ matched app words = if length (fault_of app words) == 0 then Some (matches_of ap
 -- what a decision may spend, by the options; what is left out has its default
 abbrev pub asked_by : List Row → Option Asked
 asked_by rows =
-    option_and_then (λ terms. option_and_then (λ size. option_map (λ conflicts. record { terms = terms; ground_size = size; conflicts = conflicts })
+    option_and_then
+    (λ terms. option_and_then
+    (λ size. option_map (λ conflicts. record { terms = terms; ground_size = size; conflicts = conflicts })
     (number_of 1 10000000 default_asked.conflicts (first_of (codes "conflicts") rows)))
     (number_of 1 50000000 default_asked.ground_size (first_of (codes "ground") rows)))
     (number_of 1 100000 default_asked.terms (first_of (codes "terms") rows))
 
 abbrev pub check_by : Option (List Row) → Option Line
-check_by rows = option_and_then (λ rows. option_and_then (λ file. option_map (check file) (asked_by rows)) (first_of (codes "FILE") rows)) rows
+check_by rows =
+    option_and_then
+    (λ rows. option_and_then (λ file. option_map (check file) (asked_by rows)) (first_of (codes "FILE") rows)) rows
 
 abbrev pub lrat_by : Option (List Row) → Option Line
-lrat_by rows = option_and_then (λ rows. option_and_then (λ formula. option_map (lrat formula) (first_of (codes "LOG") rows)) (first_of (codes "CNF") rows)) rows
+lrat_by rows =
+    option_and_then
+    (λ rows. option_and_then (λ formula. option_map (lrat formula) (first_of (codes "LOG") rows))
+    (first_of (codes "CNF") rows)) rows
 
 -- what is to be written, by its word
 abbrev pub what_of : Text → Option What
@@ -75,15 +85,21 @@ what_of word =
 
 abbrev pub emission_by : List Row → Option Emission
 emission_by rows =
-    option_and_then (λ goal. option_and_then (λ what. option_map (λ asked. record { goal = goal; what = what; limits = asked }) (asked_by rows))
+    option_and_then
+    (λ goal. option_and_then
+    (λ what. option_map (λ asked. record { goal = goal; what = what; limits = asked }) (asked_by rows))
     (option_and_then what_of (first_of (codes "WHAT") rows)))
     (option_and_then (number_in 1 1000000000) (first_of (codes "GOAL") rows))
 
 abbrev pub emit_by : Option (List Row) → Option Line
-emit_by rows = option_and_then (λ rows. option_and_then (λ file. option_map (emit file) (emission_by rows)) (first_of (codes "FILE") rows)) rows
+emit_by rows =
+    option_and_then
+    (λ rows. option_and_then (λ file. option_map (emit file) (emission_by rows)) (first_of (codes "FILE") rows))
+    rows
 
 abbrev pub sample_by : Option (List Row) → Option Line
-sample_by rows = option_and_then (λ rows. option_map sample (option_and_then (number_in 0 40) (first_of (codes "N") rows))) rows
+sample_by rows =
+    option_and_then (λ rows. option_map sample (option_and_then (number_in 0 40) (first_of (codes "N") rows))) rows
 
 -- what words ask for that begin with a command's word
 unfoldable pub check_line : List Text → Option Line

@@ -8,15 +8,18 @@ use Rattle.clap.specs.Words.{Rule, Text, new_rule}
 
 -- an option `--id N`, with N in a range
 abbrev pub number_option : Text → ℕ → ℕ → Rule
-number_option id low high = record (new_rule id) { long = Some id; action = Some Set; parser = Some (parser.Unsigned low high) }
+number_option id low high =
+    record (new_rule id) { long = Some id; action = Some Set; parser = Some (parser.Unsigned low high) }
 
 -- an argument that has to be there, and is a number in a range
 abbrev pub required_number : Text → ℕ → ℕ → Rule
-required_number id low high = record (new_rule id) { action = Some Set; required = true; parser = Some (parser.Unsigned low high) }
+required_number id low high =
+    record (new_rule id) { action = Some Set; required = true; parser = Some (parser.Unsigned low high) }
 
 -- the number that a word is, where it is one in this range; `clap` takes no other word for it
 abbrev pub number_in : ℕ → ℕ → Text → Option ℕ
-number_in low high text = if is_unsigned_in low high text then Some (digits_value 10 (without_leading_plus text)) else None
+number_in low high text =
+    if is_unsigned_in low high text then Some (digits_value 10 (without_leading_plus text)) else None
 
 -- the number of an option, or what stands for it where it is left out
 abbrev pub number_of : ℕ → ℕ → ℕ → Option Text → Option ℕ

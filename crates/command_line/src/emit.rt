@@ -62,7 +62,8 @@ fn emit_of<'a>(matches: &Option<ArgMatches<'a>>) -> Option<Request<'a>>
 
 #[tactic(auto, unfolding(crate::specs::Lines::emit_line))]
 pub fn emit<'a>(alloc: Global, words: &'a [String]) -> Mem<Option<Request<'a>>>
-    ensures line { IfOk result (λ r. option_map request_line r ≡ emit_line (map (λ w. string_bytes w) words.entry.now)) }
+    ensures line { IfOk result
+        (λ r. option_map request_line r ≡ emit_line (map (λ w. string_bytes w) words.entry.now)) }
     ensures ranges { IfOk result (λ r. IfSome r HasRanges) }
 {
     let command = emit_command(alloc)?;

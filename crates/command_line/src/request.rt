@@ -1,7 +1,8 @@
 // What a list of words asks for.
 ghost use Rattle.std.specs.Prelude.{◌≡◌, map, string_bytes, IfOk, IfSome, option_map};
 ghost use Rattle.clap.specs.Words.{app_of};
-ghost use Rattle.command_line.specs.Lines.{check_app, lrat_app, with_limits, asked_by, check_by, lrat_by, check_line, lrat_line, line_of, request_line};
+ghost use Rattle.command_line.specs.Lines.{check_app, lrat_app, with_limits, asked_by, check_by, lrat_by, check_line};
+ghost use Rattle.command_line.specs.Lines.{lrat_line, line_of, request_line};
 ghost use Rattle.command_line.specs.Asking.{default_asked, IsInRange, HasRanges};
 ghost use Rattle.command_line.specs.Rows.{rows_in};
 
@@ -144,7 +145,8 @@ fn check_of<'a>(matches: &Option<ArgMatches<'a>>) -> Option<Request<'a>>
 
 #[tactic(auto, unfolding(crate::specs::Lines::check_line))]
 fn check<'a>(alloc: Global, words: &'a [String]) -> Mem<Option<Request<'a>>>
-    ensures line { IfOk result (λ r. option_map request_line r ≡ check_line (map (λ w. string_bytes w) words.entry.now)) }
+    ensures line { IfOk result
+        (λ r. option_map request_line r ≡ check_line (map (λ w. string_bytes w) words.entry.now)) }
     ensures ranges { IfOk result (λ r. IfSome r HasRanges) }
 {
     let command = check_command(alloc)?;
@@ -168,7 +170,8 @@ fn lrat_of<'a>(matches: &Option<ArgMatches<'a>>) -> Option<Request<'a>>
 
 #[tactic(auto, unfolding(crate::specs::Lines::lrat_line))]
 fn lrat<'a>(alloc: Global, words: &'a [String]) -> Mem<Option<Request<'a>>>
-    ensures line { IfOk result (λ r. option_map request_line r ≡ lrat_line (map (λ w. string_bytes w) words.entry.now)) }
+    ensures line { IfOk result
+        (λ r. option_map request_line r ≡ lrat_line (map (λ w. string_bytes w) words.entry.now)) }
     ensures ranges { IfOk result (λ r. IfSome r HasRanges) }
 {
     let command = lrat_command(alloc)?;

@@ -34,7 +34,8 @@ fn sample_of<'a>(matches: &Option<ArgMatches<'a>>) -> Option<Request<'a>>
 
 #[tactic(auto, unfolding(crate::specs::Lines::sample_line))]
 pub fn sample<'a>(alloc: Global, words: &'a [String]) -> Mem<Option<Request<'a>>>
-    ensures line { IfOk result (λ r. option_map request_line r ≡ sample_line (map (λ w. string_bytes w) words.entry.now)) }
+    ensures line { IfOk result
+        (λ r. option_map request_line r ≡ sample_line (map (λ w. string_bytes w) words.entry.now)) }
     ensures ranges { IfOk result (λ r. IfSome r HasRanges) }
 {
     let command = sample_command(alloc)?;

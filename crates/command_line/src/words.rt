@@ -27,7 +27,8 @@ pub fn required<'a>(alloc: Global, id: &'a str) -> Arg<'a>
 /// What `clap` makes of the words for a command, or nothing where it refuses them.
 pub fn matches<'a>(command: Command<'a>, words: &'a [String]) -> Mem<Option<ArgMatches<'a>>>
     requires { is_simple_and_free (app_of command) ≡ true }
-    ensures { IfOk result (λ r. option_map rows_in r ≡ matched (app_of command.entry) (map (λ w. string_bytes w) words.entry.now)) }
+    ensures { IfOk result
+        (λ r. option_map rows_in r ≡ matched (app_of command.entry) (map (λ w. string_bytes w) words.entry.now)) }
 {
     match command.try_get_matches_from(words) {
         Ok(matches) => Ok(Some(matches)),

@@ -38,13 +38,16 @@ abbrev pub status_of : Written → ℕ → ℕ
 status_of wrote.All status = status
 status_of wrote.Failed status = 5
 
--- All that was due was written to its sink, or a front of it, with status 5, where that sink failed. The other sink rests.
-abbrev pub IsWrittenTo : Side → List ℕ → Written → Option (List ℕ) → Option (List ℕ) → Option (List ℕ) → Option (List ℕ) → ℕ → ℕ → ℕ → ℕ → Type 0
+-- All that was due was written to its sink, or a front of it, with status 5, where that sink failed. The other sink
+-- rests.
+abbrev pub IsWrittenTo : Side → List ℕ → Written → Option (List ℕ) → Option (List ℕ) → Option (List ℕ) → Option (List ℕ)
+    → ℕ → ℕ → ℕ → ℕ → Type 0
 IsWrittenTo side.Out text written out_old out_new err_old err_new out_before out_now err_before err_now =
     Hands written out_old out_new out_before out_now text × Rests err_old err_new err_before err_now
 IsWrittenTo side.Err text written out_old out_new err_old err_new out_before out_now err_before err_now =
     Hands written err_old err_new err_before err_now text × Rests out_old out_new out_before out_now
 
-pub record IsWritten (due : Due) (written : Written) (status : ℕ) (out_old out_new err_old err_new : Option (List ℕ)) (out_before out_now err_before err_now : ℕ) : Type 0 where
+pub record IsWritten (due : Due) (written : Written) (status : ℕ) (out_old out_new err_old err_new : Option (List ℕ))
+    (out_before out_now err_before err_now : ℕ) : Type 0 where
   pub text : IsWrittenTo due.side due.text written out_old out_new err_old err_new out_before out_now err_before err_now
   pub code : status ≡ status_of written due.status

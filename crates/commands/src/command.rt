@@ -92,7 +92,8 @@ pub fn two_files<C: Command, F: Files>(
     requires first { into.old.items ≡ [] }
     requires second { others.old.items ≡ [] }
     ensures same { (n : List ℕ) → F.told files.new n ≡ F.told files.old n }
-    ensures ends { EndsTwo (F.told files.old name.now) (F.told files.old other.now) most limit (F.faults files.old) (F.faults files.new)
+    ensures ends { EndsTwo (F.told files.old name.now) (F.told files.old other.now) most limit (F.faults files.old)
+        (F.faults files.new)
         into.new.items others.new.items (λ first second d. C.is_answer command.now first second d.answer
         × (d.said ≡ C.due command.now first second d.answer)) result }
 {

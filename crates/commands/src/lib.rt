@@ -1,5 +1,5 @@
-//! What all commands of a program share: their files are loaded, the texts are answered, what is due is written, and the
-//! status says how it went. No command is named here.
+//! What all commands of a program share: their files are loaded, the texts are answered, what is due is written, and
+//! the status says how it went. No command is named here.
 #![tactic(auto)]
 
 mod command;

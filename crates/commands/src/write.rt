@@ -74,7 +74,8 @@ pub fn finish<A: Drop, O: Sink, E: Sink>(
     err: &mut E,
 ) -> Finished<A>
     ensures outcome { result.outcome ≡ outcome_in done }
-    ensures written { IsWritten (due_in done) result.written result.status (O.taken out.old) (O.taken out.new) (E.taken err.old) (E.taken err.new)
+    ensures written { IsWritten (due_in done) result.written result.status (O.taken out.old) (O.taken out.new)
+        (E.taken err.old) (E.taken err.new)
         (O.faults out.old) (O.faults out.new) (E.faults err.old) (E.faults err.new) }
 {
     match done {

@@ -3,7 +3,8 @@ use Rattle.std.specs.Prelude.{ℕ, ◌<◌, List, ◌++◌, length}
 use Rattle.fol_sig.specs.Symbols.{Symbols}
 use Rattle.fol_sig.specs.Tables.{InRange}
 use Rattle.equality_axioms.specs.declared.scheme.Scheme.{Scheme}
-use Rattle.equality_axioms.specs.declared.scheme.Scheme.TheVariants.{Reflexive, Symmetric, Transitive, Relation, Function}
+use Rattle.equality_axioms.specs.declared.scheme.Scheme.TheVariants.{Reflexive, Symmetric, Transitive, Relation}
+use Rattle.equality_axioms.specs.declared.scheme.Scheme.TheVariants.{Function}
 use Rattle.equality_axioms.specs.Axioms.{scheme_sorts}
 
 -- the symbols have what the scheme names
@@ -16,4 +17,5 @@ IsSchemeOf sig (Function f i) = (f.0 < sig.functions) × (i < length (sig.from_o
 
 -- with any terms of these sorts behind it, the tuple is one of terms that the scheme ranges over
 abbrev pub FillsScheme : Symbols → List ℕ → Scheme → List ℕ → List ℕ → Type 0
-FillsScheme sig counts scheme tuple sorts = (xs : List ℕ) → InRange counts sorts xs → InRange counts (scheme_sorts sig scheme) (tuple ++ xs)
+FillsScheme sig counts scheme tuple sorts =
+    (xs : List ℕ) → InRange counts sorts xs → InRange counts (scheme_sorts sig scheme) (tuple ++ xs)

@@ -6,7 +6,8 @@ ghost use Rattle.fol_sig.specs.Tuples.{join_below};
 ghost use Rattle.ground_terms.specs.Terms.{AreClosed};
 ghost use Rattle.ground_terms.specs.Numberings.{numbering};
 ghost use Rattle.ground_terms.specs.Taking.{Hands, calls_of_each};
-ghost use Rattle.equality_axioms.specs.Axioms.{scheme_sorts, scheme_axioms, sort_axioms, relation_axioms, function_axioms, equality_axioms};
+ghost use Rattle.equality_axioms.specs.Axioms.{scheme_sorts, scheme_axioms, sort_axioms, relation_axioms};
+ghost use Rattle.equality_axioms.specs.Axioms.{function_axioms, equality_axioms};
 ghost use Rattle.equality_axioms.specs.Walk.{IsSchemeOf};
 
 use crate::scheme::Scheme;
@@ -25,7 +26,8 @@ pub fn axioms_into<S: GroundSink>(
     sink: &mut S,
 ) -> Mem<()>
     requires closed { AreClosed (symbols signature.now) terms.now }
-    ensures { Hands (S.stands sink.old) (S.stands sink.new) result (calls_of_each (equality_axioms (symbols signature.now) terms.now)) }
+    ensures { Hands (S.stands sink.old) (S.stands sink.new) result
+        (calls_of_each (equality_axioms (symbols signature.now) terms.now)) }
 {
     hand_sorts(alloc, signature, terms, sink)?;
     hand_relations(alloc, signature, terms, sink)?;
@@ -39,7 +41,10 @@ fn hand_sorts<S: GroundSink>(
     sink: &mut S,
 ) -> Mem<()>
     requires closed { AreClosed (symbols signature.now) terms.now }
-    ensures { Hands (S.stands sink.old) (S.stands sink.new) result (calls_of_each (join_below signature.now.sorts (sort_axioms (symbols signature.now) (numbering (symbols signature.now) terms.now)))) }
+    ensures { Hands (S.stands sink.old) (S.stands sink.new) result
+        (calls_of_each
+        (join_below signature.now.sorts
+        (sort_axioms (symbols signature.now) (numbering (symbols signature.now) terms.now)))) }
 {
     for k in 0..signature.sorts() {
         hand_sort(alloc, signature, terms, Sort(k), sink)?;
@@ -56,7 +61,8 @@ fn hand_sort<S: GroundSink>(
 ) -> Mem<()>
     requires closed { AreClosed (symbols signature.now) terms.now }
     requires sort { sort.0 < signature.now.sorts }
-    ensures { Hands (S.stands sink.old) (S.stands sink.new) result (calls_of_each (sort_axioms (symbols signature.now) (numbering (symbols signature.now) terms.now) sort.0)) }
+    ensures { Hands (S.stands sink.old) (S.stands sink.new) result
+        (calls_of_each (sort_axioms (symbols signature.now) (numbering (symbols signature.now) terms.now) sort.0)) }
 {
     let sorts = [sort, sort, sort];
     hand_scheme(
@@ -92,7 +98,10 @@ fn hand_relations<S: GroundSink>(
     sink: &mut S,
 ) -> Mem<()>
     requires closed { AreClosed (symbols signature.now) terms.now }
-    ensures { Hands (S.stands sink.old) (S.stands sink.new) result (calls_of_each (join_below (length signature.now.relations) (relation_axioms (symbols signature.now) (numbering (symbols signature.now) terms.now)))) }
+    ensures { Hands (S.stands sink.old) (S.stands sink.new) result
+        (calls_of_each
+        (join_below (length signature.now.relations)
+        (relation_axioms (symbols signature.now) (numbering (symbols signature.now) terms.now)))) }
 {
     for r in 0..signature.relation_count() {
         hand_relation(alloc, signature, terms, RelId(r), sink)?;
@@ -109,7 +118,9 @@ fn hand_relation<S: GroundSink>(
 ) -> Mem<()>
     requires closed { AreClosed (symbols signature.now) terms.now }
     requires known { relation.0 < length signature.now.relations }
-    ensures { Hands (S.stands sink.old) (S.stands sink.new) result (calls_of_each (relation_axioms (symbols signature.now) (numbering (symbols signature.now) terms.now) relation.0)) }
+    ensures { Hands (S.stands sink.old) (S.stands sink.new) result
+        (calls_of_each
+        (relation_axioms (symbols signature.now) (numbering (symbols signature.now) terms.now) relation.0)) }
 {
     let sorts = signature.sorts_of(relation);
     for place in 0..sorts.len() {
@@ -126,7 +137,10 @@ fn hand_functions<S: GroundSink>(
     sink: &mut S,
 ) -> Mem<()>
     requires closed { AreClosed (symbols signature.now) terms.now }
-    ensures { Hands (S.stands sink.old) (S.stands sink.new) result (calls_of_each (join_below (length signature.now.functions) (function_axioms (symbols signature.now) (numbering (symbols signature.now) terms.now)))) }
+    ensures { Hands (S.stands sink.old) (S.stands sink.new) result
+        (calls_of_each
+        (join_below (length signature.now.functions)
+        (function_axioms (symbols signature.now) (numbering (symbols signature.now) terms.now)))) }
 {
     for f in 0..signature.function_count() {
         hand_function(alloc, signature, terms, FunId(f), sink)?;
@@ -143,7 +157,9 @@ fn hand_function<S: GroundSink>(
 ) -> Mem<()>
     requires closed { AreClosed (symbols signature.now) terms.now }
     requires known { function.0 < length signature.now.functions }
-    ensures { Hands (S.stands sink.old) (S.stands sink.new) result (calls_of_each (function_axioms (symbols signature.now) (numbering (symbols signature.now) terms.now) function.0)) }
+    ensures { Hands (S.stands sink.old) (S.stands sink.new) result
+        (calls_of_each
+        (function_axioms (symbols signature.now) (numbering (symbols signature.now) terms.now) function.0)) }
 {
     let sorts = signature.from_of(function);
     for place in 0..sorts.len() {
@@ -165,7 +181,8 @@ fn hand_scheme<S: GroundSink>(
     requires closed { AreClosed (symbols signature.now) terms.now }
     requires scheme { IsSchemeOf (symbols signature.now) scheme }
     requires sorts { numbers sorts.now ≡ scheme_sorts (symbols signature.now) scheme }
-    ensures { Hands (S.stands sink.old) (S.stands sink.new) result (calls_of_each (scheme_axioms (symbols signature.now) (numbering (symbols signature.now) terms.now) scheme)) }
+    ensures { Hands (S.stands sink.old) (S.stands sink.new) result
+        (calls_of_each (scheme_axioms (symbols signature.now) (numbering (symbols signature.now) terms.now) scheme)) }
 {
     let _sorts = signature.sorts();
     hand_tuples(

@@ -25,7 +25,8 @@ pub fn hand_implication_of_two<S: GroundSink>(
     conclusion: Atom,
     sink: &mut S,
 ) -> Mem<()>
-    ensures { Hands (S.stands sink.old) (S.stands sink.new) result (calls_of (clause (first ∷ second ∷ []) conclusion)) }
+    ensures { Hands (S.stands sink.old) (S.stands sink.new) result
+        (calls_of (clause (first ∷ second ∷ []) conclusion)) }
 {
     hand_node(sink, Junction::Or, 3)?;
     hand_literal(sink, first, false)?;

@@ -35,7 +35,10 @@ pub fn hand_tuples<S: GroundSink>(
     requires sorted { All (λ k. k < length terms.now) (numbers sorts.now) }
     requires few { length tuple.now + length sorts.now ≤ 8 }
     requires filled { FillsScheme (symbols signature.now) (term_counts terms.now) scheme tuple.now (numbers sorts.now) }
-    ensures { Hands (S.stands sink.old) (S.stands sink.new) result (calls_of_each (join_tuples (term_counts terms.now) (numbers sorts.now) (λ xs. axioms_at (symbols signature.now) (numbering (symbols signature.now) terms.now) scheme (tuple.now ++ xs)))) }
+    ensures { Hands (S.stands sink.old) (S.stands sink.new) result
+        (calls_of_each (join_tuples (term_counts terms.now) (numbers sorts.now)
+        (λ xs. axioms_at (symbols signature.now) (numbering (symbols signature.now) terms.now) scheme
+        (tuple.now ++ xs)))) }
 {
     match sorts {
         [] => hand_at(alloc, signature, terms, scheme, tuple, sink),
@@ -61,8 +64,13 @@ fn hand_longer<S: GroundSink>(
     requires sort { sort.0 < length terms.now }
     requires sorted { All (λ k. k < length terms.now) (numbers rest.now) }
     requires few { length tuple.now + length rest.now < 8 }
-    requires filled { FillsScheme (symbols signature.now) (term_counts terms.now) scheme tuple.now (sort.0 ∷ numbers rest.now) }
-    ensures { Hands (S.stands sink.old) (S.stands sink.new) result (calls_of_each (join_below (slice_index (term_counts terms.now) sort.0) (λ x. join_tuples (term_counts terms.now) (numbers rest.now) (λ xs. axioms_at (symbols signature.now) (numbering (symbols signature.now) terms.now) scheme (tuple.now ++ (x ∷ xs)))))) }
+    requires filled { FillsScheme (symbols signature.now) (term_counts terms.now) scheme tuple.now
+        (sort.0 ∷ numbers rest.now) }
+    ensures { Hands (S.stands sink.old) (S.stands sink.new) result
+        (calls_of_each (join_below (slice_index (term_counts terms.now) sort.0)
+        (λ x. join_tuples (term_counts terms.now) (numbers rest.now)
+        (λ xs. axioms_at (symbols signature.now) (numbering (symbols signature.now) terms.now) scheme
+        (tuple.now ++ (x ∷ xs)))))) }
 {
     for term in 0..terms.counts()[sort.0 as usize] {
         let longer = longer_tuple(tuple, term);
@@ -92,7 +100,9 @@ fn hand_at<S: GroundSink>(
     requires closed { AreClosed (symbols signature.now) terms.now }
     requires scheme { IsSchemeOf (symbols signature.now) scheme }
     requires in_range { InRange (term_counts terms.now) (scheme_sorts (symbols signature.now) scheme) tuple.now }
-    ensures { Hands (S.stands sink.old) (S.stands sink.new) result (calls_of_each (axioms_at (symbols signature.now) (numbering (symbols signature.now) terms.now) scheme tuple.now)) }
+    ensures { Hands (S.stands sink.old) (S.stands sink.new) result
+        (calls_of_each
+        (axioms_at (symbols signature.now) (numbering (symbols signature.now) terms.now) scheme tuple.now)) }
 {
     range_laws();
     let _sorts = signature.sorts();
@@ -138,7 +148,10 @@ fn hand_relation<S: GroundSink>(
 ) -> Mem<()>
     requires place { place < length tuple.now }
     requires sort { sort.0 < length terms.now }
-    ensures { Hands (S.stands sink.old) (S.stands sink.new) result (calls_of_each (join_below (slice_index (term_counts terms.now) sort.0) (λ y. clause (Eq sort (slice_index tuple.now place) y ∷ Rel relation tuple.now ∷ []) (Rel relation (slice_set tuple.now place y)) ∷ []))) }
+    ensures { Hands (S.stands sink.old) (S.stands sink.new) result
+        (calls_of_each (join_below (slice_index (term_counts terms.now) sort.0)
+        (λ y. clause (Eq sort (slice_index tuple.now place) y ∷ Rel relation tuple.now ∷ [])
+        (Rel relation (slice_set tuple.now place y)) ∷ []))) }
 {
     for term in 0..terms.counts()[sort.0 as usize] {
         exchange_in_relation(alloc, relation, place, sort, tuple, term, sink)?;
@@ -156,7 +169,9 @@ fn exchange_in_relation<S: GroundSink>(
     sink: &mut S,
 ) -> Mem<()>
     requires { place < length tuple.now }
-    ensures { Hands (S.stands sink.old) (S.stands sink.new) result (calls_of (clause (Eq sort (slice_index tuple.now place) term ∷ Rel relation tuple.now ∷ []) (Rel relation (slice_set tuple.now place term)))) }
+    ensures { Hands (S.stands sink.old) (S.stands sink.new) result
+        (calls_of (clause (Eq sort (slice_index tuple.now place) term ∷ Rel relation tuple.now ∷ [])
+        (Rel relation (slice_set tuple.now place term)))) }
 {
     let equation = Atom::Eq(sort, tuple.as_slice()[place], term);
     let conclusion = Atom::Rel(relation, with_element(alloc, tuple, place, term));
@@ -185,7 +200,12 @@ fn hand_function<S: GroundSink>(
     requires sort { sort.0 ≡ slice_index ((symbols signature.now).from_of function.0) place }
     requires sorted { sort.0 < length terms.now }
     requires in_range { InRange (term_counts terms.now) ((symbols signature.now).from_of function.0) tuple.now }
-    ensures { Hands (S.stands sink.old) (S.stands sink.new) result (calls_of_each (join_below (slice_index (term_counts terms.now) sort.0) (λ y. clause (Eq sort (slice_index tuple.now place) y ∷ []) (equation ((symbols signature.now).into_of function.0) ((numbering (symbols signature.now) terms.now).place function.0 tuple.now) ((numbering (symbols signature.now) terms.now).place function.0 (slice_set tuple.now place y))) ∷ []))) }
+    ensures { Hands (S.stands sink.old) (S.stands sink.new) result
+        (calls_of_each (join_below (slice_index (term_counts terms.now) sort.0)
+        (λ y. clause (Eq sort (slice_index tuple.now place) y ∷ [])
+        (equation ((symbols signature.now).into_of function.0)
+        ((numbering (symbols signature.now) terms.now).place function.0 tuple.now)
+        ((numbering (symbols signature.now) terms.now).place function.0 (slice_set tuple.now place y))) ∷ []))) }
 {
     let value = terms.place(signature, function, tuple.as_slice());
     for term in 0..terms.counts()[sort.0 as usize] {
@@ -212,8 +232,13 @@ fn exchange_in_function<S: GroundSink>(
     requires known { function.0 < length signature.now.functions }
     requires place { place < length tuple.now }
     requires value { value ≡ (numbering (symbols signature.now) terms.now).place function.0 tuple.now }
-    requires term { InRange (term_counts terms.now) ((symbols signature.now).from_of function.0) (slice_set tuple.now place term) }
-    ensures { Hands (S.stands sink.old) (S.stands sink.new) result (calls_of (clause (Eq sort (slice_index tuple.now place) term ∷ []) (equation ((symbols signature.now).into_of function.0) ((numbering (symbols signature.now) terms.now).place function.0 tuple.now) ((numbering (symbols signature.now) terms.now).place function.0 (slice_set tuple.now place term))))) }
+    requires term { InRange (term_counts terms.now) ((symbols signature.now).from_of function.0)
+        (slice_set tuple.now place term) }
+    ensures { Hands (S.stands sink.old) (S.stands sink.new) result
+        (calls_of (clause (Eq sort (slice_index tuple.now place) term ∷ [])
+        (equation ((symbols signature.now).into_of function.0)
+        ((numbering (symbols signature.now) terms.now).place function.0 tuple.now)
+        ((numbering (symbols signature.now) terms.now).place function.0 (slice_set tuple.now place term))))) }
 {
     let changed = changed_value(alloc, signature, terms, function, place, tuple, term);
     let premise = Atom::Eq(sort, tuple.as_slice()[place], term);
@@ -233,7 +258,8 @@ fn changed_value(
 ) -> u32
     requires closed { AreClosed (symbols signature.now) terms.now }
     requires known { function.0 < length signature.now.functions }
-    requires in_range { InRange (term_counts terms.now) ((symbols signature.now).from_of function.0) (slice_set tuple.now place term) }
+    requires in_range { InRange (term_counts terms.now) ((symbols signature.now).from_of function.0)
+        (slice_set tuple.now place term) }
     ensures { result ≡ (numbering (symbols signature.now) terms.now).place function.0 (slice_set tuple.now place term) }
 {
     let changed = with_element(alloc, tuple, place, term);

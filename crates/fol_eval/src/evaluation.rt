@@ -157,7 +157,8 @@ fn evaluate_all(structure: &Structure, terms: &[Term], env: &Env) -> [u32; 8]
     requires safe { SafeTerms structure.now (terms_view terms.now) (elements env.now) }
     ensures room { length result ≡ 8 }
     ensures short { length terms.now ≤ 8 }
-    ensures values { take (length terms.now) result ≡ values (reading structure.now) (terms_view terms.now) (elements env.now) }
+    ensures values { take (length terms.now) result ≡ values (reading structure.now) (terms_view terms.now)
+        (elements env.now) }
 {
     let mut tuple = [0u32; 8];
     for i in 0..terms.len() {

@@ -1,5 +1,6 @@
 -- What is true of all numbers below a bound, and of some.
-use Rattle.std.proofs.Common.{◌≡◌, ℕ, zero, suc, ◌<◌, Bool, true, false, not, ◌&&◌, ◌||◌, refl, ap, ◌∙◌, subst, arith, ⊎_elim}
+use Rattle.std.proofs.Common.{◌≡◌, ℕ, zero, suc, ◌<◌, Bool, true, false, not, ◌&&◌, ◌||◌, refl, ap, ◌∙◌, subst, arith}
+use Rattle.std.proofs.Common.{⊎_elim}
 use Rattle.std.proofs.lemmas.Bool.{cases_lt, or_cases, or_left, or_right, and_parts, and_from, false≢true}
 use Rattle.fol_formula.specs.Truth.{all_below, any_below}
 use Rattle.fol_formula.specs.Quantified.{AllBelow, AnyBelow}
@@ -7,22 +8,27 @@ use Rattle.fol_formula.specs.Quantified.{AllBelow, AnyBelow}
 pub all_below-same : (n : ℕ) (p q : ℕ → Bool) → ((x : ℕ) → x < n → p x ≡ q x) → all_below n p ≡ all_below n q
 all_below-same zero p q h = refl
 all_below-same (suc n) p q h =
-    ap (λ b. b && p n) (all_below-same n p q (λ x lt. h x (omega arith))) ∙ ap (λ b. all_below n q && b) (h n (omega arith))
+    ap (λ b. b && p n) (all_below-same n p q (λ x lt. h x (omega arith)))
+    ∙ ap (λ b. all_below n q && b) (h n (omega arith))
 
 pub any_below-same : (n : ℕ) (p q : ℕ → Bool) → ((x : ℕ) → x < n → p x ≡ q x) → any_below n p ≡ any_below n q
 any_below-same zero p q h = refl
 any_below-same (suc n) p q h =
-    ap (λ b. b || p n) (any_below-same n p q (λ x lt. h x (omega arith))) ∙ ap (λ b. any_below n q || b) (h n (omega arith))
+    ap (λ b. b || p n) (any_below-same n p q (λ x lt. h x (omega arith)))
+    ∙ ap (λ b. any_below n q || b) (h n (omega arith))
 
-pub all_below-within : (m n : ℕ) (p q : ℕ → Bool) → m ≡ n → ((x : ℕ) → x < m → p x ≡ q x) → all_below m p ≡ all_below n q
+pub all_below-within : (m n : ℕ) (p q : ℕ → Bool) → m ≡ n → ((x : ℕ) → x < m → p x ≡ q x)
+    → all_below m p ≡ all_below n q
 all_below-within m n p q e h = all_below-same m p q h ∙ ap (λ k. all_below k q) e
 
-pub any_below-within : (m n : ℕ) (p q : ℕ → Bool) → m ≡ n → ((x : ℕ) → x < m → p x ≡ q x) → any_below m p ≡ any_below n q
+pub any_below-within : (m n : ℕ) (p q : ℕ → Bool) → m ≡ n → ((x : ℕ) → x < m → p x ≡ q x)
+    → any_below m p ≡ any_below n q
 any_below-within m n p q e h = any_below-same m p q h ∙ ap (λ k. any_below k q) e
 
 pub all_below-of_each : (n : ℕ) (p : ℕ → Bool) → ((x : ℕ) → x < n → p x ≡ true) → all_below n p ≡ true
 all_below-of_each zero p h = refl
-all_below-of_each (suc n) p h = and_from (all_below n p) (p n) (all_below-of_each n p (λ x lt. h x (omega arith))) (h n (omega arith))
+all_below-of_each (suc n) p h =
+    and_from (all_below n p) (p n) (all_below-of_each n p (λ x lt. h x (omega arith))) (h n (omega arith))
 
 pub all_below-each : (n : ℕ) (p : ℕ → Bool) → all_below n p ≡ true → (x : ℕ) → x < n → p x ≡ true
 all_below-each zero p h x lt = absurd (omega arith)
@@ -66,7 +72,14 @@ any_below-opposite zero p = refl
 any_below-opposite (suc n) p = ap (λ b. b || not (p n)) (any_below-opposite n p) ∙ not-and (all_below n p) (p n)
 
 pub all_below-laws : AllBelow
-all_below-laws = record { same = all_below-within; of_each = all_below-of_each; each = all_below-each; opposite = all_below-opposite }
+all_below-laws =
+    record {
+      same = all_below-within;
+      of_each = all_below-of_each;
+      each = all_below-each;
+      opposite = all_below-opposite;
+    }
 
 pub any_below-laws : AnyBelow
-any_below-laws = record { same = any_below-within; of_one = any_below-of_one; one = any_below-one; opposite = any_below-opposite }
+any_below-laws =
+    record { same = any_below-within; of_one = any_below-of_one; one = any_below-one; opposite = any_below-opposite }

@@ -1,8 +1,14 @@
 -- How the fragments lie in one another.
 use Rattle.std.proofs.Common.{Bool, true, false, not}
-use Rattle.fol_formula.specs.Syntax.{FormTree, FormTrees, TermTree, TermTrees, top, bottom, rel, equal, negation, conjunction, disjunction, implication, equivalence, for_all, for_some, no_forms, form_then, bound, app, ite, no_terms, term_then}
-use Rattle.fol_formula.specs.Fragments.{IsUniversal, AreUniversal, IsExistsForall, AreExistsForall, IsQuantifierFree, AreQuantifierFree, IsQuantifierFreeTerm, AreQuantifierFreeTerms, HasPlainTerms, HavePlainTerms, IsIteFree, AreIteFree, IsPlainAtom, IsNormalForm, AreNormalForms}
-use Rattle.fol_formula.specs.Inclusions.{NegationExchanges, UniversalIsExistsForall, UniversalIsEa, UniversalIsAe, NormalHasPlainTerms, NormalIsEa, QuantifierFreeIsUniversal}
+use Rattle.fol_formula.specs.Syntax.{FormTree, FormTrees, TermTree, TermTrees, top, bottom, rel, equal, negation}
+use Rattle.fol_formula.specs.Syntax.{conjunction, disjunction, implication, equivalence, for_all, for_some, no_forms}
+use Rattle.fol_formula.specs.Syntax.{form_then, bound, app, ite, no_terms, term_then}
+use Rattle.fol_formula.specs.Fragments.{IsUniversal, AreUniversal, IsExistsForall, AreExistsForall, IsQuantifierFree}
+use Rattle.fol_formula.specs.Fragments.{AreQuantifierFree, IsQuantifierFreeTerm, AreQuantifierFreeTerms, HasPlainTerms}
+use Rattle.fol_formula.specs.Fragments.{HavePlainTerms, IsIteFree, AreIteFree, IsPlainAtom, IsNormalForm}
+use Rattle.fol_formula.specs.Fragments.{AreNormalForms}
+use Rattle.fol_formula.specs.Inclusions.{NegationExchanges, UniversalIsExistsForall, UniversalIsEa, UniversalIsAe}
+use Rattle.fol_formula.specs.Inclusions.{NormalHasPlainTerms, NormalIsEa, QuantifierFreeIsUniversal}
 
 pub negation_exchanges : NegationExchanges
 negation_exchanges = record { of_ae = λ p. (λ h. h, λ h. h); of_ea = λ p. (λ h. h, λ h. h) }
@@ -17,7 +23,8 @@ mutual
   universal-ea positive (conjunction ps) h = universals-ea positive ps h
   universal-ea positive (disjunction ps) h = universals-ea positive ps h
   universal-ea positive (implication p q) h = (universal-ea (not positive) p h.0, universal-ea positive q h.1)
-  universal-ea positive (equivalence p q) h = (universal-ea true p h.0, universal-ea false p h.1, universal-ea true q h.2, universal-ea false q h.3)
+  universal-ea positive (equivalence p q) h =
+      (universal-ea true p h.0, universal-ea false p h.1, universal-ea true q h.2, universal-ea false q h.3)
   universal-ea true (for_all k p) h = h
   universal-ea false (for_all k p) h = absurd h
   universal-ea true (for_some k p) h = absurd h
@@ -84,7 +91,8 @@ mutual
   free-universal positive (conjunction ps) h = frees-universal positive ps h
   free-universal positive (disjunction ps) h = frees-universal positive ps h
   free-universal positive (implication p q) h = (free-universal (not positive) p h.0, free-universal positive q h.1)
-  free-universal positive (equivalence p q) h = (free-universal true p h.0, free-universal false p h.0, free-universal true q h.1, free-universal false q h.1)
+  free-universal positive (equivalence p q) h =
+      (free-universal true p h.0, free-universal false p h.0, free-universal true q h.1, free-universal false q h.1)
   free-universal positive (for_all k p) h = absurd h
   free-universal positive (for_some k p) h = absurd h
 
@@ -129,8 +137,12 @@ mutual
   universal-opposed positive (disjunction ps) h = universals-opposed positive ps h
   universal-opposed true (implication p q) h = (universal-opposed false p h.0, universal-opposed true q h.1)
   universal-opposed false (implication p q) h = (universal-opposed true p h.0, universal-opposed false q h.1)
-  universal-opposed positive (equivalence p q) h =
-      (universal-opposed false p h.1, universal-opposed true p h.0, universal-opposed false q h.3, universal-opposed true q h.2)
+  universal-opposed positive (equivalence p q) h = (
+    universal-opposed false p h.1,
+    universal-opposed true p h.0,
+    universal-opposed false q h.3,
+    universal-opposed true q h.2,
+  )
   universal-opposed true (for_all k p) h = universal-opposed true p h
   universal-opposed false (for_all k p) h = absurd h
   universal-opposed true (for_some k p) h = absurd h
@@ -138,7 +150,8 @@ mutual
 
   universals-opposed : (positive : Bool) (ps : FormTrees) → AreUniversal positive ps → AreExistsForall (not positive) ps
   universals-opposed positive no_forms h = tt
-  universals-opposed positive (form_then p ps) h = (universal-opposed positive p h.0, universals-opposed positive ps h.1)
+  universals-opposed positive (form_then p ps) h =
+      (universal-opposed positive p h.0, universals-opposed positive ps h.1)
 
 pub universal_is_exists_forall : UniversalIsExistsForall
 universal_is_exists_forall true true p h = universal-ea true p h

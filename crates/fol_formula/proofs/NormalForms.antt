@@ -1,11 +1,16 @@
 -- The fragments by polarity are those of the normal form, which keeps truth.
 use Rattle.std.proofs.Common.{◌≡◌, ◌↔◌, ℕ, Bool, true, false, not, ◌&&◌, ◌||◌, List, ◌∷◌, refl, sym, ap, ◌∙◌}
 use Rattle.fol_sig.specs.Tables.{Reading}
-use Rattle.fol_formula.specs.Syntax.{FormTree, FormTrees, top, bottom, rel, equal, negation, conjunction, disjunction, implication, equivalence, for_all, for_some, no_forms, form_then}
+use Rattle.fol_formula.specs.Syntax.{FormTree, FormTrees, top, bottom, rel, equal, negation, conjunction, disjunction}
+use Rattle.fol_formula.specs.Syntax.{implication, equivalence, for_all, for_some, no_forms, form_then}
 use Rattle.fol_formula.specs.Truth.{truth, all_true, any_true, same_truth}
-use Rattle.fol_formula.specs.Fragments.{IsUniversal, AreUniversal, IsExistsForall, AreExistsForall, IsPlainAtom, IsNormalForm, AreNormalForms}
+use Rattle.fol_formula.specs.Fragments.{IsUniversal, AreUniversal, IsExistsForall, AreExistsForall, IsPlainAtom}
+use Rattle.fol_formula.specs.Fragments.{IsNormalForm, AreNormalForms}
 use Rattle.fol_formula.proofs.Below.{all_below-same, any_below-same, all_below-opposite, any_below-opposite}
-use Rattle.fol_formula.specs.NormalForms.{normal_form, normal_forms, HasNoExistential, HaveNoExistential, HasNoExistentialUnderUniversal, HaveNoExistentialUnderUniversal, UniversalByNormalForm, ExistsForallByNormalForm, NormalFormKeepsTruth, NormalFormStays, signed}
+use Rattle.fol_formula.specs.NormalForms.{normal_form, normal_forms, HasNoExistential, HaveNoExistential}
+use Rattle.fol_formula.specs.NormalForms.{HasNoExistentialUnderUniversal, HaveNoExistentialUnderUniversal}
+use Rattle.fol_formula.specs.NormalForms.{UniversalByNormalForm, ExistsForallByNormalForm, NormalFormKeepsTruth}
+use Rattle.fol_formula.specs.NormalForms.{NormalFormStays, signed}
 
 always : Unit {0} ↔ Unit {0}
 always = (λ h. tt, λ h. tt)
@@ -21,14 +26,20 @@ two : {P Q R S : Type 0} → P ↔ R → Q ↔ S → (P × Q) ↔ (R × (S × Un
 two p q = (λ h. (p.0 h.0, (q.0 h.1, tt)), λ h. (p.1 h.0, q.1 h.1.0))
 
 -- the parts of an equivalence
-four : {P P' Q Q' R R' S S' : Type 0} → P ↔ R → P' ↔ R' → Q ↔ S → Q' ↔ S' → (P × P' × Q × Q') ↔ ((R × (S × Unit {0})) × ((R' × (S' × Unit {0})) × Unit {0}))
-four p p' q q' =
-    (λ h. ((p.0 h.0, (q.0 h.2, tt)), ((p'.0 h.1, (q'.0 h.3, tt)), tt)), λ h. (p.1 h.0.0, p'.1 h.1.0.0, q.1 h.0.1.0, q'.1 h.1.0.1.0))
+four : {P P' Q Q' R R' S S' : Type 0} → P ↔ R → P' ↔ R' → Q ↔ S → Q' ↔ S'
+    → (P × P' × Q × Q') ↔ ((R × (S × Unit {0})) × ((R' × (S' × Unit {0})) × Unit {0}))
+four p p' q q' = (
+  λ h. ((p.0 h.0, (q.0 h.2, tt)), ((p'.0 h.1, (q'.0 h.3, tt)), tt)),
+  λ h. (p.1 h.0.0, p'.1 h.1.0.0, q.1 h.0.1.0, q'.1 h.1.0.1.0),
+)
 
 -- with the sides crossed
-crossed : {P P' Q Q' R R' S S' : Type 0} → P ↔ R → P' ↔ R' → Q ↔ S → Q' ↔ S' → (P × P' × Q × Q') ↔ ((R × (S' × Unit {0})) × ((R' × (S × Unit {0})) × Unit {0}))
-crossed p p' q q' =
-    (λ h. ((p.0 h.0, (q'.0 h.3, tt)), ((p'.0 h.1, (q.0 h.2, tt)), tt)), λ h. (p.1 h.0.0, p'.1 h.1.0.0, q.1 h.1.0.1.0, q'.1 h.0.1.0))
+crossed : {P P' Q Q' R R' S S' : Type 0} → P ↔ R → P' ↔ R' → Q ↔ S → Q' ↔ S'
+    → (P × P' × Q × Q') ↔ ((R × (S' × Unit {0})) × ((R' × (S × Unit {0})) × Unit {0}))
+crossed p p' q q' = (
+  λ h. ((p.0 h.0, (q'.0 h.3, tt)), ((p'.0 h.1, (q.0 h.2, tt)), tt)),
+  λ h. (p.1 h.0.0, p'.1 h.1.0.0, q.1 h.1.0.1.0, q'.1 h.0.1.0),
+)
 
 mutual
   universal-by : (positive : Bool) (p : FormTree) → IsUniversal positive p ↔ HasNoExistential (normal_form positive p)
@@ -48,21 +59,25 @@ mutual
   universal-by false (disjunction ps) = universals-by false ps
   universal-by true (implication p q) = two (universal-by false p) (universal-by true q)
   universal-by false (implication p q) = two (universal-by true p) (universal-by false q)
-  universal-by true (equivalence p q) = four (universal-by true p) (universal-by false p) (universal-by true q) (universal-by false q)
-  universal-by false (equivalence p q) = crossed (universal-by true p) (universal-by false p) (universal-by true q) (universal-by false q)
+  universal-by true (equivalence p q) =
+      four (universal-by true p) (universal-by false p) (universal-by true q) (universal-by false q)
+  universal-by false (equivalence p q) =
+      crossed (universal-by true p) (universal-by false p) (universal-by true q) (universal-by false q)
   universal-by true (for_all k p) = universal-by true p
   universal-by false (for_all k p) = never
   universal-by true (for_some k p) = never
   universal-by false (for_some k p) = universal-by false p
 
-  universals-by : (positive : Bool) (ps : FormTrees) → AreUniversal positive ps ↔ HaveNoExistential (normal_forms positive ps)
+  universals-by : (positive : Bool) (ps : FormTrees) → AreUniversal positive ps
+      ↔ HaveNoExistential (normal_forms positive ps)
   universals-by true no_forms = always
   universals-by false no_forms = always
   universals-by true (form_then p ps) = pair (universal-by true p) (universals-by true ps)
   universals-by false (form_then p ps) = pair (universal-by false p) (universals-by false ps)
 
 mutual
-  exists_forall-by : (positive : Bool) (p : FormTree) → IsExistsForall positive p ↔ HasNoExistentialUnderUniversal (normal_form positive p)
+  exists_forall-by : (positive : Bool) (p : FormTree) → IsExistsForall positive p
+      ↔ HasNoExistentialUnderUniversal (normal_form positive p)
   exists_forall-by true top = always
   exists_forall-by false top = always
   exists_forall-by true bottom = always
@@ -79,14 +94,17 @@ mutual
   exists_forall-by false (disjunction ps) = exists_foralls-by false ps
   exists_forall-by true (implication p q) = two (exists_forall-by false p) (exists_forall-by true q)
   exists_forall-by false (implication p q) = two (exists_forall-by true p) (exists_forall-by false q)
-  exists_forall-by true (equivalence p q) = four (exists_forall-by true p) (exists_forall-by false p) (exists_forall-by true q) (exists_forall-by false q)
-  exists_forall-by false (equivalence p q) = crossed (exists_forall-by true p) (exists_forall-by false p) (exists_forall-by true q) (exists_forall-by false q)
+  exists_forall-by true (equivalence p q) =
+      four (exists_forall-by true p) (exists_forall-by false p) (exists_forall-by true q) (exists_forall-by false q)
+  exists_forall-by false (equivalence p q) =
+      crossed (exists_forall-by true p) (exists_forall-by false p) (exists_forall-by true q) (exists_forall-by false q)
   exists_forall-by true (for_all k p) = universal-by true p
   exists_forall-by false (for_all k p) = exists_forall-by false p
   exists_forall-by true (for_some k p) = exists_forall-by true p
   exists_forall-by false (for_some k p) = universal-by false p
 
-  exists_foralls-by : (positive : Bool) (ps : FormTrees) → AreExistsForall positive ps ↔ HaveNoExistentialUnderUniversal (normal_forms positive ps)
+  exists_foralls-by : (positive : Bool) (ps : FormTrees) → AreExistsForall positive ps
+      ↔ HaveNoExistentialUnderUniversal (normal_forms positive ps)
   exists_foralls-by true no_forms = always
   exists_foralls-by false no_forms = always
   exists_foralls-by true (form_then p ps) = pair (exists_forall-by true p) (exists_foralls-by true ps)
@@ -136,7 +154,8 @@ other false false = refl
 
 module _ (s : Reading) where
   mutual
-    keeps-truth : (positive : Bool) (p : FormTree) (env : List ℕ) → truth s (normal_form positive p) env ≡ signed positive (truth s p env)
+    keeps-truth : (positive : Bool) (p : FormTree) (env : List ℕ) → truth s (normal_form positive p) env
+        ≡ signed positive (truth s p env)
     keeps-truth true top env = refl
     keeps-truth false top env = refl
     keeps-truth true bottom env = refl
@@ -152,9 +171,11 @@ module _ (s : Reading) where
     keeps-truth true (disjunction ps) env = any-keep ps env
     keeps-truth false (disjunction ps) env = all-oppose ps env
     keeps-truth true (implication p q) env =
-        let e1 = keeps-truth false p env in let e2 = keeps-truth true q env in let e3 = implies (truth s p env) (truth s q env) in cc (e1, e2, e3)
+        let e1 = keeps-truth false p env in let e2 = keeps-truth true q env in
+        let e3 = implies (truth s p env) (truth s q env) in cc (e1, e2, e3)
     keeps-truth false (implication p q) env =
-        let e1 = keeps-truth true p env in let e2 = keeps-truth false q env in let e3 = not-implies (truth s p env) (truth s q env) in cc (e1, e2, e3)
+        let e1 = keeps-truth true p env in let e2 = keeps-truth false q env in
+        let e3 = not-implies (truth s p env) (truth s q env) in cc (e1, e2, e3)
     keeps-truth true (equivalence p q) env =
         let e1 = keeps-truth true p env in
         let e2 = keeps-truth true q env in
@@ -171,10 +192,12 @@ module _ (s : Reading) where
         cc (e1, e2, e3, e4, e5)
     keeps-truth true (for_all k p) env = all_below-same (s.size k) _ _ (λ x lt. keeps-truth true p (x ∷ env))
     keeps-truth false (for_all k p) env =
-        any_below-same (s.size k) _ _ (λ x lt. keeps-truth false p (x ∷ env)) ∙ any_below-opposite (s.size k) (λ x. truth s p (x ∷ env))
+        any_below-same (s.size k) _ _ (λ x lt. keeps-truth false p (x ∷ env))
+        ∙ any_below-opposite (s.size k) (λ x. truth s p (x ∷ env))
     keeps-truth true (for_some k p) env = any_below-same (s.size k) _ _ (λ x lt. keeps-truth true p (x ∷ env))
     keeps-truth false (for_some k p) env =
-        all_below-same (s.size k) _ _ (λ x lt. keeps-truth false p (x ∷ env)) ∙ all_below-opposite (s.size k) (λ x. truth s p (x ∷ env))
+        all_below-same (s.size k) _ _ (λ x lt. keeps-truth false p (x ∷ env))
+        ∙ all_below-opposite (s.size k) (λ x. truth s p (x ∷ env))
 
     all-keep : (ps : FormTrees) (env : List ℕ) → all_true s (normal_forms true ps) env ≡ all_true s ps env
     all-keep no_forms env = refl
@@ -187,12 +210,14 @@ module _ (s : Reading) where
     any-oppose : (ps : FormTrees) (env : List ℕ) → any_true s (normal_forms false ps) env ≡ not (all_true s ps env)
     any-oppose no_forms env = refl
     any-oppose (form_then p ps) env =
-        let e1 = keeps-truth false p env in let e2 = any-oppose ps env in let e3 = not-and (truth s p env) (all_true s ps env) in cc (e1, e2, e3)
+        let e1 = keeps-truth false p env in let e2 = any-oppose ps env in
+        let e3 = not-and (truth s p env) (all_true s ps env) in cc (e1, e2, e3)
 
     all-oppose : (ps : FormTrees) (env : List ℕ) → all_true s (normal_forms false ps) env ≡ not (any_true s ps env)
     all-oppose no_forms env = refl
     all-oppose (form_then p ps) env =
-        let e1 = keeps-truth false p env in let e2 = all-oppose ps env in let e3 = not-or (truth s p env) (any_true s ps env) in cc (e1, e2, e3)
+        let e1 = keeps-truth false p env in let e2 = all-oppose ps env in
+        let e3 = not-or (truth s p env) (any_true s ps env) in cc (e1, e2, e3)
 
 pub normal_form_keeps_truth : NormalFormKeepsTruth
 normal_form_keeps_truth s positive p env = keeps-truth s positive p env

@@ -2,24 +2,31 @@
 use Rattle.std.proofs.Common.{◌≡◌, ℕ, suc, ◌+◌, ◌<◌, List, [], ◌∷◌, ◌++◌, length, get_or, drop, map, refl, sym, ap, ◌∙◌}
 use Rattle.std.proofs.lemmas.List.{drop_more}
 use Rattle.fol_sig.specs.Tables.{Reading}
-use Rattle.fol_formula.specs.Syntax.{FormTree, FormTrees, TermTree, TermTrees, no_terms, form_then, term_then, forms_then, terms_then, forms_of, terms_of, list_of_forms, list_of, size_of}
+use Rattle.fol_formula.specs.Syntax.{FormTree, FormTrees, TermTree, TermTrees, no_terms, form_then, term_then}
+use Rattle.fol_formula.specs.Syntax.{forms_then, terms_then, forms_of, terms_of, list_of_forms, list_of, size_of}
 use Rattle.fol_formula.specs.View.{form, term, forms, terms}
 use Rattle.fol_formula.specs.Truth.{value, values}
 use Rattle.fol_formula.specs.Lists.{FormLists, TermLists, FormTurns, TermTurns, RowsAreLists}
 use Rattle.fol_formula.specs.declared.Formula.{Formula}
 use Rattle.fol_formula.specs.declared.Term.{Term}
 
-forms-left : (ps : List Formula) (i : ℕ) (p : Formula) → i < length ps → p ≡ get_or ps i p → forms (drop i ps) ≡ form_then (form p) (forms (drop (i + 1) ps))
-forms-left ps i p lt is = ap forms (drop_more ps i p lt) ∙ ap (λ q. form_then (form q) (forms (drop (i + 1) ps))) (sym is)
+forms-left : (ps : List Formula) (i : ℕ) (p : Formula) → i < length ps → p ≡ get_or ps i p
+    → forms (drop i ps) ≡ form_then (form p) (forms (drop (i + 1) ps))
+forms-left ps i p lt is =
+    ap forms (drop_more ps i p lt) ∙ ap (λ q. form_then (form q) (forms (drop (i + 1) ps))) (sym is)
 
-terms-left : (ts : List Term) (i : ℕ) (t : Term) → i < length ts → t ≡ get_or ts i t → terms (drop i ts) ≡ term_then (term t) (terms (drop (i + 1) ts))
-terms-left ts i t lt is = ap terms (drop_more ts i t lt) ∙ ap (λ u. term_then (term u) (terms (drop (i + 1) ts))) (sym is)
+terms-left : (ts : List Term) (i : ℕ) (t : Term) → i < length ts → t ≡ get_or ts i t
+    → terms (drop i ts) ≡ term_then (term t) (terms (drop (i + 1) ts))
+terms-left ts i t lt is =
+    ap terms (drop_more ts i t lt) ∙ ap (λ u. term_then (term u) (terms (drop (i + 1) ts))) (sym is)
 
-forms-pushed : (made : List Formula) (p : Formula) (rest : FormTrees) → forms_then (map form (made ++ p ∷ [])) rest ≡ forms_then (map form made) (form_then (form p) rest)
+forms-pushed : (made : List Formula) (p : Formula) (rest : FormTrees)
+    → forms_then (map form (made ++ p ∷ [])) rest ≡ forms_then (map form made) (form_then (form p) rest)
 forms-pushed [] p rest = refl
 forms-pushed (q ∷ made) p rest = ap (form_then (form q)) (forms-pushed made p rest)
 
-terms-pushed : (made : List Term) (t : Term) (rest : TermTrees) → terms_then (map term (made ++ t ∷ [])) rest ≡ terms_then (map term made) (term_then (term t) rest)
+terms-pushed : (made : List Term) (t : Term) (rest : TermTrees) → terms_then (map term (made ++ t ∷ [])) rest
+    ≡ terms_then (map term made) (term_then (term t) rest)
 terms-pushed [] t rest = refl
 terms-pushed (u ∷ made) t rest = ap (term_then (term u)) (terms-pushed made t rest)
 

@@ -12,14 +12,18 @@ pub record Agree (sig : Symbols) (sizes : List ℕ) (a b : Reading) : Type 0 whe
   pub same_size : (k : ℕ) → k < sig.sorts → b.size k ≡ slice_index sizes k
   pub rel : (r : ℕ) (xs : List ℕ) → r < sig.relations → InRange sizes (sig.sorts_of r) xs → a.rel r xs ≡ b.rel r xs
   pub fun : (f : ℕ) (xs : List ℕ) → f < sig.functions → InRange sizes (sig.from_of f) xs → a.fun f xs ≡ b.fun f xs
-  pub within : (f : ℕ) (xs : List ℕ) → f < sig.functions → InRange sizes (sig.from_of f) xs → a.fun f xs < slice_index sizes (sig.into_of f)
+  pub within : (f : ℕ) (xs : List ℕ) → f < sig.functions → InRange sizes (sig.from_of f) xs
+      → a.fun f xs < slice_index sizes (sig.into_of f)
 
 abbrev pub TruthAgrees : Type 0
-TruthAgrees = (sig : Symbols) (sizes : List ℕ) (a b : Reading) (p : FormTree) (sorts env : List ℕ) → Agree sig sizes a b → FitsForm sig sorts p → InRange sizes sorts env → truth a p env ≡ truth b p env
+TruthAgrees = (sig : Symbols) (sizes : List ℕ) (a b : Reading) (p : FormTree) (sorts env : List ℕ) → Agree sig sizes a b
+    → FitsForm sig sorts p → InRange sizes sorts env → truth a p env ≡ truth b p env
 
 abbrev pub ValuesAgree : Type 0
-ValuesAgree = (sig : Symbols) (sizes : List ℕ) (a b : Reading) (t : TermTree) (sorts env : List ℕ) (k : ℕ) → Agree sig sizes a b → FitsTerm sig sorts t k → InRange sizes sorts env → value a t env ≡ value b t env
+ValuesAgree = (sig : Symbols) (sizes : List ℕ) (a b : Reading) (t : TermTree) (sorts env : List ℕ) (k : ℕ)
+    → Agree sig sizes a b → FitsTerm sig sorts t k → InRange sizes sorts env → value a t env ≡ value b t env
 
 -- the value of a term that fits is an element of its sort
 abbrev pub ValuesAreInRange : Type 0
-ValuesAreInRange = (sig : Symbols) (s : Tables) (t : TermTree) (sorts env : List ℕ) (k : ℕ) → FitsStructure sig s → FitsTerm sig sorts t k → InRange s.sizes sorts env → value (reading s) t env < size_at s k
+ValuesAreInRange = (sig : Symbols) (s : Tables) (t : TermTree) (sorts env : List ℕ) (k : ℕ) → FitsStructure sig s
+    → FitsTerm sig sorts t k → InRange s.sizes sorts env → value (reading s) t env < size_at s k

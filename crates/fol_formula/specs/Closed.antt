@@ -11,18 +11,23 @@ abbrev pub FitsIsBound : Type 0
 FitsIsBound = (sig : Symbols) (sorts : List ℕ) (p : FormTree) → FitsForm sig sorts p → BoundForm (length sorts) p
 
 abbrev pub FitsIsBoundTerm : Type 0
-FitsIsBoundTerm = (sig : Symbols) (sorts : List ℕ) (t : TermTree) (k : ℕ) → FitsTerm sig sorts t k → BoundTerm (length sorts) t
+FitsIsBoundTerm = (sig : Symbols) (sorts : List ℕ) (t : TermTree) (k : ℕ) → FitsTerm sig sorts t k
+    → BoundTerm (length sorts) t
 
 -- more elements behind those of its indices change no truth and no value
 abbrev pub TruthReadsNoMore : Type 0
-TruthReadsNoMore = (s : Reading) (p : FormTree) (env more : List ℕ) → BoundForm (length env) p → truth s p (env ++ more) ≡ truth s p env
+TruthReadsNoMore = (s : Reading) (p : FormTree) (env more : List ℕ) → BoundForm (length env) p
+    → truth s p (env ++ more) ≡ truth s p env
 
 abbrev pub ValueReadsNoMore : Type 0
-ValueReadsNoMore = (s : Reading) (t : TermTree) (env more : List ℕ) → BoundTerm (length env) t → value s t (env ++ more) ≡ value s t env
+ValueReadsNoMore = (s : Reading) (t : TermTree) (env more : List ℕ) → BoundTerm (length env) t
+    → value s t (env ++ more) ≡ value s t env
 
 -- what fits under some sorts fits under more behind them
 abbrev pub FitsUnderMore : Type 0
-FitsUnderMore = (sig : Symbols) (p : FormTree) (sorts more : List ℕ) → FitsForm sig sorts p → FitsForm sig (sorts ++ more) p
+FitsUnderMore = (sig : Symbols) (p : FormTree) (sorts more : List ℕ) → FitsForm sig sorts p
+    → FitsForm sig (sorts ++ more) p
 
 abbrev pub FitsUnderMoreTerm : Type 0
-FitsUnderMoreTerm = (sig : Symbols) (t : TermTree) (sorts more : List ℕ) (k : ℕ) → FitsTerm sig sorts t k → FitsTerm sig (sorts ++ more) t k
+FitsUnderMoreTerm = (sig : Symbols) (t : TermTree) (sorts more : List ℕ) (k : ℕ) → FitsTerm sig sorts t k
+    → FitsTerm sig (sorts ++ more) t k

@@ -1,13 +1,21 @@
 -- The tests of the fragments, as the code makes them.
 use Rattle.std.specs.Prelude.{Bool, true, false, ◌&&◌}
-use Rattle.fol_formula.specs.Syntax.{FormTree, FormTrees, TermTree, TermTrees, top, bottom, rel, equal, negation, conjunction, disjunction, implication, equivalence, for_all, for_some, no_forms, form_then, bound, app, ite, no_terms, term_then}
+use Rattle.fol_formula.specs.Syntax.{FormTree, FormTrees, TermTree, TermTrees, top, bottom, rel, equal, negation}
+use Rattle.fol_formula.specs.Syntax.{conjunction, disjunction, implication, equivalence, for_all, for_some, no_forms}
+use Rattle.fol_formula.specs.Syntax.{form_then, bound, app, ite, no_terms, term_then}
 use Rattle.fol_formula.specs.declared.classes.PrefixClasses.{PrefixClasses}
 
 abbrev pub every_class : PrefixClasses
 every_class = record { universal = true; existential = true; exists_forall = true; forall_exists = true }
 
 abbrev pub opposite : PrefixClasses → PrefixClasses
-opposite c = record { universal = c.existential; existential = c.universal; exists_forall = c.forall_exists; forall_exists = c.exists_forall }
+opposite c =
+    record {
+      universal = c.existential;
+      existential = c.universal;
+      exists_forall = c.forall_exists;
+      forall_exists = c.exists_forall;
+    }
 
 abbrev pub common : PrefixClasses → PrefixClasses → PrefixClasses
 common c d = record {
@@ -28,10 +36,22 @@ both_ways c = record {
 
 -- under a universal quantifier
 abbrev pub under_all : PrefixClasses → PrefixClasses
-under_all c = record { universal = c.universal; existential = false; exists_forall = c.universal; forall_exists = c.forall_exists }
+under_all c =
+    record {
+      universal = c.universal;
+      existential = false;
+      exists_forall = c.universal;
+      forall_exists = c.forall_exists;
+    }
 
 abbrev pub under_some : PrefixClasses → PrefixClasses
-under_some c = record { universal = false; existential = c.existential; exists_forall = c.exists_forall; forall_exists = c.existential }
+under_some c =
+    record {
+      universal = false;
+      existential = c.existential;
+      exists_forall = c.exists_forall;
+      forall_exists = c.existential;
+    }
 
 -- of the formula, and of its negation
 abbrev mutual

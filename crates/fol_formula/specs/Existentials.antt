@@ -1,6 +1,7 @@
 -- How many existentials the normal form of a formula has, counted by polarity, without the normal form.
 use Rattle.std.specs.Prelude.{◌≡◌, ℕ, ◌+◌, Bool, true, false, not}
-use Rattle.fol_formula.specs.Syntax.{FormTree, FormTrees, top, bottom, rel, equal, negation, conjunction, disjunction, implication, equivalence, for_all, for_some, no_forms, form_then}
+use Rattle.fol_formula.specs.Syntax.{FormTree, FormTrees, top, bottom, rel, equal, negation, conjunction, disjunction}
+use Rattle.fol_formula.specs.Syntax.{implication, equivalence, for_all, for_some, no_forms, form_then}
 use Rattle.fol_formula.specs.Counts.{saturated}
 use Rattle.fol_formula.specs.declared.existentials.Existentials.{Existentials}
 

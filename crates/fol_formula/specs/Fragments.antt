@@ -1,7 +1,9 @@
 -- The fragments of sentences, by polarity: a formula stands as it is where `positive` is true, and is negated where it
 -- is false. Each is what it says of the formula's normal form (NormalForms).
 use Rattle.std.specs.Prelude.{Bool, true, false, not}
-use Rattle.fol_formula.specs.Syntax.{FormTree, FormTrees, TermTree, TermTrees, top, bottom, rel, equal, negation, conjunction, disjunction, implication, equivalence, for_all, for_some, no_forms, form_then, bound, app, ite, no_terms, term_then}
+use Rattle.fol_formula.specs.Syntax.{FormTree, FormTrees, TermTree, TermTrees, top, bottom, rel, equal, negation}
+use Rattle.fol_formula.specs.Syntax.{conjunction, disjunction, implication, equivalence, for_all, for_some, no_forms}
+use Rattle.fol_formula.specs.Syntax.{form_then, bound, app, ite, no_terms, term_then}
 
 -- no existential
 abbrev mutual
@@ -14,7 +16,8 @@ abbrev mutual
   IsUniversal positive (conjunction ps) = AreUniversal positive ps
   IsUniversal positive (disjunction ps) = AreUniversal positive ps
   IsUniversal positive (implication p q) = IsUniversal (not positive) p × IsUniversal positive q
-  IsUniversal positive (equivalence p q) = IsUniversal true p × IsUniversal false p × IsUniversal true q × IsUniversal false q
+  IsUniversal positive (equivalence p q) =
+      IsUniversal true p × IsUniversal false p × IsUniversal true q × IsUniversal false q
   IsUniversal true (for_all k p) = IsUniversal true p
   IsUniversal false (for_all k p) = ⊥
   IsUniversal true (for_some k p) = ⊥
@@ -35,7 +38,8 @@ abbrev mutual
   IsExistsForall positive (conjunction ps) = AreExistsForall positive ps
   IsExistsForall positive (disjunction ps) = AreExistsForall positive ps
   IsExistsForall positive (implication p q) = IsExistsForall (not positive) p × IsExistsForall positive q
-  IsExistsForall positive (equivalence p q) = IsExistsForall true p × IsExistsForall false p × IsExistsForall true q × IsExistsForall false q
+  IsExistsForall positive (equivalence p q) =
+      IsExistsForall true p × IsExistsForall false p × IsExistsForall true q × IsExistsForall false q
   IsExistsForall true (for_all k p) = IsUniversal true p
   IsExistsForall false (for_all k p) = IsExistsForall false p
   IsExistsForall true (for_some k p) = IsExistsForall true p

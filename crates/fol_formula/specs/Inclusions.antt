@@ -1,7 +1,8 @@
 -- How the fragments lie in one another.
 use Rattle.std.specs.Prelude.{Bool, ◌↔◌}
 use Rattle.fol_formula.specs.Syntax.{FormTree, negation}
-use Rattle.fol_formula.specs.Fragments.{IsUniversal, IsExistsForall, IsQuantifierFree, HasPlainTerms, IsNormalForm, IsEa, IsAe, IsPlainUniversal, IsNormal}
+use Rattle.fol_formula.specs.Fragments.{IsUniversal, IsExistsForall, IsQuantifierFree, HasPlainTerms, IsNormalForm}
+use Rattle.fol_formula.specs.Fragments.{IsEa, IsAe, IsPlainUniversal, IsNormal}
 
 -- the negation of an Ae is an Ea, and that of an Ea an Ae
 pub record NegationExchanges : Type 0 where

@@ -1,7 +1,8 @@
 -- The normal form of a formula, in which negations stand at atoms alone, and the fragments as it shows them.
 use Rattle.std.specs.Prelude.{Bool, true, false, not, ◌↔◌, ◌≡◌, List, ℕ}
 use Rattle.fol_sig.specs.Tables.{Reading}
-use Rattle.fol_formula.specs.Syntax.{FormTree, FormTrees, top, bottom, rel, equal, negation, conjunction, disjunction, implication, equivalence, for_all, for_some, no_forms, form_then}
+use Rattle.fol_formula.specs.Syntax.{FormTree, FormTrees, top, bottom, rel, equal, negation, conjunction, disjunction}
+use Rattle.fol_formula.specs.Syntax.{implication, equivalence, for_all, for_some, no_forms, form_then}
 use Rattle.fol_formula.specs.Truth.{truth}
 use Rattle.fol_formula.specs.Fragments.{IsUniversal, IsExistsForall, IsNormalForm}
 
@@ -29,8 +30,10 @@ abbrev mutual
   normal_form false (disjunction ps) = conjunction (normal_forms false ps)
   normal_form true (implication p q) = either (normal_form false p) (normal_form true q)
   normal_form false (implication p q) = both (normal_form true p) (normal_form false q)
-  normal_form true (equivalence p q) = either (both (normal_form true p) (normal_form true q)) (both (normal_form false p) (normal_form false q))
-  normal_form false (equivalence p q) = either (both (normal_form true p) (normal_form false q)) (both (normal_form false p) (normal_form true q))
+  normal_form true (equivalence p q) =
+      either (both (normal_form true p) (normal_form true q)) (both (normal_form false p) (normal_form false q))
+  normal_form false (equivalence p q) =
+      either (both (normal_form true p) (normal_form false q)) (both (normal_form false p) (normal_form true q))
   normal_form true (for_all k p) = for_all k (normal_form true p)
   normal_form false (for_all k p) = for_some k (normal_form false p)
   normal_form true (for_some k p) = for_some k (normal_form true p)
@@ -78,14 +81,18 @@ abbrev mutual
 
   pub HaveNoExistentialUnderUniversal : FormTrees → Type 0
   HaveNoExistentialUnderUniversal no_forms = Unit {0}
-  HaveNoExistentialUnderUniversal (form_then p ps) = HasNoExistentialUnderUniversal p × HaveNoExistentialUnderUniversal ps
+  HaveNoExistentialUnderUniversal (form_then p ps) =
+      HasNoExistentialUnderUniversal p × HaveNoExistentialUnderUniversal ps
 
 -- the fragments by polarity are those of the normal form
 abbrev pub UniversalByNormalForm : Type 0
-UniversalByNormalForm = (positive : Bool) (p : FormTree) → IsUniversal positive p ↔ HasNoExistential (normal_form positive p)
+UniversalByNormalForm =
+    (positive : Bool) (p : FormTree) → IsUniversal positive p ↔ HasNoExistential (normal_form positive p)
 
 abbrev pub ExistsForallByNormalForm : Type 0
-ExistsForallByNormalForm = (positive : Bool) (p : FormTree) → IsExistsForall positive p ↔ HasNoExistentialUnderUniversal (normal_form positive p)
+ExistsForallByNormalForm =
+    (positive : Bool) (p : FormTree) → IsExistsForall positive p
+    ↔ HasNoExistentialUnderUniversal (normal_form positive p)
 
 -- the normal form is true where the formula is, and that of its negation where it is not
 abbrev pub signed : Bool → Bool → Bool
@@ -93,7 +100,8 @@ signed true b = b
 signed false b = not b
 
 abbrev pub NormalFormKeepsTruth : Type 0
-NormalFormKeepsTruth = (s : Reading) (positive : Bool) (p : FormTree) (env : List ℕ) → truth s (normal_form positive p) env ≡ signed positive (truth s p env)
+NormalFormKeepsTruth = (s : Reading) (positive : Bool) (p : FormTree) (env : List ℕ)
+    → truth s (normal_form positive p) env ≡ signed positive (truth s p env)
 
 -- what is in normal form already stays
 abbrev pub NormalFormStays : Type 0

@@ -1,13 +1,15 @@
 -- The existentials of a formula, and values that witness them.
-use Rattle.std.specs.Prelude.{◌≡◌, ℕ, suc, ◌+◌, nat_lt, Bool, true, false, ◌&&◌, ◌||◌, List, [], ◌∷◌, ◌++◌, length, slice_index}
+use Rattle.std.specs.Prelude.{◌≡◌, ℕ, suc, ◌+◌, nat_lt, Bool, true, false, ◌&&◌, ◌||◌, List, [], ◌∷◌, ◌++◌, length}
+use Rattle.std.specs.Prelude.{slice_index}
 use Rattle.fol_sig.specs.Tables.{Reading}
-use Rattle.fol_formula.specs.Syntax.{FormTree, FormTrees, top, bottom, rel, equal, negation, conjunction, disjunction, implication, equivalence, for_all, for_some, no_forms, form_then}
+use Rattle.fol_formula.specs.Syntax.{FormTree, FormTrees, top, bottom, rel, equal, negation, conjunction, disjunction}
+use Rattle.fol_formula.specs.Syntax.{implication, equivalence, for_all, for_some, no_forms, form_then}
 use Rattle.fol_formula.specs.Truth.{truth, all_below}
 use Rattle.fol_formula.specs.Fragments.{IsUniversal, IsNormalForm}
 use Rattle.fol_formula.specs.NormalForms.{normal_form, HasNoExistential, HasNoExistentialUnderUniversal}
 
--- The sorts of the existentials of a formula as it is written, in prefix order; those of terms don't count. The place of
--- an existential is its index in this list.
+-- The sorts of the existentials of a formula as it is written, in prefix order; those of terms don't count. The place
+-- of an existential is its index in this list.
 abbrev mutual
   pub some_sorts : FormTree → List ℕ
   some_sorts top = []
@@ -48,19 +50,23 @@ abbrev mutual
   is_witnessed s witnesses at (equivalence p q) env = truth s (equivalence p q) env
   is_witnessed s witnesses at (for_all k p) env = all_below (s.size k) (λ x. is_witnessed s witnesses at p (x ∷ env))
   is_witnessed s witnesses at (for_some k p) env =
-      nat_lt (slice_index witnesses at) (s.size k) && is_witnessed s witnesses (suc at) p (slice_index witnesses at ∷ env)
+      nat_lt (slice_index witnesses at) (s.size k) && is_witnessed s witnesses (suc at) p
+      (slice_index witnesses at ∷ env)
 
   pub are_witnessed : Reading → List ℕ → ℕ → FormTrees → List ℕ → Bool
   are_witnessed s witnesses at no_forms env = true
-  are_witnessed s witnesses at (form_then p ps) env = is_witnessed s witnesses at p env && are_witnessed s witnesses (at + some_count p) ps env
+  are_witnessed s witnesses at (form_then p ps) env =
+      is_witnessed s witnesses at p env && are_witnessed s witnesses (at + some_count p) ps env
 
   pub one_is_witnessed : Reading → List ℕ → ℕ → FormTrees → List ℕ → Bool
   one_is_witnessed s witnesses at no_forms env = false
-  one_is_witnessed s witnesses at (form_then p ps) env = is_witnessed s witnesses at p env || one_is_witnessed s witnesses (at + some_count p) ps env
+  one_is_witnessed s witnesses at (form_then p ps) env =
+      is_witnessed s witnesses at p env || one_is_witnessed s witnesses (at + some_count p) ps env
 
 -- Witnessed is true.
 abbrev pub WitnessedIsTrue : Type 0
-WitnessedIsTrue = (s : Reading) (witnesses : List ℕ) (at : ℕ) (p : FormTree) (env : List ℕ) → is_witnessed s witnesses at p env ≡ true → truth s p env ≡ true
+WitnessedIsTrue = (s : Reading) (witnesses : List ℕ) (at : ℕ) (p : FormTree) (env : List ℕ)
+    → is_witnessed s witnesses at p env ≡ true → truth s p env ≡ true
 
 -- Where a formula with no existential under a universal is true, as the normal form of an exists-forall sentence, some
 -- values for its existentials witness it.
@@ -71,13 +77,15 @@ WitnessesExist = (s : Reading) (p : FormTree) (env : List ℕ) → HasNoExistent
 -- it has no existential, and is witnessed where it is true
 pub record NeedsNoWitness (p : FormTree) : Type 0 where
   pub sorts : some_sorts p ≡ []
-  pub witnessed : (s : Reading) (witnesses : List ℕ) (at : ℕ) (env : List ℕ) → is_witnessed s witnesses at p env ≡ truth s p env
+  pub witnessed : (s : Reading) (witnesses : List ℕ) (at : ℕ) (env : List ℕ)
+      → is_witnessed s witnesses at p env ≡ truth s p env
 
 abbrev pub WithoutExistentials : Type 0
 WithoutExistentials = (p : FormTree) → HasNoExistential p → NeedsNoWitness p
 
 abbrev pub UniversalNeedsNoWitness : Type 0
-UniversalNeedsNoWitness = (positive : Bool) (p : FormTree) → IsUniversal positive p → NeedsNoWitness (normal_form positive p)
+UniversalNeedsNoWitness =
+    (positive : Bool) (p : FormTree) → IsUniversal positive p → NeedsNoWitness (normal_form positive p)
 
 abbrev pub UniversalNormalNeedsNoWitness : Type 0
 UniversalNormalNeedsNoWitness = (p : FormTree) → IsUniversal true p → IsNormalForm p → NeedsNoWitness p

@@ -1,8 +1,13 @@
 // The fragments that a formula lies in.
 ghost use Rattle.std.specs.Prelude.{◌≡◌, ◌↔◌, IsTrue, true, false};
 ghost use Rattle.fol_formula.specs.View.{form, forms, term as term_view, terms as terms_view};
-ghost use Rattle.fol_formula.specs.Fragments.{IsUniversal, IsExistsForall, IsQuantifierFree, IsQuantifierFreeTerm, HasPlainTerms, IsNormalForm};
-ghost use Rattle.fol_formula.specs.Deciding.{every_class, opposite, common, both_ways, under_all, under_some, classes, common_classes, is_quantifier_free, are_quantifier_free, is_quantifier_free_term, are_quantifier_free_terms, has_plain_terms, have_plain_terms, is_ite_free, are_ite_free, is_plain_atom, is_normal_form, are_normal_forms};
+ghost use Rattle.fol_formula.specs.Fragments.{IsUniversal, IsExistsForall, IsQuantifierFree, IsQuantifierFreeTerm};
+ghost use Rattle.fol_formula.specs.Fragments.{HasPlainTerms, IsNormalForm};
+ghost use Rattle.fol_formula.specs.Deciding.{every_class, opposite, common, both_ways, under_all, under_some, classes};
+ghost use Rattle.fol_formula.specs.Deciding.{common_classes, is_quantifier_free, are_quantifier_free};
+ghost use Rattle.fol_formula.specs.Deciding.{is_quantifier_free_term, are_quantifier_free_terms, has_plain_terms};
+ghost use Rattle.fol_formula.specs.Deciding.{have_plain_terms, is_ite_free, are_ite_free, is_plain_atom};
+ghost use Rattle.fol_formula.specs.Deciding.{is_normal_form, are_normal_forms};
 
 use crate::{Formula, Term};
 

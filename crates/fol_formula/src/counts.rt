@@ -1,7 +1,8 @@
 // How many nodes a formula has, and how deep it is.
 ghost use Rattle.std.specs.Prelude.{◌≡◌};
 ghost use Rattle.fol_formula.specs.View.{form, term, forms, terms as terms_view};
-ghost use Rattle.fol_formula.specs.Counts.{form_nodes, term_nodes, forms_nodes, terms_nodes, form_depth, term_depth, forms_depth, terms_depth, saturated};
+ghost use Rattle.fol_formula.specs.Counts.{form_nodes, term_nodes, forms_nodes, terms_nodes, form_depth, term_depth};
+ghost use Rattle.fol_formula.specs.Counts.{forms_depth, terms_depth, saturated};
 
 use crate::{Formula, Term};
 

@@ -1,13 +1,18 @@
 // What holds of every formula. Each function is its contract, and does nothing.
 ghost use Rattle.fol_formula.specs.Agree.{TruthAgrees, ValuesAgree, ValuesAreInRange};
-ghost use Rattle.fol_formula.specs.Closed.{FitsIsBound, FitsIsBoundTerm, TruthReadsNoMore, ValueReadsNoMore, FitsUnderMore, FitsUnderMoreTerm};
-ghost use Rattle.fol_formula.specs.NormalForms.{UniversalByNormalForm, ExistsForallByNormalForm, NormalFormKeepsTruth, NormalFormStays};
+ghost use Rattle.fol_formula.specs.Closed.{FitsIsBound, FitsIsBoundTerm, TruthReadsNoMore, ValueReadsNoMore};
+ghost use Rattle.fol_formula.specs.Closed.{FitsUnderMore, FitsUnderMoreTerm};
+ghost use Rattle.fol_formula.specs.NormalForms.{UniversalByNormalForm, ExistsForallByNormalForm, NormalFormKeepsTruth};
+ghost use Rattle.fol_formula.specs.NormalForms.{NormalFormStays};
 ghost use Rattle.fol_formula.specs.Decisions.{FragmentsAreDecided};
 ghost use Rattle.fol_formula.specs.Growing.{FittingIsKept, TruthReadsItsOwn};
-ghost use Rattle.fol_formula.specs.Inclusions.{NegationExchanges, UniversalIsExistsForall, UniversalIsEa, UniversalIsAe, NormalIsEa, NormalHasPlainTerms, QuantifierFreeIsUniversal};
+ghost use Rattle.fol_formula.specs.Inclusions.{NegationExchanges, UniversalIsExistsForall, UniversalIsEa};
+ghost use Rattle.fol_formula.specs.Inclusions.{UniversalIsAe, NormalIsEa, NormalHasPlainTerms};
+ghost use Rattle.fol_formula.specs.Inclusions.{QuantifierFreeIsUniversal};
 ghost use Rattle.fol_formula.specs.Lists.{FormLists, TermLists, FormTurns, TermTurns, RowsAreLists};
 ghost use Rattle.fol_formula.specs.Quantified.{AllBelow, AnyBelow};
-ghost use Rattle.fol_formula.specs.Witnesses.{WitnessedIsTrue, WitnessesExist, WithoutExistentials, UniversalNeedsNoWitness, UniversalNormalNeedsNoWitness};
+ghost use Rattle.fol_formula.specs.Witnesses.{WitnessedIsTrue, WitnessesExist, WithoutExistentials};
+ghost use Rattle.fol_formula.specs.Witnesses.{UniversalNeedsNoWitness, UniversalNormalNeedsNoWitness};
 
 /// Structures that agree wherever a formula looks give it one truth, and the value of a term is an
 /// element of its sort.

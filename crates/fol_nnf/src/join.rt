@@ -3,7 +3,8 @@
 ghost use Rattle.std.specs.Prelude.{◌≡◌, ◌++◌, map, IfOk, OnOk};
 ghost use Rattle.fol_formula.specs.Syntax.{term_then, app};
 ghost use Rattle.fol_formula.specs.View.{form};
-ghost use Rattle.fol_nnf.specs.Normal.{behind, joined, given, made, one_of, leaf_form, any_of, relation_literal, equal_literal};
+ghost use Rattle.fol_nnf.specs.Normal.{behind, joined, given, made, one_of, leaf_form, any_of, relation_literal};
+ghost use Rattle.fol_nnf.specs.Normal.{equal_literal};
 ghost use Rattle.fol_nnf.specs.Leaves.{term_leaf, terms_leaf, atom_leaf};
 
 use crate::leaf::{AtomLeaf, TermLeaf, TermsLeaf, before_terms, equation, literal};
@@ -19,7 +20,8 @@ fn push_terms_behind(
     rest: &[TermsLeaf],
     all: &mut Vec<TermsLeaf>,
 ) -> Mem<()>
-    ensures { OnOk result (map terms_leaf all.new.items ≡ map terms_leaf all.old.items ++ map (behind term_then (term_leaf first.now)) (map terms_leaf rest.now)) }
+    ensures { OnOk result (map terms_leaf all.new.items ≡ map terms_leaf all.old.items
+        ++ map (behind term_then (term_leaf first.now)) (map terms_leaf rest.now)) }
 {
     for other in rest {
         all.push(before_terms(alloc, first, other)?)?;
@@ -29,7 +31,8 @@ fn push_terms_behind(
 
 /// Each leaf of an argument before each of the others.
 pub fn joined_terms(alloc: Global, first: &[TermLeaf], rest: &[TermsLeaf]) -> Mem<Vec<TermsLeaf>>
-    ensures { IfOk result (λ ls. map terms_leaf ls.items ≡ joined term_then (map term_leaf first.now) (map terms_leaf rest.now)) }
+    ensures { IfOk result
+        (λ ls. map terms_leaf ls.items ≡ joined term_then (map term_leaf first.now) (map terms_leaf rest.now)) }
 {
     let mut all = Vec::new(alloc);
     for leaf in first {
@@ -46,7 +49,8 @@ fn push_equations(
     others: &[TermLeaf],
     all: &mut Vec<AtomLeaf>,
 ) -> Mem<()>
-    ensures { OnOk result (map atom_leaf all.new.items ≡ map atom_leaf all.old.items ++ map (behind (equal_literal positive) (term_leaf a.now)) (map term_leaf others.now)) }
+    ensures { OnOk result (map atom_leaf all.new.items ≡ map atom_leaf all.old.items
+        ++ map (behind (equal_literal positive) (term_leaf a.now)) (map term_leaf others.now)) }
 {
     for b in others {
         all.push(equation(alloc, positive, a, b)?)?;
@@ -61,7 +65,9 @@ pub fn joined_equations(
     first: &[TermLeaf],
     second: &[TermLeaf],
 ) -> Mem<Vec<AtomLeaf>>
-    ensures { IfOk result (λ ls. map atom_leaf ls.items ≡ joined (equal_literal positive) (map term_leaf first.now) (map term_leaf second.now)) }
+    ensures { IfOk result
+        (λ ls. map atom_leaf ls.items ≡ joined (equal_literal positive) (map term_leaf first.now)
+        (map term_leaf second.now)) }
 {
     let mut all = Vec::new(alloc);
     for leaf in first {
@@ -77,7 +83,8 @@ pub fn relations(
     rel: RelId,
     leaves: Vec<TermsLeaf>,
 ) -> Mem<Vec<AtomLeaf>>
-    ensures { IfOk result (λ ls. map atom_leaf ls.items ≡ map (made (relation_literal positive rel.0)) (map terms_leaf leaves.items)) }
+    ensures { IfOk result
+        (λ ls. map atom_leaf ls.items ≡ map (made (relation_literal positive rel.0)) (map terms_leaf leaves.items)) }
 {
     let mut all = Vec::new(alloc);
     let mut rest = leaves.into_iter();
@@ -115,7 +122,8 @@ pub fn push_given(
     leaves: Vec<TermLeaf>,
     all: &mut Vec<TermLeaf>,
 ) -> Mem<()>
-    ensures { OnOk result (map term_leaf all.new.items ≡ map term_leaf all.old.items ++ map (given (form condition.now)) (map term_leaf leaves.items)) }
+    ensures { OnOk result (map term_leaf all.new.items ≡ map term_leaf all.old.items
+        ++ map (given (form condition.now)) (map term_leaf leaves.items)) }
 {
     let mut rest = leaves.into_iter();
     while let Some(leaf) = rest.next() {

@@ -1,5 +1,6 @@
 -- Tuples and their numbers.
-use Rattle.std.proofs.Common.{◌≡◌, ℕ, zero, suc, ◌+◌, ◌*◌, ◌/◌, ◌%◌, ◌<◌, List, [], ◌∷◌, length, get_or, map, refl, sym, ap, ◌∙◌, subst, arith}
+use Rattle.std.proofs.Common.{◌≡◌, ℕ, zero, suc, ◌+◌, ◌*◌, ◌/◌, ◌%◌, ◌<◌, List, [], ◌∷◌, length, get_or, map, refl, sym}
+use Rattle.std.proofs.Common.{ap, ◌∙◌, subst, arith}
 use Rattle.std.proofs.lemmas.Nat.{div-mul-add, mod-mul-add, div-add-mod', div_below, mod_below}
 use Rattle.std.proofs.lemmas.List.{length-map, get_or-map}
 use Rattle.fol_sig.specs.Tables.{InRange, tuple_count, place_from, place_of}
@@ -14,16 +15,20 @@ row sizes ks x = map (λ xs. x ∷ xs) (tuples sizes ks)
 length-tuples : (sizes ks : List ℕ) → length (tuples sizes ks) ≡ tuple_count sizes ks
 length-tuples sizes [] = refl
 length-tuples sizes (k ∷ ks) =
-    length-join_below (get_or sizes k 0) (tuple_count sizes ks) (row sizes ks) (λ x. length-map (tuples sizes ks) (λ xs. x ∷ xs) ∙ length-tuples sizes ks)
+    length-join_below (get_or sizes k 0) (tuple_count sizes ks) (row sizes ks)
+    (λ x. length-map (tuples sizes ks) (λ xs. x ∷ xs) ∙ length-tuples sizes ks)
 
 length-row : (sizes ks : List ℕ) (x : ℕ) → length (row sizes ks x) ≡ tuple_count sizes ks
 length-row sizes ks x = length-map (tuples sizes ks) (λ xs. x ∷ xs) ∙ length-tuples sizes ks
 
 -- the first element counts for all tuples of the others
-place_from-split : (sizes ks xs : List ℕ) (k x : ℕ) → InRange sizes ks xs → place_from sizes (0 * get_or sizes k 0 + x) ks xs ≡ x * tuple_count sizes ks + place_from sizes 0 ks xs
-place_from-split sizes ks xs k x h = let e = place_from-base sizes ks xs (0 * get_or sizes k 0 + x) h in omega (arith, e)
+place_from-split : (sizes ks xs : List ℕ) (k x : ℕ) → InRange sizes ks xs
+    → place_from sizes (0 * get_or sizes k 0 + x) ks xs ≡ x * tuple_count sizes ks + place_from sizes 0 ks xs
+place_from-split sizes ks xs k x h = let e = place_from-base sizes ks xs (0 * get_or sizes k 0 + x) h in
+    omega (arith, e)
 
-get_or-tuples : (sizes ks xs d : List ℕ) → InRange sizes ks xs → get_or (tuples sizes ks) (place_from sizes 0 ks xs) d ≡ xs
+get_or-tuples : (sizes ks xs d : List ℕ) → InRange sizes ks xs → get_or (tuples sizes ks) (place_from sizes 0 ks xs) d
+    ≡ xs
 get_or-tuples sizes [] [] d h = refl
 get_or-tuples sizes [] (x ∷ xs) d h = absurd h
 get_or-tuples sizes (k ∷ ks) [] d h = absurd h
@@ -51,7 +56,8 @@ tuple_at-within sizes (k ∷ ks) n lt =
     let some = some_right (get_or sizes k 0) rest n lt in
     (div_below n rest (get_or sizes k 0) some lt, tuple_at-within sizes ks (n % rest) (mod_below n rest some))
 
-place_from-tuple_at : (sizes ks : List ℕ) (n : ℕ) → n < tuple_count sizes ks → place_from sizes 0 ks (tuple_at sizes ks n) ≡ n
+place_from-tuple_at : (sizes ks : List ℕ) (n : ℕ) → n < tuple_count sizes ks
+    → place_from sizes 0 ks (tuple_at sizes ks n) ≡ n
 place_from-tuple_at sizes [] n lt = omega arith
 place_from-tuple_at sizes (k ∷ ks) n lt =
     let rest = tuple_count sizes ks in
@@ -70,13 +76,16 @@ tuple_at-place_from sizes (k ∷ ks) (x ∷ xs) h =
     let p = place_from sizes 0 ks xs in
     let lt : p < rest = place_from-below sizes ks xs h.1 in
     let e = place_from-split sizes ks xs k x h.1 in
-    let d : place_from sizes (0 * get_or sizes k 0 + x) ks xs / rest ≡ x = ap (λ m. m / rest) e ∙ div-mul-add x rest p lt in
-    let m : place_from sizes (0 * get_or sizes k 0 + x) ks xs % rest ≡ p = ap (λ m. m % rest) e ∙ mod-mul-add x rest p lt in
+    let d : place_from sizes (0 * get_or sizes k 0 + x) ks xs / rest ≡ x =
+    ap (λ m. m / rest) e ∙ div-mul-add x rest p lt in
+    let m : place_from sizes (0 * get_or sizes k 0 + x) ks xs % rest ≡ p =
+    ap (λ m. m % rest) e ∙ mod-mul-add x rest p lt in
     ap (λ y. y ∷ tuple_at sizes ks (place_from sizes (0 * get_or sizes k 0 + x) ks xs % rest)) d
     ∙ ap (λ q. x ∷ tuple_at sizes ks q) m
     ∙ ap (λ ys. x ∷ ys) (tuple_at-place_from sizes ks xs h.1)
 
-pub place_of-tuple_at : (sizes ks : List ℕ) (n : ℕ) → n < tuple_count sizes ks → place_of sizes ks (tuple_at sizes ks n) ≡ n
+pub place_of-tuple_at : (sizes ks : List ℕ) (n : ℕ) → n < tuple_count sizes ks
+    → place_of sizes ks (tuple_at sizes ks n) ≡ n
 unfolding place_of
 place_of-tuple_at sizes ks n lt = place_from-tuple_at sizes ks n lt
 
@@ -88,6 +97,8 @@ are_numbered sizes ks = record {
   tuple_within = tuple_at-within sizes ks;
   tuple_of_place = tuple_at-place_from sizes ks;
   place_of_tuple = place_from-tuple_at sizes ks;
-  listed = λ n lt. ap (λ m. get_or (tuples sizes ks) m []) (sym (place_from-tuple_at sizes ks n lt)) ∙ get_or-tuples sizes ks (tuple_at sizes ks n) [] (tuple_at-within sizes ks n lt);
-  once = λ xs ys hx hy e. sym (tuple_at-place_from sizes ks xs hx) ∙ ap (tuple_at sizes ks) e ∙ tuple_at-place_from sizes ks ys hy;
+  listed = λ n lt. ap (λ m. get_or (tuples sizes ks) m []) (sym (place_from-tuple_at sizes ks n lt))
+      ∙ get_or-tuples sizes ks (tuple_at sizes ks n) [] (tuple_at-within sizes ks n lt);
+  once = λ xs ys hx hy e. sym (tuple_at-place_from sizes ks xs hx) ∙ ap (tuple_at sizes ks) e
+      ∙ tuple_at-place_from sizes ks ys hy;
 }

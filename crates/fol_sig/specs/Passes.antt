@@ -1,5 +1,6 @@
 -- What one pass over the functions and one over the sorts give, while the sorts are put in order.
-use Rattle.std.specs.Prelude.{◌≡◌, ℕ, ◌<◌, Bool, true, false, List, [], length, slice_index_or, All, Option, Some, None, cond}
+use Rattle.std.specs.Prelude.{◌≡◌, ℕ, ◌<◌, Bool, true, false, List, [], length, slice_index_or, All, Option, Some, None}
+use Rattle.std.specs.Prelude.{cond}
 use Rattle.std.specs.List.{sum_by}
 use Rattle.fol_sig.specs.Symbols.{Symbols}
 use Rattle.fol_sig.specs.Strata.{has, AreInOrder, IsStrata, IsOnCycle}
@@ -10,7 +11,8 @@ is_set flags k = slice_index_or flags k false
 
 -- the argument sorts of the functions into it are placed
 abbrev pub IsReady : Symbols → List Bool → ℕ → Type 0
-IsReady sig placed k = (f : ℕ) → f < sig.functions → sig.into_of f ≡ k → All (λ q. is_set placed q ≡ true) (sig.from_of f)
+IsReady sig placed k =
+    (f : ℕ) → f < sig.functions → sig.into_of f ≡ k → All (λ q. is_set placed q ≡ true) (sig.from_of f)
 
 -- a function into it takes a sort that is not placed
 pub record IsWaiting (sig : Symbols) (placed : List Bool) (k : ℕ) : Type 0 where

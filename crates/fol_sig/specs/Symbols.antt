@@ -3,7 +3,8 @@ use Rattle.std.specs.Prelude.{◌≡◌, ℕ, ◌<◌, ◌≤◌, List, [], leng
 use Rattle.fol_sig.specs.declared.Sort.{Sort}
 use Rattle.fol_sig.specs.Tables.{Tables, Declared, AreSorts, IsStructure, relation_at, function_at}
 
--- the symbols that a formula may have: how many there are, the sorts of their arguments, and those of the functions' values
+-- the symbols that a formula may have: how many there are, the sorts of their arguments, and those of the functions'
+-- values
 pub record Symbols : Type 0 where
   pub sorts : ℕ
   pub relations : ℕ

@@ -1,5 +1,6 @@
 -- Finite structures: a size for each sort, and a table for each relation and each function.
-use Rattle.std.specs.Prelude.{◌≡◌, ℕ, ◌+◌, ◌*◌, ◌^◌, ◌<◌, ◌≤◌, Bool, false, List, [], ◌∷◌, length, slice_index, slice_index_or, slice_set, All, map, replicate}
+use Rattle.std.specs.Prelude.{◌≡◌, ℕ, ◌+◌, ◌*◌, ◌^◌, ◌<◌, ◌≤◌, Bool, false, List, [], ◌∷◌, length, slice_index}
+use Rattle.std.specs.Prelude.{slice_index_or, slice_set, All, map, replicate}
 use Rattle.fol_sig.specs.declared.Sort.{Sort}
 
 -- sorts by their numbers

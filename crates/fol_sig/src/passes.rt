@@ -74,7 +74,8 @@ fn order_of(alloc: Global, signature: &Signature, functions: u32) -> Mem<Option<
 fn waiting(alloc: Global, signature: &Signature, functions: u32, placed: &[bool]) -> Mem<Vec<bool>>
     requires known { functions ≤ length signature.now.functions }
     requires each { length placed.now ≡ signature.now.sorts }
-    ensures { IfOk result (λ waits. AreWaiting (with_functions (symbols signature.now) functions) placed.now waits.items) }
+    ensures { IfOk result
+        (λ waits. AreWaiting (with_functions (symbols signature.now) functions) placed.now waits.items) }
 {
     let mut waits = vec![in alloc; false; signature.sorts() as usize]?;
     for f in 0..functions {
@@ -101,7 +102,9 @@ fn are_placed(placed: &[bool], sorts: &[Sort]) -> bool
 fn place_free(waits: &[bool], placed: &mut Vec<bool>, order: &mut Vec<Sort>) -> Mem<bool>
     requires each { length waits.now ≡ length placed.old.items }
     requires few { length waits.now < 2 ^ 32 }
-    ensures so_far { (sig : Symbols) → AreWaiting sig placed.old.items waits.now → IsSoFar sig placed.old.items (numbers order.old.items) → OnOk result (IsSoFar sig placed.new.items (numbers order.new.items)) }
+    ensures so_far { (sig : Symbols) → AreWaiting sig placed.old.items waits.now
+        → IsSoFar sig placed.old.items (numbers order.old.items)
+        → OnOk result (IsSoFar sig placed.new.items (numbers order.new.items)) }
     ensures advances { IfOk result (Advances waits.now placed.old.items placed.new.items) }
 {
     let mut any = false;

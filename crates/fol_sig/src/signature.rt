@@ -23,7 +23,8 @@ impl Model for Signature {
 
     ghost view = { λ s. record { sorts = s.sorts; relations = s.relations.items; functions = s.functions.items } };
 
-    ghost invariant = { λ s. IsSignature (record { sorts = s.sorts; relations = s.relations.items; functions = s.functions.items }) };
+    ghost invariant = { λ s. IsSignature
+        (record { sorts = s.sorts; relations = s.relations.items; functions = s.functions.items }) };
 }
 
 impl Signature {
@@ -89,7 +90,8 @@ impl Signature {
         requires into_known { into.0 < self.old.sorts }
         requires few { length self.old.functions + 1 < 2 ^ 32 }
         ensures id { IfOk result (λ f. f.0 ≡ length self.old.functions) }
-        ensures added { OnOk result (self.new ≡ record self.old { functions = self.old.functions ++ (from, into) ∷ [] }) }
+        ensures added { OnOk result
+            (self.new ≡ record self.old { functions = self.old.functions ++ (from, into) ∷ [] }) }
         ensures kept { OnErr result (self.new ≡ self.old) }
     {
         let id = FunId(self.functions.len() as u32);

@@ -1,6 +1,7 @@
 // Finite structures.
 ghost use Rattle.std.specs.Prelude.{◌≡◌, ◌<◌, [], ◌∷◌, ◌++◌, length, All, IfOk, OnOk, OnErr, map};
-ghost use Rattle.fol_sig.specs.Tables.{numbers, AreSorts, InRange, tuple_count, size_at, rel_at, fun_at, relation_at, function_at};
+ghost use Rattle.fol_sig.specs.Tables.{numbers, AreSorts, InRange, tuple_count, size_at, rel_at, fun_at, relation_at};
+ghost use Rattle.fol_sig.specs.Tables.{function_at};
 ghost use Rattle.fol_sig.specs.Tables.{blank_relation, blank_function, blank, IsStructure};
 ghost use Rattle.fol_sig.specs.Symbols.{Symbols, FitsStructure, symbols};
 ghost use Rattle.fol_sig.specs.Constants.{constant_table, constant_tables, with_constants, reduct};
@@ -49,9 +50,14 @@ impl Model for Structure {
 
     ghost Value = { Tables };
 
-    ghost view = { λ s. record { sizes = s.sizes.items; relations = s.relations.items; functions = s.functions.items } };
+    ghost view = { λ s. record {
+      sizes = s.sizes.items;
+      relations = s.relations.items;
+      functions = s.functions.items;
+    } };
 
-    ghost invariant = { λ s. IsStructure (record { sizes = s.sizes.items; relations = s.relations.items; functions = s.functions.items }) };
+    ghost invariant = { λ s. IsStructure
+        (record { sizes = s.sizes.items; relations = s.relations.items; functions = s.functions.items }) };
 }
 
 impl Structure {
@@ -79,7 +85,8 @@ impl Structure {
         relations: Vec<Table<bool>>,
         functions: Vec<Function>,
     ) -> Structure
-        requires { IsStructure (record { sizes = sizes.items; relations = relations.items; functions = functions.items }) }
+        requires { IsStructure
+            (record { sizes = sizes.items; relations = relations.items; functions = functions.items }) }
         ensures { result ≡ record { sizes = sizes.items; relations = relations.items; functions = functions.items } }
     {
         Structure {
@@ -203,7 +210,8 @@ impl Structure {
     pub fn add_constant(&mut self, alloc: Global, sort: Sort, value: u32) -> Mem<()>
         requires known { sort.0 < length self.old.sizes }
         requires within { value < size_at self.old sort.0 }
-        ensures added { OnOk result (self.new ≡ record self.old { functions = self.old.functions ++ constant_table sort.0 value ∷ [] }) }
+        ensures added { OnOk result
+            (self.new ≡ record self.old { functions = self.old.functions ++ constant_table sort.0 value ∷ [] }) }
         ensures kept { OnErr result (self.new ≡ self.old) }
     {
         let table = Table::filled(alloc, &self.sizes, &Sorts::new(alloc), value)?;

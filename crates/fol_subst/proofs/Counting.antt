@@ -1,19 +1,28 @@
 -- The counts without the result are those of the result.
-use Rattle.std.proofs.Common.{◌≡◌, ℕ, zero, suc, ◌+◌, ◌-◌, ◌*◌, ◌<◌, ◌≤◌, ◌^◌, Bool, true, false, ◌==◌, ◌||◌, nat_lt, cond, max, min, List, [], ◌∷◌, ◌++◌, length, refl, sym, ap, ◌∙◌, subst, ⊎_elim, arith}
+use Rattle.std.proofs.Common.{◌≡◌, ℕ, zero, suc, ◌+◌, ◌-◌, ◌*◌, ◌<◌, ◌≤◌, ◌^◌, Bool, true, false, ◌==◌, ◌||◌, nat_lt}
+use Rattle.std.proofs.Common.{cond, max, min, List, [], ◌∷◌, ◌++◌, length, refl, sym, ap, ◌∙◌, subst, ⊎_elim, arith}
 use Rattle.std.specs.Prelude.{reverse}
 use Rattle.std.proofs.lemmas.Bool.{cases_lt, eqb-true, ne_eqb}
 use Rattle.std.proofs.lemmas.Bool.Decides.{nat_tests}
 use Rattle.std.proofs.Math.Nat.{mul-le-mul_right}
 use Rattle.std.proofs.lemmas.List.{reverse-append, length-reverse}
-use Rattle.fol_formula.specs.Syntax.{FormTree, FormTrees, TermTree, TermTrees, top, bottom, rel, equal, negation, conjunction, disjunction, implication, equivalence, for_all, for_some, no_forms, form_then, bound, app, ite, no_terms, term_then, list_of, size_of}
-use Rattle.fol_formula.specs.Counts.{form_nodes, forms_nodes, term_nodes, terms_nodes, form_depth, forms_depth, term_depth, terms_depth}
-use Rattle.fol_subst.specs.Replace.{put_form, put_term, Change, change_rel, change_fun, change_const, rel_instance, app_instance, changing, changed_form, changed_forms, changed_term, changed_terms}
+use Rattle.fol_formula.specs.Syntax.{FormTree, FormTrees, TermTree, TermTrees, top, bottom, rel, equal, negation}
+use Rattle.fol_formula.specs.Syntax.{conjunction, disjunction, implication, equivalence, for_all, for_some, no_forms}
+use Rattle.fol_formula.specs.Syntax.{form_then, bound, app, ite, no_terms, term_then, list_of, size_of}
+use Rattle.fol_formula.specs.Counts.{form_nodes, forms_nodes, term_nodes, terms_nodes, form_depth, forms_depth}
+use Rattle.fol_formula.specs.Counts.{term_depth, terms_depth}
+use Rattle.fol_subst.specs.Replace.{put_form, put_term, Change, change_rel, change_fun, change_const, rel_instance}
+use Rattle.fol_subst.specs.Replace.{app_instance, changing, changed_form, changed_forms, changed_term, changed_terms}
 use Rattle.fol_subst.specs.Limits.{is_too_large, IndicesFit, IndicesFitAll, IndicesFitTerm, IndicesFitTerms}
 use Rattle.fol_subst.specs.Room.{AppTakes, ReadyForm, ReadyForms, ReadyTerm, ReadyTerms}
-use Rattle.fol_subst.specs.Extents.{capped, extent, none, one, beside, over, under, put_in, places_form, places_forms, places_term, places_terms, places_of, extent_form, extent_forms, extent_term, extent_terms, extent_instance, is_over}
+use Rattle.fol_subst.specs.Extents.{capped, extent, none, one, beside, over, under, put_in, places_form, places_forms}
+use Rattle.fol_subst.specs.Extents.{places_term, places_terms, places_of, extent_form, extent_forms, extent_term}
+use Rattle.fol_subst.specs.Extents.{extent_terms, extent_instance, is_over}
 use Rattle.fol_subst.specs.declared.extent.Extent.{Extent}
 use Rattle.fol_subst.proofs.Truth.{length-list_of, size_of-by}
-use Rattle.fol_subst.proofs.Sizes.{uses_form, uses_forms, uses_term, uses_terms, below, reach_form, reach_forms, reach_term, reach_terms, weighted, weighted-same, deepened, highest, highest-same, Filled, filled-form, filled-term, nodes-positive, depth-positive}
+use Rattle.fol_subst.proofs.Sizes.{uses_form, uses_forms, uses_term, uses_terms, below, reach_form, reach_forms}
+use Rattle.fol_subst.proofs.Sizes.{reach_term, reach_terms, weighted, weighted-same, deepened, highest, highest-same}
+use Rattle.fol_subst.proofs.Sizes.{Filled, filled-form, filled-term, nodes-positive, depth-positive}
 
 pub beside-extent : (a b c d : ℕ) → beside (extent a b) (extent c d) ≡ extent (a + c) (max b d)
 beside-extent a b c d =
@@ -46,13 +55,15 @@ product-beyond a v (suc m) large =
     let e2 : 1000001 * suc m ≤ v * suc m = mul-le-mul_right (suc m) (omega arith) in
     rw e1 (omega (arith, e2))
 
-product-many : (a v n : ℕ) → 1 ≤ a → 1 ≤ v → 1000002 ≤ n → capped (capped a + capped v * (capped n - 1)) ≡ capped (a + v * (n - 1))
+product-many : (a v n : ℕ) → 1 ≤ a → 1 ≤ v → 1000002 ≤ n → capped (capped a + capped v * (capped n - 1))
+    ≡ capped (a + v * (n - 1))
 product-many a v n pa pv large =
     let e1 : capped n - 1 ≡ 1000000 = omega arith in
     let e2 : 1 * (n - 1) ≤ v * (n - 1) = mul-le-mul_right (n - 1) pv in
     rw e1 (omega (arith, e2))
 
-product-few : (a v n : ℕ) → n < 1000002 → 1 ≤ n → capped (capped a + capped v * (capped n - 1)) ≡ capped (a + v * (n - 1))
+product-few : (a v n : ℕ) → n < 1000002 → 1 ≤ n → capped (capped a + capped v * (capped n - 1))
+    ≡ capped (a + v * (n - 1))
 product-few a v n small pn =
     let e : capped n ≡ n = omega arith in
     rw e (⊎_elim (product-below a v (n - 1)) (product-beyond a v (n - 1)) (cases_lt v 1000002))
@@ -63,38 +74,46 @@ product-none a n = omega arith
 capped-product : (a u n : ℕ) → 1 ≤ a → 1 ≤ n → capped (capped a + capped u * (capped n - 1)) ≡ capped (a + u * (n - 1))
 capped-product a zero n pa pn = product-none a n
 capped-product a (suc u) n pa pn =
-    ⊎_elim (λ (small : n < 1000002). product-few a (suc u) n small pn) (λ (large : 1000002 ≤ n). product-many a (suc u) n pa (omega arith) large) (cases_lt n 1000002)
+    ⊎_elim (λ (small : n < 1000002). product-few a (suc u) n small pn)
+    (λ (large : 1000002 ≤ n). product-many a (suc u) n pa (omega arith) large) (cases_lt n 1000002)
 
-put_in-extent : (a b u r n d : ℕ) → 1 ≤ a → 1 ≤ n → 1 ≤ d → put_in (extent a b) (extent u r) (extent n d) ≡ extent (a + u * (n - 1)) (max b (deepened r d))
+put_in-extent : (a b u r n d : ℕ) → 1 ≤ a → 1 ≤ n → 1 ≤ d → put_in (extent a b) (extent u r) (extent n d)
+    ≡ extent (a + u * (n - 1)) (max b (deepened r d))
 put_in-extent a b u zero n d pa pn pd =
     let e1 = capped-product a u n pa pn in
     let e2 : capped b ≡ capped (max b 0) = omega arith in
     cc (e1, e2)
 put_in-extent a b u (suc m) n d pa pn pd =
     let e1 = capped-product a u n pa pn in
-    let e2 : cond (capped (suc m) == 0) (capped b) (max (capped b) (capped (capped (suc m) + capped d - 1))) ≡ capped (max b (m + d)) =
+    let e2 : cond (capped (suc m) == 0) (capped b) (max (capped b) (capped (capped (suc m) + capped d - 1)))
+    ≡ capped (max b (m + d)) =
     rw (ne_eqb (capped (suc m)) 0 (λ e. absurd (omega arith))) (omega arith) in
     cc (e1, e2)
 
 over-one : (x : Extent) (a b : ℕ) → x ≡ extent a b → over x ≡ extent (a + 1) (b + 1)
 over-one x a b e = ap over e ∙ over-extent a b
 
-over-two : (x y : Extent) (a b c d : ℕ) → x ≡ extent a b → y ≡ extent c d → over (beside x y) ≡ extent (a + c + 1) (max b d + 1)
+over-two : (x y : Extent) (a b c d : ℕ) → x ≡ extent a b → y ≡ extent c d
+    → over (beside x y) ≡ extent (a + c + 1) (max b d + 1)
 over-two x y a b c d e1 e2 =
-    ap (λ z. over (beside z y)) e1 ∙ ap (λ z. over (beside (extent a b) z)) e2 ∙ ap over (beside-extent a b c d) ∙ over-extent (a + c) (max b d)
+    ap (λ z. over (beside z y)) e1 ∙ ap (λ z. over (beside (extent a b) z)) e2 ∙ ap over (beside-extent a b c d)
+    ∙ over-extent (a + c) (max b d)
 
 both : (x y : Extent) (a b c d : ℕ) → x ≡ extent a b → y ≡ extent c d → beside x y ≡ extent (a + c) (max b d)
 both x y a b c d e1 e2 = ap (λ z. beside z y) e1 ∙ ap (λ z. beside (extent a b) z) e2 ∙ beside-extent a b c d
 
-over-three : (x y z : Extent) (a b c d e f : ℕ) → x ≡ extent a b → y ≡ extent c d → z ≡ extent e f → over (beside x (beside y z)) ≡ extent (a + c + e + 1) (max b (max d f) + 1)
+over-three : (x y z : Extent) (a b c d e f : ℕ) → x ≡ extent a b → y ≡ extent c d → z ≡ extent e f
+    → over (beside x (beside y z)) ≡ extent (a + c + e + 1) (max b (max d f) + 1)
 over-three x y z a b c d e f e1 e2 e3 =
     let e4 : a + (c + e) + 1 ≡ a + c + e + 1 = omega arith in
-    over-two x (beside y z) a b (c + e) (max d f) e1 (both y z c d e f e2 e3) ∙ ap (λ n. extent n (max b (max d f) + 1)) e4
+    over-two x (beside y z) a b (c + e) (max d f) e1 (both y z c d e f e2 e3)
+    ∙ ap (λ n. extent n (max b (max d f) + 1)) e4
 
 under-one : (x : Extent) (a b : ℕ) → x ≡ extent a b → under x ≡ extent a (below b)
 under-one x a b e = ap under e ∙ under-extent a b
 
-under-two : (x y : Extent) (a b c d : ℕ) → x ≡ extent a b → y ≡ extent c d → under (beside x y) ≡ extent (a + c) (below (max b d))
+under-two : (x y : Extent) (a b c d : ℕ) → x ≡ extent a b → y ≡ extent c d
+    → under (beside x y) ≡ extent (a + c) (below (max b d))
 under-two x y a b c d e1 e2 = ap under (both x y a b c d e1 e2) ∙ under-extent (a + c) (max b d)
 
 -- the places of an index
@@ -123,7 +142,8 @@ mutual
       index_place true = refl
       index_place false = refl
   places-term (app f args) i = under-one _ _ _ (places-terms args i)
-  places-term (ite p a b) i = under-two _ _ _ _ _ _ (places-form p i) (both _ _ _ _ _ _ (places-term a i) (places-term b i))
+  places-term (ite p a b) i =
+      under-two _ _ _ _ _ _ (places-form p i) (both _ _ _ _ _ _ (places-term a i) (places-term b i))
 
   places-terms : (ts : TermTrees) (i : ℕ) → places_terms i ts ≡ extent (uses_terms i ts) (reach_terms i ts)
   places-terms no_terms i = refl
@@ -135,33 +155,47 @@ mutual
   places-far top i j h a b = refl
   places-far bottom i j h a b = refl
   places-far (rel r args) i j h a b = ap under (places-far_terms args i j h a b)
-  places-far (equal s t) i j h a b = let e1 = places-far_term s i j h.0 a b in let e2 = places-far_term t i j h.1 a b in ap (λ z. under (beside z (places_term i t))) e1 ∙ ap (λ z. under (beside (places_term j s) z)) e2
+  places-far (equal s t) i j h a b = let e1 = places-far_term s i j h.0 a b in let e2 = places-far_term t i j h.1 a b in
+      ap (λ z. under (beside z (places_term i t))) e1 ∙ ap (λ z. under (beside (places_term j s) z)) e2
   places-far (negation p) i j h a b = ap under (places-far p i j h a b)
   places-far (conjunction ps) i j h a b = ap under (places-far_forms ps i j h a b)
   places-far (disjunction ps) i j h a b = ap under (places-far_forms ps i j h a b)
-  places-far (implication p q) i j h a b = ap (λ z. under (beside z (places_form i q))) (places-far p i j h.0 a b) ∙ ap (λ z. under (beside (places_form j p) z)) (places-far q i j h.1 a b)
-  places-far (equivalence p q) i j h a b = ap (λ z. under (beside z (places_form i q))) (places-far p i j h.0 a b) ∙ ap (λ z. under (beside (places_form j p) z)) (places-far q i j h.1 a b)
+  places-far (implication p q) i j h a b =
+      ap (λ z. under (beside z (places_form i q))) (places-far p i j h.0 a b)
+      ∙ ap (λ z. under (beside (places_form j p) z)) (places-far q i j h.1 a b)
+  places-far (equivalence p q) i j h a b =
+      ap (λ z. under (beside z (places_form i q))) (places-far p i j h.0 a b)
+      ∙ ap (λ z. under (beside (places_form j p) z)) (places-far q i j h.1 a b)
   places-far (for_all k p) i j h a b = ap under (places-far p (suc i) (suc j) h (omega arith) (omega arith))
   places-far (for_some k p) i j h a b = ap under (places-far p (suc i) (suc j) h (omega arith) (omega arith))
 
-  places-far_forms : (ps : FormTrees) (i j : ℕ) → IndicesFitAll ps → 2 ^ 32 ≤ i → 2 ^ 32 ≤ j → places_forms i ps ≡ places_forms j ps
+  places-far_forms : (ps : FormTrees) (i j : ℕ) → IndicesFitAll ps → 2 ^ 32 ≤ i → 2 ^ 32 ≤ j
+      → places_forms i ps ≡ places_forms j ps
   places-far_forms no_forms i j h a b = refl
-  places-far_forms (form_then p ps) i j h a b = ap (λ z. beside z (places_forms i ps)) (places-far p i j h.0 a b) ∙ ap (λ z. beside (places_form j p) z) (places-far_forms ps i j h.1 a b)
+  places-far_forms (form_then p ps) i j h a b =
+      ap (λ z. beside z (places_forms i ps)) (places-far p i j h.0 a b)
+      ∙ ap (λ z. beside (places_form j p) z) (places-far_forms ps i j h.1 a b)
 
-  places-far_term : (t : TermTree) (i j : ℕ) → IndicesFitTerm t → 2 ^ 32 ≤ i → 2 ^ 32 ≤ j → places_term i t ≡ places_term j t
-  places-far_term (bound n) i j h a b = rw (ne_eqb n i (λ e. absurd (omega arith)), ne_eqb n j (λ e. absurd (omega arith))) refl
+  places-far_term : (t : TermTree) (i j : ℕ) → IndicesFitTerm t → 2 ^ 32 ≤ i → 2 ^ 32 ≤ j
+      → places_term i t ≡ places_term j t
+  places-far_term (bound n) i j h a b =
+      rw (ne_eqb n i (λ e. absurd (omega arith)), ne_eqb n j (λ e. absurd (omega arith))) refl
   places-far_term (app f args) i j h a b = ap under (places-far_terms args i j h a b)
   places-far_term (ite p s t) i j h a b =
       ap (λ z. under (beside z (beside (places_term i s) (places_term i t)))) (places-far p i j h.0 a b)
       ∙ ap (λ z. under (beside (places_form j p) (beside z (places_term i t)))) (places-far_term s i j h.1 a b)
       ∙ ap (λ z. under (beside (places_form j p) (beside (places_term j s) z))) (places-far_term t i j h.2 a b)
 
-  places-far_terms : (ts : TermTrees) (i j : ℕ) → IndicesFitTerms ts → 2 ^ 32 ≤ i → 2 ^ 32 ≤ j → places_terms i ts ≡ places_terms j ts
+  places-far_terms : (ts : TermTrees) (i j : ℕ) → IndicesFitTerms ts → 2 ^ 32 ≤ i → 2 ^ 32 ≤ j
+      → places_terms i ts ≡ places_terms j ts
   places-far_terms no_terms i j h a b = refl
-  places-far_terms (term_then t ts) i j h a b = ap (λ z. beside z (places_terms i ts)) (places-far_term t i j h.0 a b) ∙ ap (λ z. beside (places_term j t) z) (places-far_terms ts i j h.1 a b)
+  places-far_terms (term_then t ts) i j h a b =
+      ap (λ z. beside z (places_terms i ts)) (places-far_term t i j h.0 a b)
+      ∙ ap (λ z. beside (places_term j t) z) (places-far_terms ts i j h.1 a b)
 
 -- under a binder, also where the next number is beyond 64 bits
-pub places-next : (p : FormTree) (i j : ℕ) → IndicesFit p → j ≡ min (i + 1) (2 ^ 64 - 1) → places_form j p ≡ places_form (suc i) p
+pub places-next : (p : FormTree) (i j : ℕ) → IndicesFit p → j ≡ min (i + 1) (2 ^ 64 - 1)
+    → places_form j p ≡ places_form (suc i) p
 places-next p i j h e =
     ⊎_elim
     (λ near. ap (λ m. places_form m p) (let e1 : j ≡ suc i = omega arith in e1))
@@ -177,11 +211,13 @@ abbrev pub highest_args : (ℕ → ℕ) → TermTrees → ℕ
 highest_args f no_terms = 0
 highest_args f (term_then t ts) = max (deepened (f (size_of ts)) (term_depth t)) (highest_args f ts)
 
-weighted-last : (f : ℕ → ℕ) (xs : List TermTree) (x : TermTree) → weighted f (xs ++ x ∷ []) ≡ weighted f xs + f (length xs) * (term_nodes x - 1)
+weighted-last : (f : ℕ → ℕ) (xs : List TermTree) (x : TermTree) → weighted f (xs ++ x ∷ [])
+    ≡ weighted f xs + f (length xs) * (term_nodes x - 1)
 weighted-last f [] x = omega arith
 weighted-last f (y ∷ xs) x = let e = weighted-last (λ j. f (suc j)) xs x in omega (arith, e)
 
-highest-last : (f : ℕ → ℕ) (xs : List TermTree) (x : TermTree) → highest f (xs ++ x ∷ []) ≡ max (highest f xs) (deepened (f (length xs)) (term_depth x))
+highest-last : (f : ℕ → ℕ) (xs : List TermTree) (x : TermTree) → highest f (xs ++ x ∷ [])
+    ≡ max (highest f xs) (deepened (f (length xs)) (term_depth x))
 highest-last f [] x = omega arith
 highest-last f (y ∷ xs) x = let e = highest-last (λ j. f (suc j)) xs x in omega (arith, e)
 
@@ -222,18 +258,22 @@ places-of (change_const g index) i = refl
 -- the extent of what stands in the symbol's place, with these arguments
 abbrev HasExtents : Change → TermTrees → TermTrees → Type 0
 HasExtents c ts new =
-    (whole : Extent) (a b : ℕ) → 1 ≤ a → whole ≡ extent a b → extent_instance c whole ts ≡ extent (a + weighted_args (uses_of c) new) (max b (highest_args (reach_of c) new))
+    (whole : Extent) (a b : ℕ) → 1 ≤ a → whole ≡ extent a b → extent_instance c whole ts
+    ≡ extent (a + weighted_args (uses_of c) new) (max b (highest_args (reach_of c) new))
 
 -- places outside of binders, by parameter
 zero_by : (f : ℕ → ℕ) (j : ℕ) → f (j + 0) ≡ f j
 zero_by f j = let e : j + 0 ≡ j = omega arith in ap f e
 
-filled-args : (n d : ℕ) (u r : ℕ → ℕ) (n' d' : ℕ) (new : TermTrees) → Filled (reverse (list_of new)) n d (λ j. u (j + 0)) (λ j. r (j + 0)) n' d' → extent n' d' ≡ extent (n + weighted_args u new) (max d (highest_args r new))
+filled-args : (n d : ℕ) (u r : ℕ → ℕ) (n' d' : ℕ) (new : TermTrees)
+    → Filled (reverse (list_of new)) n d (λ j. u (j + 0)) (λ j. r (j + 0)) n' d'
+    → extent n' d' ≡ extent (n + weighted_args u new) (max d (highest_args r new))
 filled-args n d u r n' d' new h =
     let xs = reverse (list_of new) in
     let e1 = weighted-same (λ j. u (j + 0)) u xs (zero_by u) ∙ weighted-reverse u new in
     let e2 = highest-same (λ j. r (j + 0)) r xs (zero_by r) ∙ highest-reverse r new in
-    ap (λ m. extent m d') (h.nodes ∙ ap (λ m. n + m) e1) ∙ ap (extent (n + weighted_args u new)) (h.depth ∙ ap (λ m. max d m) e2)
+    ap (λ m. extent m d') (h.nodes ∙ ap (λ m. n + m) e1)
+    ∙ ap (extent (n + weighted_args u new)) (h.depth ∙ ap (λ m. max d m) e2)
 
 form_nodes-positive : (p : FormTree) → 1 ≤ form_nodes p
 form_nodes-positive top = omega arith
@@ -249,25 +289,40 @@ form_nodes-positive (for_all k p) = omega arith
 form_nodes-positive (for_some k p) = omega arith
 
 -- an atom and an application, where the arguments are counted already
-extent-atom : (c : Change) (q : ℕ) (args new : TermTrees) → extent_terms c args ≡ extent (terms_nodes new) (terms_depth new) → HasExtents c args new → extent_form c (rel q args) ≡ extent (form_nodes (rel_instance c q new)) (form_depth (rel_instance c q new))
+extent-atom : (c : Change) (q : ℕ) (args new : TermTrees) → extent_terms c args
+    ≡ extent (terms_nodes new) (terms_depth new) → HasExtents c args new
+    → extent_form c (rel q args) ≡ extent (form_nodes (rel_instance c q new)) (form_depth (rel_instance c q new))
 extent-atom (change_rel r by) q args new plain inside = which (q == r) refl
   where
-    which : (b : Bool) → (q == r) ≡ b → cond b (extent_instance (change_rel r by) (extent (form_nodes by) (form_depth by)) args) (over (extent_terms (change_rel r by) args)) ≡ extent (form_nodes (cond b (put_form 0 (reverse (list_of new)) by) (rel q new))) (form_depth (cond b (put_form 0 (reverse (list_of new)) by) (rel q new)))
+    which : (b : Bool) → (q == r) ≡ b
+        → cond b (extent_instance (change_rel r by) (extent (form_nodes by) (form_depth by)) args)
+        (over (extent_terms (change_rel r by) args))
+        ≡ extent (form_nodes (cond b (put_form 0 (reverse (list_of new)) by) (rel q new)))
+        (form_depth (cond b (put_form 0 (reverse (list_of new)) by) (rel q new)))
     which true e =
         inside (extent (form_nodes by) (form_depth by)) (form_nodes by) (form_depth by) (form_nodes-positive by) refl
-        ∙ sym (filled-args _ _ (λ i. uses_form i by) (λ i. reach_form i by) _ _ new (filled-form (reverse (list_of new)) by 0))
+        ∙ sym (filled-args _ _ (λ i. uses_form i by) (λ i. reach_form i by) _ _ new
+        (filled-form (reverse (list_of new)) by 0))
     which false e = over-one _ _ _ plain
 extent-atom (change_fun g by) q args new plain inside = over-one _ _ _ plain
 extent-atom (change_const g index) q args new plain inside = over-one _ _ _ plain
 
-extent-application : (c : Change) (d f : ℕ) (args new : TermTrees) → size_of new ≡ size_of args → AppTakes c f (size_of new) → extent_terms c args ≡ extent (terms_nodes new) (terms_depth new) → HasExtents c args new → extent_term c (app f args) ≡ extent (term_nodes (app_instance c d f new)) (term_depth (app_instance c d f new))
+extent-application : (c : Change) (d f : ℕ) (args new : TermTrees) → size_of new ≡ size_of args
+    → AppTakes c f (size_of new) → extent_terms c args ≡ extent (terms_nodes new) (terms_depth new)
+    → HasExtents c args new → extent_term c (app f args)
+    ≡ extent (term_nodes (app_instance c d f new)) (term_depth (app_instance c d f new))
 extent-application (change_rel r by) d f args new count ready plain inside = over-one _ _ _ plain
 extent-application (change_fun g by) d f args new count ready plain inside = which (f == g) refl
   where
-    which : (b : Bool) → (f == g) ≡ b → cond b (extent_instance (change_fun g by) (extent (term_nodes by) (term_depth by)) args) (over (extent_terms (change_fun g by) args)) ≡ extent (term_nodes (cond b (put_term 0 (reverse (list_of new)) by) (app f new))) (term_depth (cond b (put_term 0 (reverse (list_of new)) by) (app f new)))
+    which : (b : Bool) → (f == g) ≡ b
+        → cond b (extent_instance (change_fun g by) (extent (term_nodes by) (term_depth by)) args)
+        (over (extent_terms (change_fun g by) args))
+        ≡ extent (term_nodes (cond b (put_term 0 (reverse (list_of new)) by) (app f new)))
+        (term_depth (cond b (put_term 0 (reverse (list_of new)) by) (app f new)))
     which true e =
         inside (extent (term_nodes by) (term_depth by)) (term_nodes by) (term_depth by) (nodes-positive by) refl
-        ∙ sym (filled-args _ _ (λ i. uses_term i by) (λ i. reach_term i by) _ _ new (filled-term (reverse (list_of new)) by 0))
+        ∙ sym (filled-args _ _ (λ i. uses_term i by) (λ i. reach_term i by) _ _ new
+        (filled-term (reverse (list_of new)) by 0))
     which false e = over-one _ _ _ plain
 extent-application (change_const g index) d f args new count ready plain inside = which (f == g) refl
   where
@@ -275,17 +330,22 @@ extent-application (change_const g index) d f args new count ready plain inside 
     no_arguments no_terms e = refl
     no_arguments (term_then t ts) e = absurd (omega arith)
 
-    which : (b : Bool) → (f == g) ≡ b → cond b (extent_instance (change_const g index) one args) (over (extent_terms (change_const g index) args)) ≡ extent (term_nodes (cond b (bound (d + index)) (app f new))) (term_depth (cond b (bound (d + index)) (app f new)))
+    which : (b : Bool) → (f == g) ≡ b → cond b (extent_instance (change_const g index) one args)
+        (over (extent_terms (change_const g index) args))
+        ≡ extent (term_nodes (cond b (bound (d + index)) (app f new)))
+        (term_depth (cond b (bound (d + index)) (app f new)))
     which true e = no_arguments args (sym count ∙ ready (eqb-true f g e))
     which false e = over-one _ _ _ plain
 
 module _ (c : Change) where
   mutual
-    pub extent-form : (p : FormTree) (d : ℕ) → ReadyForm c p → extent_form c p ≡ extent (form_nodes (changed_form c d p)) (form_depth (changed_form c d p))
+    pub extent-form : (p : FormTree) (d : ℕ) → ReadyForm c p → extent_form c p
+        ≡ extent (form_nodes (changed_form c d p)) (form_depth (changed_form c d p))
     extent-form top d h = refl
     extent-form bottom d h = refl
     extent-form (rel q args) d h =
-        extent-atom c q args (changed_terms c d args) (extent-terms args d h.1) (λ whole a b. extent-instance args d h.1 whole a b)
+        extent-atom c q args (changed_terms c d args) (extent-terms args d h.1)
+        (λ whole a b. extent-instance args d h.1 whole a b)
     extent-form (equal a b) d h = over-two _ _ _ _ _ _ (extent-term a d h.0) (extent-term b d h.1)
     extent-form (negation p) d h = over-one _ _ _ (extent-form p d h)
     extent-form (conjunction ps) d h = over-one _ _ _ (extent-forms ps d h)
@@ -295,46 +355,59 @@ module _ (c : Change) where
     extent-form (for_all k p) d h = over-one _ _ _ (extent-form p (suc d) h)
     extent-form (for_some k p) d h = over-one _ _ _ (extent-form p (suc d) h)
 
-    extent-forms : (ps : FormTrees) (d : ℕ) → ReadyForms c ps → extent_forms c ps ≡ extent (forms_nodes (changed_forms c d ps)) (forms_depth (changed_forms c d ps))
+    extent-forms : (ps : FormTrees) (d : ℕ) → ReadyForms c ps → extent_forms c ps
+        ≡ extent (forms_nodes (changed_forms c d ps)) (forms_depth (changed_forms c d ps))
     extent-forms no_forms d h = refl
     extent-forms (form_then p ps) d h = both _ _ _ _ _ _ (extent-form p d h.0) (extent-forms ps d h.1)
 
-    extent-term : (t : TermTree) (d : ℕ) → ReadyTerm c t → extent_term c t ≡ extent (term_nodes (changed_term c d t)) (term_depth (changed_term c d t))
+    extent-term : (t : TermTree) (d : ℕ) → ReadyTerm c t → extent_term c t
+        ≡ extent (term_nodes (changed_term c d t)) (term_depth (changed_term c d t))
     extent-term (bound n) d h = refl
     extent-term (app f args) d h =
-        extent-application c d f args (changed_terms c d args) (size_of-by (changing c) d args) (subst (AppTakes c f) (sym (size_of-by (changing c) d args)) h.0.1) (extent-terms args d h.1) (λ whole a b. extent-instance args d h.1 whole a b)
-    extent-term (ite p a b) d h = over-three _ _ _ _ _ _ _ _ _ (extent-form p d h.0) (extent-term a d h.1) (extent-term b d h.2)
+        extent-application c d f args (changed_terms c d args) (size_of-by (changing c) d args)
+        (subst (AppTakes c f) (sym (size_of-by (changing c) d args)) h.0.1) (extent-terms args d h.1)
+        (λ whole a b. extent-instance args d h.1 whole a b)
+    extent-term (ite p a b) d h =
+        over-three _ _ _ _ _ _ _ _ _ (extent-form p d h.0) (extent-term a d h.1) (extent-term b d h.2)
 
-    extent-terms : (ts : TermTrees) (d : ℕ) → ReadyTerms c ts → extent_terms c ts ≡ extent (terms_nodes (changed_terms c d ts)) (terms_depth (changed_terms c d ts))
+    extent-terms : (ts : TermTrees) (d : ℕ) → ReadyTerms c ts → extent_terms c ts
+        ≡ extent (terms_nodes (changed_terms c d ts)) (terms_depth (changed_terms c d ts))
     extent-terms no_terms d h = refl
     extent-terms (term_then t ts) d h = both _ _ _ _ _ _ (extent-term t d h.0) (extent-terms ts d h.1)
 
     extent-instance : (ts : TermTrees) (d : ℕ) → ReadyTerms c ts → HasExtents c ts (changed_terms c d ts)
     extent-instance no_terms d h whole a b pa is =
-        let e1 : a ≡ a + 0 = omega arith in let e2 : b ≡ max b 0 = omega arith in is ∙ ap (λ n. extent n b) e1 ∙ ap (λ n. extent (a + 0) n) e2
+        let e1 : a ≡ a + 0 = omega arith in let e2 : b ≡ max b 0 = omega arith in
+        is ∙ ap (λ n. extent n b) e1 ∙ ap (λ n. extent (a + 0) n) e2
     extent-instance (term_then t ts) d h whole a b pa is =
         let new = changed_term c d t in
         let i = size_of ts in
         let j = size_of (changed_terms c d ts) in
         let e1 : uses_of c i ≡ uses_of c j = ap (uses_of c) (sym (size_of-by (changing c) d ts)) in
         let e2 : reach_of c i ≡ reach_of c j = ap (reach_of c) (sym (size_of-by (changing c) d ts)) in
-        let e3 : put_in whole (places_of c i) (extent_term c t) ≡ extent (a + uses_of c j * (term_nodes new - 1)) (max b (deepened (reach_of c j) (term_depth new))) =
+        let e3 : put_in whole (places_of c i) (extent_term c t)
+        ≡ extent (a + uses_of c j * (term_nodes new - 1)) (max b (deepened (reach_of c j) (term_depth new))) =
         ap (λ z. put_in z (places_of c i) (extent_term c t)) is
         ∙ ap (λ z. put_in (extent a b) z (extent_term c t)) (places-of c i)
         ∙ ap (λ z. put_in (extent a b) (extent (uses_of c i) (reach_of c i)) z) (extent-term t d h.0)
         ∙ ap (λ z. put_in (extent a b) (extent z (reach_of c i)) (extent (term_nodes new) (term_depth new))) e1
         ∙ ap (λ z. put_in (extent a b) (extent (uses_of c j) z) (extent (term_nodes new) (term_depth new))) e2
-        ∙ put_in-extent a b (uses_of c j) (reach_of c j) (term_nodes new) (term_depth new) pa (nodes-positive new) (depth-positive new) in
+        ∙ put_in-extent a b (uses_of c j) (reach_of c j) (term_nodes new) (term_depth new) pa (nodes-positive new)
+        (depth-positive new) in
         let n = weighted_args (uses_of c) (changed_terms c d ts) in
         let m = highest_args (reach_of c) (changed_terms c d ts) in
-        let e4 : a + uses_of c j * (term_nodes new - 1) + n ≡ a + (uses_of c j * (term_nodes new - 1) + n) = omega arith in
-        let e5 : max (max b (deepened (reach_of c j) (term_depth new))) m ≡ max b (max (deepened (reach_of c j) (term_depth new)) m) = omega arith in
-        extent-instance ts d h.1 _ (a + uses_of c j * (term_nodes new - 1)) (max b (deepened (reach_of c j) (term_depth new))) (omega arith) e3
+        let e4 : a + uses_of c j * (term_nodes new - 1) + n ≡ a + (uses_of c j * (term_nodes new - 1) + n) =
+        omega arith in
+        let e5 : max (max b (deepened (reach_of c j) (term_depth new))) m
+        ≡ max b (max (deepened (reach_of c j) (term_depth new)) m) = omega arith in
+        extent-instance ts d h.1 _ (a + uses_of c j * (term_nodes new - 1))
+        (max b (deepened (reach_of c j) (term_depth new))) (omega arith) e3
         ∙ ap (λ z. extent z (max (max b (deepened (reach_of c j) (term_depth new))) m)) e4
         ∙ ap (λ z. extent (a + (uses_of c j * (term_nodes new - 1) + n)) z) e5
 
 -- the test of the counts is that of the result
-pub over-is-too-large : (p : FormTree) (x : Extent) → x ≡ extent (form_nodes p) (form_depth p) → is_over x ≡ is_too_large p
+pub over-is-too-large : (p : FormTree) (x : Extent) → x ≡ extent (form_nodes p) (form_depth p)
+    → is_over x ≡ is_too_large p
 over-is-too-large p x e = ap is_over e ∙ same (form_nodes p) (form_depth p)
   where
     same : (n d : ℕ) → is_over (extent n d) ≡ nat_lt 1000000 n || nat_lt 1000 d
@@ -348,10 +421,12 @@ pub shallow : (n d : ℕ) → nat_lt 1000000 n || nat_lt 1000 d ≡ false → d 
 shallow n d h = grind (arith, nat_tests)
 
 -- counts that did not stop are exact
-pub exact_count : (p : FormTree) (x : Extent) → x ≡ extent (form_nodes p) (form_depth p) → is_too_large p ≡ false → x.count ≡ form_nodes p
+pub exact_count : (p : FormTree) (x : Extent) → x ≡ extent (form_nodes p) (form_depth p) → is_too_large p ≡ false
+    → x.count ≡ form_nodes p
 exact_count p x e small = let h = few (form_nodes p) (form_depth p) small in ap (λ z. z.count) e ∙ omega (arith, h)
 
-pub exact_depth : (p : FormTree) (x : Extent) → x ≡ extent (form_nodes p) (form_depth p) → is_too_large p ≡ false → x.depth ≡ form_depth p
+pub exact_depth : (p : FormTree) (x : Extent) → x ≡ extent (form_nodes p) (form_depth p) → is_too_large p ≡ false
+    → x.depth ≡ form_depth p
 exact_depth p x e small = let h = shallow (form_nodes p) (form_depth p) small in ap (λ z. z.depth) e ∙ omega (arith, h)
 
 -- what is counted so far, and what is left

@@ -21,8 +21,10 @@ pub record Promised : Type 0 where
   pub fragments : Fragments
 
 module _ (known : Promised) where
-  replaced : (sig : Symbols) (sorts : List ℕ) (within : FormTree) (c : Change) → FitsForm sig sorts within → CanChange sig sorts c → IsReplaced within c (changed_form c 0 within)
-  replaced sig sorts within c h can s env = truth-changed known.reads s c env within (fits_ready known.bound known.bound_term sig sorts c can within sorts h)
+  replaced : (sig : Symbols) (sorts : List ℕ) (within : FormTree) (c : Change) → FitsForm sig sorts within
+      → CanChange sig sorts c → IsReplaced within c (changed_form c 0 within)
+  replaced sig sorts within c h can s env =
+      truth-changed known.reads s c env within (fits_ready known.bound known.bound_term sig sorts c can within sorts h)
 
   pub replacement_keeps_meaning : ReplacementKeepsMeaning
   replacement_keeps_meaning sig sorts within c h can = record {

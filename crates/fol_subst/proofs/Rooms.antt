@@ -1,16 +1,22 @@
 -- The room that the building of a result needs, from its limits, and for each argument that it keeps.
-use Rattle.std.proofs.Common.{◌≡◌, ℕ, zero, suc, ◌+◌, ◌-◌, ◌<◌, ◌≤◌, ◌^◌, Bool, true, false, ◌==◌, cond, max, List, [], ◌∷◌, ◌++◌, length, get_or, drop, map, refl, sym, ap, ◌∙◌, subst, ⊎_elim, ◌⊎◌, arith, inl, inr, length-drop}
+use Rattle.std.proofs.Common.{◌≡◌, ℕ, zero, suc, ◌+◌, ◌-◌, ◌<◌, ◌≤◌, ◌^◌, Bool, true, false, ◌==◌, cond, max, List, []}
+use Rattle.std.proofs.Common.{◌∷◌, ◌++◌, length, get_or, drop, map, refl, sym, ap, ◌∙◌, subst, ⊎_elim, ◌⊎◌, arith, inl}
+use Rattle.std.proofs.Common.{inr, length-drop}
 use Rattle.std.specs.Prelude.{reverse}
 use Rattle.std.proofs.lemmas.Bool.{cases_lt, eqb-true, eq-eqb, ne_eqb}
-use Rattle.std.proofs.lemmas.List.{reverse-append, length-reverse, length-map, get_or_append_left, get_or-append-add, get_or-map, get_or_default, get_or_past}
-use Rattle.fol_formula.specs.Syntax.{FormTree, FormTrees, TermTree, TermTrees, top, bottom, rel, equal, negation, conjunction, disjunction, implication, equivalence, for_all, for_some, no_forms, form_then, bound, app, ite, no_terms, term_then, list_of, terms_then, size_of}
+use Rattle.std.proofs.lemmas.List.{reverse-append, length-reverse, length-map, get_or_append_left, get_or-append-add}
+use Rattle.std.proofs.lemmas.List.{get_or-map, get_or_default, get_or_past}
+use Rattle.fol_formula.specs.Syntax.{FormTree, FormTrees, TermTree, TermTrees, top, bottom, rel, equal, negation}
+use Rattle.fol_formula.specs.Syntax.{conjunction, disjunction, implication, equivalence, for_all, for_some, no_forms}
+use Rattle.fol_formula.specs.Syntax.{form_then, bound, app, ite, no_terms, term_then, list_of, terms_then, size_of}
 use Rattle.fol_formula.specs.View.{term, terms}
 use Rattle.fol_formula.specs.declared.Term.{Term}
 use Rattle.fol_formula.specs.Fits.{BoundForm, BoundForms, BoundTerm, BoundTerms}
 use Rattle.fol_formula.specs.Counts.{form_nodes, form_depth, forms_depth, term_depth, terms_depth}
 use Rattle.fol_formula.specs.Lists.{TermLists, RowsAreLists}
 use Rattle.fol_subst.specs.Shift.{raised, shift_form, shift_forms, shift_term, shift_terms}
-use Rattle.fol_subst.specs.Replace.{picked, put_form, put_forms, put_term, put_terms, Change, change_rel, change_fun, rel_instance, app_instance, changing, changed_form, changed_terms, changed_term}
+use Rattle.fol_subst.specs.Replace.{picked, put_form, put_forms, put_term, put_terms, Change, change_rel, change_fun}
+use Rattle.fol_subst.specs.Replace.{rel_instance, app_instance, changing, changed_form, changed_terms, changed_term}
 use Rattle.fol_subst.specs.Limits.{is_too_large, IndicesFit, IndicesFitAll, IndicesFitTerm, IndicesFitTerms}
 use Rattle.fol_subst.specs.Room.{RoomForm, RoomForms, RoomTerm, RoomTerms, ReadyTerm, ReadyTerms, RelTakes, AppTakes}
 use Rattle.fol_subst.specs.Extents.{places_of, put_in, extent_term, extent_instance}
@@ -19,7 +25,8 @@ use Rattle.fol_subst.specs.Kept.{kept, kept_one}
 use Rattle.fol_formula.specs.Closed.{FitsIsBound}
 use Rattle.fol_subst.specs.Outcome.{ShortListsSuffice, ShortListsAllowShifts}
 use Rattle.fol_subst.proofs.Fitting.{changed-fits}
-use Rattle.fol_subst.proofs.Truth.{raised-below, raised-above, argument, picked-below, picked-above, length-list_of, map-reverse, size_of-by}
+use Rattle.fol_subst.proofs.Truth.{raised-below, raised-above, argument, picked-below, picked-above, length-list_of}
+use Rattle.fol_subst.proofs.Truth.{map-reverse, size_of-by}
 use Rattle.fol_subst.proofs.Sizes.{below, reach_form, reach_forms, reach_term, reach_terms, under_suc}
 use Rattle.fol_subst.proofs.Counting.{reach_of, places-of, shallow}
 
@@ -45,7 +52,8 @@ mutual
   room-term : (t : TermTree) (d : ℕ) → IndicesFitTerm t → d + term_depth t < 2 ^ 63 → RoomTerm d t
   room-term (bound i) d h l = h
   room-term (app f args) d h l = room-terms args d h (omega arith)
-  room-term (ite p a b) d h l = (room-form p d h.0 (omega arith), room-term a d h.1 (omega arith), room-term b d h.2 (omega arith))
+  room-term (ite p a b) d h l =
+      (room-form p d h.0 (omega arith), room-term a d h.1 (omega arith), room-term b d h.2 (omega arith))
 
   room-terms : (ts : TermTrees) (d : ℕ) → IndicesFitTerms ts → d + terms_depth ts < 2 ^ 63 → RoomTerms d ts
   room-terms no_terms d h l = tt
@@ -108,7 +116,8 @@ mutual
   unshifted-term : (t : TermTree) (from by d : ℕ) → RoomTerm d (shift_term from by t) → RoomTerm d t
   unshifted-term (bound i) from by d h = let e = raised-above-all from by i in omega (arith, e, h)
   unshifted-term (app f args) from by d h = unshifted-terms args from by d h
-  unshifted-term (ite p a b) from by d h = (unshifted-form p from by d h.0, unshifted-term a from by d h.1, unshifted-term b from by d h.2)
+  unshifted-term (ite p a b) from by d h =
+      (unshifted-form p from by d h.0, unshifted-term a from by d h.1, unshifted-term b from by d h.2)
 
   unshifted-terms : (ts : TermTrees) (from by d : ℕ) → RoomTerms d (shift_terms from by ts) → RoomTerms d ts
   unshifted-terms no_terms from by d h = tt
@@ -154,35 +163,55 @@ module _ (xs : List TermTree) (j d : ℕ) (inside : j < length xs) where
     used-form top e h u = absurd (omega arith)
     used-form bottom e h u = absurd (omega arith)
     used-form (rel r args) e h u = used-terms args e h (some-below _ u)
-    used-form (equal a b) e h u = ⊎_elim (λ (l : 0 < reach_term (j + e) a). used-term a e h.0 l) (λ (l : 0 < reach_term (j + e) b). used-term b e h.1 l) (either_below _ _ u)
+    used-form (equal a b) e h u =
+        ⊎_elim (λ (l : 0 < reach_term (j + e) a). used-term a e h.0 l)
+        (λ (l : 0 < reach_term (j + e) b). used-term b e h.1 l) (either_below _ _ u)
     used-form (negation p) e h u = used-form p e h (some-below _ u)
     used-form (conjunction ps) e h u = used-forms ps e h (some-below _ u)
     used-form (disjunction ps) e h u = used-forms ps e h (some-below _ u)
-    used-form (implication p q) e h u = ⊎_elim (λ (l : 0 < reach_form (j + e) p). used-form p e h.0 l) (λ (l : 0 < reach_form (j + e) q). used-form q e h.1 l) (either_below _ _ u)
-    used-form (equivalence p q) e h u = ⊎_elim (λ (l : 0 < reach_form (j + e) p). used-form p e h.0 l) (λ (l : 0 < reach_form (j + e) q). used-form q e h.1 l) (either_below _ _ u)
-    used-form (for_all k p) e h u = used-form p (suc e) (subst (λ n. RoomForm n (put_form (suc e) xs p)) (under_suc d e) h.1) (subst (λ n. 0 < reach_form n p) (under_suc j e) (some-below _ u))
-    used-form (for_some k p) e h u = used-form p (suc e) (subst (λ n. RoomForm n (put_form (suc e) xs p)) (under_suc d e) h.1) (subst (λ n. 0 < reach_form n p) (under_suc j e) (some-below _ u))
+    used-form (implication p q) e h u =
+        ⊎_elim (λ (l : 0 < reach_form (j + e) p). used-form p e h.0 l)
+        (λ (l : 0 < reach_form (j + e) q). used-form q e h.1 l) (either_below _ _ u)
+    used-form (equivalence p q) e h u =
+        ⊎_elim (λ (l : 0 < reach_form (j + e) p). used-form p e h.0 l)
+        (λ (l : 0 < reach_form (j + e) q). used-form q e h.1 l) (either_below _ _ u)
+    used-form (for_all k p) e h u =
+        used-form p (suc e) (subst (λ n. RoomForm n (put_form (suc e) xs p)) (under_suc d e) h.1)
+        (subst (λ n. 0 < reach_form n p) (under_suc j e) (some-below _ u))
+    used-form (for_some k p) e h u =
+        used-form p (suc e) (subst (λ n. RoomForm n (put_form (suc e) xs p)) (under_suc d e) h.1)
+        (subst (λ n. 0 < reach_form n p) (under_suc j e) (some-below _ u))
 
-    used-forms : (ps : FormTrees) (e : ℕ) → RoomForms (d + e) (put_forms e xs ps) → 0 < reach_forms (j + e) ps → Argument
+    used-forms : (ps : FormTrees) (e : ℕ) → RoomForms (d + e) (put_forms e xs ps) → 0 < reach_forms (j + e) ps
+        → Argument
     used-forms no_forms e h u = absurd (omega arith)
-    used-forms (form_then p ps) e h u = ⊎_elim (λ (l : 0 < reach_form (j + e) p). used-form p e h.0 l) (λ (l : 0 < reach_forms (j + e) ps). used-forms ps e h.1 l) (either_some _ _ u)
+    used-forms (form_then p ps) e h u =
+        ⊎_elim (λ (l : 0 < reach_form (j + e) p). used-form p e h.0 l)
+        (λ (l : 0 < reach_forms (j + e) ps). used-forms ps e h.1 l) (either_some _ _ u)
 
     used-term : (t : TermTree) (e : ℕ) → RoomTerm (d + e) (put_term e xs t) → 0 < reach_term (j + e) t → Argument
     used-term (bound i) e h u =
         let is = index-reach i (j + e) u in
         let at : i - e ≡ j = omega (arith, is) in
         subst (RoomTerm d) (ap (argument xs) at ∙ argument-inside xs j inside)
-        (unshifted-term (argument xs (i - e)) 0 e d (less-term _ d (d + e) (subst (RoomTerm (d + e)) (picked-above e xs i (omega (arith, is))) h) (omega arith)))
+        (unshifted-term (argument xs (i - e)) 0 e d
+        (less-term _ d (d + e) (subst (RoomTerm (d + e)) (picked-above e xs i (omega (arith, is))) h)
+        (omega arith)))
     used-term (app f args) e h u = used-terms args e h (some-below _ u)
     used-term (ite p a b) e h u =
         ⊎_elim
         (λ (l : 0 < reach_form (j + e) p). used-form p e h.0 l)
-        (λ (l : 0 < max (reach_term (j + e) a) (reach_term (j + e) b)). ⊎_elim (λ (m : 0 < reach_term (j + e) a). used-term a e h.1 m) (λ (m : 0 < reach_term (j + e) b). used-term b e h.2 m) (either_some _ _ l))
+        (λ (l : 0 < max (reach_term (j + e) a) (reach_term (j + e) b)). ⊎_elim
+        (λ (m : 0 < reach_term (j + e) a). used-term a e h.1 m)
+        (λ (m : 0 < reach_term (j + e) b). used-term b e h.2 m) (either_some _ _ l))
         (either_below _ _ u)
 
-    used-terms : (ts : TermTrees) (e : ℕ) → RoomTerms (d + e) (put_terms e xs ts) → 0 < reach_terms (j + e) ts → Argument
+    used-terms : (ts : TermTrees) (e : ℕ) → RoomTerms (d + e) (put_terms e xs ts) → 0 < reach_terms (j + e) ts
+        → Argument
     used-terms no_terms e h u = absurd (omega arith)
-    used-terms (term_then t ts) e h u = ⊎_elim (λ (l : 0 < reach_term (j + e) t). used-term t e h.0 l) (λ (l : 0 < reach_terms (j + e) ts). used-terms ts e h.1 l) (either_some _ _ u)
+    used-terms (term_then t ts) e h u =
+        ⊎_elim (λ (l : 0 < reach_term (j + e) t). used-term t e h.0 l)
+        (λ (l : 0 < reach_terms (j + e) ts). used-terms ts e h.1 l) (either_some _ _ u)
 
 -- arguments that agree wherever they are used make one result
 module _ (xs ys : List TermTree) where
@@ -190,7 +219,8 @@ module _ (xs ys : List TermTree) where
   AgreeAt f = (j : ℕ) → j < length xs → 0 < f j → argument xs j ≡ argument ys j
 
   mutual
-    same-form : (p : FormTree) (e n : ℕ) → n ≡ e + length xs → BoundForm n p → AgreeAt (λ j. reach_form (j + e) p) → put_form e xs p ≡ put_form e ys p
+    same-form : (p : FormTree) (e n : ℕ) → n ≡ e + length xs → BoundForm n p → AgreeAt (λ j. reach_form (j + e) p)
+        → put_form e xs p ≡ put_form e ys p
     same-form top e n is h s = refl
     same-form bottom e n is h s = refl
     same-form (rel r ts) e n is h s = ap (rel r) (same-terms ts e n is h (λ j lt u. s j lt (below-some _ u)))
@@ -209,23 +239,32 @@ module _ (xs ys : List TermTree) where
         let e1 = same-form p e n is h.0 (λ j lt u. s j lt (below-left _ _ u)) in
         let e2 = same-form q e n is h.1 (λ j lt u. s j lt (below-right _ _ u)) in
         cc (e1, e2)
-    same-form (for_all k p) e n is h s = ap (for_all k) (same-form p (suc e) (suc n) (omega arith) h (λ j lt u. s j lt (below-some _ (subst (λ m. 0 < reach_form m p) (sym (under_suc j e)) u))))
-    same-form (for_some k p) e n is h s = ap (for_some k) (same-form p (suc e) (suc n) (omega arith) h (λ j lt u. s j lt (below-some _ (subst (λ m. 0 < reach_form m p) (sym (under_suc j e)) u))))
+    same-form (for_all k p) e n is h s =
+        ap (for_all k)
+        (same-form p (suc e) (suc n) (omega arith) h
+        (λ j lt u. s j lt (below-some _ (subst (λ m. 0 < reach_form m p) (sym (under_suc j e)) u))))
+    same-form (for_some k p) e n is h s =
+        ap (for_some k)
+        (same-form p (suc e) (suc n) (omega arith) h
+        (λ j lt u. s j lt (below-some _ (subst (λ m. 0 < reach_form m p) (sym (under_suc j e)) u))))
 
-    same-forms : (ps : FormTrees) (e n : ℕ) → n ≡ e + length xs → BoundForms n ps → AgreeAt (λ j. reach_forms (j + e) ps) → put_forms e xs ps ≡ put_forms e ys ps
+    same-forms : (ps : FormTrees) (e n : ℕ) → n ≡ e + length xs → BoundForms n ps
+        → AgreeAt (λ j. reach_forms (j + e) ps) → put_forms e xs ps ≡ put_forms e ys ps
     same-forms no_forms e n is h s = refl
     same-forms (form_then p ps) e n is h s =
         let e1 = same-form p e n is h.0 (λ j lt u. s j lt (omega (arith, u))) in
         let e2 = same-forms ps e n is h.1 (λ j lt u. s j lt (omega (arith, u))) in
         cc (e1, e2)
 
-    same-term : (t : TermTree) (e n : ℕ) → n ≡ e + length xs → BoundTerm n t → AgreeAt (λ j. reach_term (j + e) t) → put_term e xs t ≡ put_term e ys t
+    same-term : (t : TermTree) (e n : ℕ) → n ≡ e + length xs → BoundTerm n t → AgreeAt (λ j. reach_term (j + e) t)
+        → put_term e xs t ≡ put_term e ys t
     same-term (bound i) e n is h s =
         ⊎_elim
         (λ (l : i < e). picked-below e xs i l ∙ sym (picked-below e ys i l))
         (λ (l : e ≤ i).
         let used : 0 < reach_term (i - e + e) (bound i) = rw (eq-eqb i (i - e + e) (omega arith)) (omega arith) in
-        picked-above e xs i l ∙ ap (shift_term 0 e) (s (i - e) (omega (arith, h, is)) used) ∙ sym (picked-above e ys i l))
+        picked-above e xs i l ∙ ap (shift_term 0 e) (s (i - e) (omega (arith, h, is)) used)
+        ∙ sym (picked-above e ys i l))
         (cases_lt i e)
     same-term (app f ts) e n is h s = ap (app f) (same-terms ts e n is h (λ j lt u. s j lt (below-some _ u)))
     same-term (ite p a b) e n is h s =
@@ -234,7 +273,8 @@ module _ (xs ys : List TermTree) where
         let e3 = same-term b e n is h.2 (λ j lt u. s j lt (below-right _ _ (omega (arith, u)))) in
         cc (e1, e2, e3)
 
-    same-terms : (ts : TermTrees) (e n : ℕ) → n ≡ e + length xs → BoundTerms n ts → AgreeAt (λ j. reach_terms (j + e) ts) → put_terms e xs ts ≡ put_terms e ys ts
+    same-terms : (ts : TermTrees) (e n : ℕ) → n ≡ e + length xs → BoundTerms n ts
+        → AgreeAt (λ j. reach_terms (j + e) ts) → put_terms e xs ts ≡ put_terms e ys ts
     same-terms no_terms e n is h s = refl
     same-terms (term_then t ts) e n is h s =
         let e1 = same-term t e n is h.0 (λ j lt u. s j lt (omega (arith, u))) in
@@ -242,7 +282,8 @@ module _ (xs ys : List TermTree) where
         cc (e1, e2)
 
 -- the arguments in reverse order
-reversed_args : RowsAreLists → (ts : List Term) (a : TermTrees) → terms ts ≡ a → map term (reverse ts) ≡ reverse (list_of a)
+reversed_args : RowsAreLists → (ts : List Term) (a : TermTrees) → terms ts ≡ a
+    → map term (reverse ts) ≡ reverse (list_of a)
 reversed_args rows ts a e = map-reverse term ts ∙ ap reverse (sym (rows.term_list ts) ∙ ap list_of e)
 
 size_of-kept : (c : Change) (ts : TermTrees) → size_of (kept c ts) ≡ size_of ts
@@ -253,7 +294,8 @@ length-reversed : (ts : TermTrees) → length (reverse (list_of ts)) ≡ size_of
 length-reversed ts = length-reverse (list_of ts) ∙ length-list_of ts
 
 -- the arguments in reverse order, by their parameters
-front-argument : (t : TermTree) (ts : TermTrees) (j : ℕ) → j < size_of ts → get_or (reverse (list_of (term_then t ts))) j (bound 0) ≡ get_or (reverse (list_of ts)) j (bound 0)
+front-argument : (t : TermTree) (ts : TermTrees) (j : ℕ) → j < size_of ts
+    → get_or (reverse (list_of (term_then t ts))) j (bound 0) ≡ get_or (reverse (list_of ts)) j (bound 0)
 front-argument t ts j lt =
     ap (λ z. get_or z j (bound 0)) (reverse-append (t ∷ []) (list_of ts))
     ∙ get_or_append_left (reverse (list_of ts)) (t ∷ []) (bound 0) j (let e = length-reversed ts in omega (arith, e))
@@ -270,13 +312,15 @@ kept-some c i t u =
     let e = ap (λ z. z.depth) (places-of c i) in
     rw (ne_eqb (places_of c i).depth 0 (λ z. absurd (omega (arith, e)))) refl
 
-kept-argument : (c : Change) (ts : TermTrees) (j : ℕ) → j < size_of ts → 0 < reach_of c j → get_or (reverse (list_of (kept c ts))) j (bound 0) ≡ get_or (reverse (list_of ts)) j (bound 0)
+kept-argument : (c : Change) (ts : TermTrees) (j : ℕ) → j < size_of ts → 0 < reach_of c j
+    → get_or (reverse (list_of (kept c ts))) j (bound 0) ≡ get_or (reverse (list_of ts)) j (bound 0)
 kept-argument c no_terms j lt u = absurd (omega arith)
 kept-argument c (term_then t ts) j lt u =
     let new = cond ((places_of c (size_of ts)).depth == 0) (bound 0) t in
     ⊎_elim
     (λ (l : j < size_of ts).
-    front-argument new (kept c ts) j (let e = size_of-kept c ts in omega (arith, e)) ∙ kept-argument c ts j l u ∙ sym (front-argument t ts j l))
+    front-argument new (kept c ts) j (let e = size_of-kept c ts in omega (arith, e)) ∙ kept-argument c ts j l u
+    ∙ sym (front-argument t ts j l))
     (λ (l : size_of ts ≤ j).
     let at : j ≡ size_of ts = omega arith in
     let here : j ≡ size_of (kept c ts) = at ∙ sym (size_of-kept c ts) in
@@ -287,21 +331,29 @@ kept-argument c (term_then t ts) j lt u =
     ∙ ap (λ n. get_or (reverse (list_of (term_then t ts))) n (bound 0)) (sym at))
     (cases_lt j (size_of ts))
 
-kept-same : (c : Change) (ts : TermTrees) (j : ℕ) → j < length (reverse (list_of (kept c ts))) → 0 < reach_of c j → argument (reverse (list_of (kept c ts))) j ≡ argument (reverse (list_of ts)) j
+kept-same : (c : Change) (ts : TermTrees) (j : ℕ) → j < length (reverse (list_of (kept c ts))) → 0 < reach_of c j
+    → argument (reverse (list_of (kept c ts))) j ≡ argument (reverse (list_of ts)) j
 kept-same c ts j lt u =
     let n = length-reversed (kept c ts) in
     let m = size_of-kept c ts in
     let l = length-reversed ts in
-    argument-inside (reverse (list_of (kept c ts))) j lt ∙ kept-argument c ts j (omega (arith, lt, n, m)) u ∙ sym (argument-inside (reverse (list_of ts)) j (omega (arith, lt, n, m, l)))
+    argument-inside (reverse (list_of (kept c ts))) j lt ∙ kept-argument c ts j (omega (arith, lt, n, m)) u
+    ∙ sym (argument-inside (reverse (list_of ts)) j (omega (arith, lt, n, m, l)))
 
-kept-room : (c : Change) (d : ℕ) (ts : TermTrees) → ((j : ℕ) → j < size_of ts → 0 < reach_of c j → RoomTerm d (get_or (reverse (list_of ts)) j (bound 0))) → RoomTerms d (kept c ts)
+kept-room : (c : Change) (d : ℕ) (ts : TermTrees)
+    → ((j : ℕ) → j < size_of ts → 0 < reach_of c j → RoomTerm d (get_or (reverse (list_of ts)) j (bound 0)))
+    → RoomTerms d (kept c ts)
 kept-room c d no_terms h = tt
-kept-room c d (term_then t ts) h =
-    (which ((places_of c (size_of ts)).depth == 0) refl, kept-room c d ts (λ j lt u. subst (RoomTerm d) (front-argument t ts j lt) (h j (omega (arith, lt)) u)))
+kept-room c d (term_then t ts) h = (
+  which ((places_of c (size_of ts)).depth == 0) refl,
+  kept-room c d ts (λ j lt u. subst (RoomTerm d) (front-argument t ts j lt) (h j (omega (arith, lt)) u)),
+)
   where
     used : (places_of c (size_of ts)).depth == 0 ≡ false → 0 < reach_of c (size_of ts)
     used e = let is = ap (λ z. z.depth) (places-of c (size_of ts)) in
-        ⊎_elim (λ (l : 0 < reach_of c (size_of ts)). l) (λ (l : reach_of c (size_of ts) ≤ 0). absurd (different (sym e ∙ eq-eqb _ 0 (omega (arith, is))))) (cases_lt 0 (reach_of c (size_of ts)))
+        ⊎_elim (λ (l : 0 < reach_of c (size_of ts)). l)
+        (λ (l : reach_of c (size_of ts) ≤ 0). absurd (different (sym e ∙ eq-eqb _ 0 (omega (arith, is)))))
+        (cases_lt 0 (reach_of c (size_of ts)))
       where
         different : false ≡ true → ⊥
         different z = cc
@@ -319,94 +371,152 @@ pub record BuiltTerm (by : TermTree) (ts : List Term) (made : TermTree) : Type 0
   pub room : RoomTerm 0 (put_term 0 (map term ts) by)
   pub same : put_term 0 (map term ts) by ≡ made
 
-pub built-form : RowsAreLists → (r : ℕ) (by : FormTree) (depth : ℕ) (new : TermTrees) (all ts : List Term) → BoundForm (size_of new) by → RoomForm depth (put_form 0 (reverse (list_of new)) by) → ts ≡ reverse all → terms all ≡ kept (change_rel r by) new → BuiltForm by ts (put_form 0 (reverse (list_of new)) by)
+pub built-form : RowsAreLists → (r : ℕ) (by : FormTree) (depth : ℕ) (new : TermTrees) (all ts : List Term)
+    → BoundForm (size_of new) by → RoomForm depth (put_form 0 (reverse (list_of new)) by) → ts ≡ reverse all
+    → terms all ≡ kept (change_rel r by) new → BuiltForm by ts (put_form 0 (reverse (list_of new)) by)
 built-form rows r by depth new all ts ready room is made =
     let c = change_rel r by in
-    let args : map term ts ≡ reverse (list_of (kept c new)) = ap (map term) is ∙ reversed_args rows all (kept c new) made in
+    let args : map term ts ≡ reverse (list_of (kept c new)) =
+    ap (map term) is ∙ reversed_args rows all (kept c new) made in
     let same : put_form 0 (reverse (list_of (kept c new))) by ≡ put_form 0 (reverse (list_of new)) by =
-    same-form (reverse (list_of (kept c new))) (reverse (list_of new)) by 0 (size_of new) (let e1 = length-reversed (kept c new) in let e2 = size_of-kept c new in omega (arith, e1, e2)) ready
+    same-form (reverse (list_of (kept c new))) (reverse (list_of new)) by 0 (size_of new)
+    (let e1 = length-reversed (kept c new) in let e2 = size_of-kept c new in omega (arith, e1, e2)) ready
     (λ j lt u. kept-same c new j lt (subst (λ m. 0 < reach_form m by) (let e : j + 0 ≡ j = omega arith in e) u)) in
-    let whole : put_form 0 (map term ts) by ≡ put_form 0 (reverse (list_of new)) by = ap (λ z. put_form 0 z by) args ∙ same in
+    let whole : put_form 0 (map term ts) by ≡ put_form 0 (reverse (list_of new)) by =
+    ap (λ z. put_form 0 z by) args ∙ same in
     record {
-      room = subst (RoomForm 0) (sym whole) (less-form (put_form 0 (reverse (list_of new)) by) 0 depth room (omega arith));
+      room = subst (RoomForm 0) (sym whole)
+          (less-form (put_form 0 (reverse (list_of new)) by) 0 depth room (omega arith));
       same = whole;
     }
 
-pub built-term : RowsAreLists → (g : ℕ) (by : TermTree) (depth : ℕ) (new : TermTrees) (all ts : List Term) → BoundTerm (size_of new) by → RoomTerm depth (put_term 0 (reverse (list_of new)) by) → ts ≡ reverse all → terms all ≡ kept (change_fun g by) new → BuiltTerm by ts (put_term 0 (reverse (list_of new)) by)
+pub built-term : RowsAreLists → (g : ℕ) (by : TermTree) (depth : ℕ) (new : TermTrees) (all ts : List Term)
+    → BoundTerm (size_of new) by → RoomTerm depth (put_term 0 (reverse (list_of new)) by) → ts ≡ reverse all
+    → terms all ≡ kept (change_fun g by) new → BuiltTerm by ts (put_term 0 (reverse (list_of new)) by)
 built-term rows g by depth new all ts ready room is made =
     let c = change_fun g by in
-    let args : map term ts ≡ reverse (list_of (kept c new)) = ap (map term) is ∙ reversed_args rows all (kept c new) made in
+    let args : map term ts ≡ reverse (list_of (kept c new)) =
+    ap (map term) is ∙ reversed_args rows all (kept c new) made in
     let same : put_term 0 (reverse (list_of (kept c new))) by ≡ put_term 0 (reverse (list_of new)) by =
-    same-term (reverse (list_of (kept c new))) (reverse (list_of new)) by 0 (size_of new) (let e1 = length-reversed (kept c new) in let e2 = size_of-kept c new in omega (arith, e1, e2)) ready
+    same-term (reverse (list_of (kept c new))) (reverse (list_of new)) by 0 (size_of new)
+    (let e1 = length-reversed (kept c new) in let e2 = size_of-kept c new in omega (arith, e1, e2)) ready
     (λ j lt u. kept-same c new j lt (subst (λ m. 0 < reach_term m by) (let e : j + 0 ≡ j = omega arith in e) u)) in
-    let whole : put_term 0 (map term ts) by ≡ put_term 0 (reverse (list_of new)) by = ap (λ z. put_term 0 z by) args ∙ same in
+    let whole : put_term 0 (map term ts) by ≡ put_term 0 (reverse (list_of new)) by =
+    ap (λ z. put_term 0 z by) args ∙ same in
     record {
-      room = subst (RoomTerm 0) (sym whole) (less-term (put_term 0 (reverse (list_of new)) by) 0 depth room (omega arith));
+      room = subst (RoomTerm 0) (sym whole)
+          (less-term (put_term 0 (reverse (list_of new)) by) 0 depth room (omega arith));
       same = whole;
     }
 
 -- the arguments that are kept have room
-pub kept_room-form : (r : ℕ) (by : FormTree) (depth : ℕ) (new : TermTrees) → RoomForm depth (put_form 0 (reverse (list_of new)) by) → RoomTerms depth (kept (change_rel r by) new)
+pub kept_room-form : (r : ℕ) (by : FormTree) (depth : ℕ) (new : TermTrees)
+    → RoomForm depth (put_form 0 (reverse (list_of new)) by) → RoomTerms depth (kept (change_rel r by) new)
 kept_room-form r by depth new room =
     kept-room (change_rel r by) depth new (λ j lt u.
-    used-form (reverse (list_of new)) j depth (let e = length-reversed new in omega (arith, lt, e)) by 0 (subst (λ n. RoomForm n (put_form 0 (reverse (list_of new)) by)) (let e : depth ≡ depth + 0 = omega arith in e) room) (subst (λ m. 0 < reach_form m by) (let e : j ≡ j + 0 = omega arith in e) u))
+    used-form (reverse (list_of new)) j depth (let e = length-reversed new in omega (arith, lt, e)) by 0
+    (subst (λ n. RoomForm n (put_form 0 (reverse (list_of new)) by)) (let e : depth ≡ depth + 0 = omega arith in e)
+    room) (subst (λ m. 0 < reach_form m by) (let e : j ≡ j + 0 = omega arith in e) u))
 
-pub kept_room-term : (g : ℕ) (by : TermTree) (depth : ℕ) (new : TermTrees) → RoomTerm depth (put_term 0 (reverse (list_of new)) by) → RoomTerms depth (kept (change_fun g by) new)
+pub kept_room-term : (g : ℕ) (by : TermTree) (depth : ℕ) (new : TermTrees)
+    → RoomTerm depth (put_term 0 (reverse (list_of new)) by) → RoomTerms depth (kept (change_fun g by) new)
 kept_room-term g by depth new room =
     kept-room (change_fun g by) depth new (λ j lt u.
-    used-term (reverse (list_of new)) j depth (let e = length-reversed new in omega (arith, lt, e)) by 0 (subst (λ n. RoomTerm n (put_term 0 (reverse (list_of new)) by)) (let e : depth ≡ depth + 0 = omega arith in e) room) (subst (λ m. 0 < reach_term m by) (let e : j ≡ j + 0 = omega arith in e) u))
+    used-term (reverse (list_of new)) j depth (let e = length-reversed new in omega (arith, lt, e)) by 0
+    (subst (λ n. RoomTerm n (put_term 0 (reverse (list_of new)) by)) (let e : depth ≡ depth + 0 = omega arith in e)
+    room) (subst (λ m. 0 < reach_term m by) (let e : j ≡ j + 0 = omega arith in e) u))
 
 -- an index at its depth, as the code finds what it becomes
 module _ (depth i : ℕ) (args : List Term) (above : depth ≤ i) where
-  argument-at : (x : Term) → i - depth < length args → x ≡ get_or args (i - depth) x → argument (map term args) (i - depth) ≡ term x
+  argument-at : (x : Term) → i - depth < length args → x ≡ get_or args (i - depth) x
+      → argument (map term args) (i - depth) ≡ term x
   argument-at x inside is = get_or-map term args (i - depth) x _ inside ∙ ap term (sym is)
 
-  pub picked-inside : (x : Term) → i - depth < length args → x ≡ get_or args (i - depth) x → picked depth (map term args) i ≡ shift_term 0 depth (term x)
-  picked-inside x inside is = picked-above depth (map term args) i above ∙ ap (shift_term 0 depth) (argument-at x inside is)
+  pub picked-inside : (x : Term) → i - depth < length args → x ≡ get_or args (i - depth) x
+      → picked depth (map term args) i ≡ shift_term 0 depth (term x)
+  picked-inside x inside is =
+      picked-above depth (map term args) i above ∙ ap (shift_term 0 depth) (argument-at x inside is)
 
-  pub picked-room : (x : Term) → i - depth < length args → x ≡ get_or args (i - depth) x → RoomTerm depth (picked depth (map term args) i) → RoomTerm 0 (shift_term 0 depth (term x))
-  picked-room x inside is room = less-term (shift_term 0 depth (term x)) 0 depth (subst (RoomTerm depth) (picked-inside x inside is) room) (omega arith)
+  pub picked-room : (x : Term) → i - depth < length args → x ≡ get_or args (i - depth) x
+      → RoomTerm depth (picked depth (map term args) i) → RoomTerm 0 (shift_term 0 depth (term x))
+  picked-room x inside is room =
+      less-term (shift_term 0 depth (term x)) 0 depth (subst (RoomTerm depth) (picked-inside x inside is) room)
+      (omega arith)
 
   pub picked-beyond : length args ≤ i - depth → picked depth (map term args) i ≡ bound (i - length args)
   picked-beyond beyond =
       let n = length-map args term in
-      let past = get_or_past (map term args) (i - depth) (bound (i - depth - length (map term args))) (omega (arith, n, beyond)) in
-      let e : raised 0 depth (i - depth - length (map term args)) ≡ i - length args = raised-above 0 depth (i - depth - length (map term args)) (omega arith) ∙ omega (arith, n, above, beyond) in
+      let past = get_or_past (map term args) (i - depth) (bound (i - depth - length (map term args)))
+      (omega (arith, n, beyond)) in
+      let e : raised 0 depth (i - depth - length (map term args)) ≡ i - length args =
+      raised-above 0 depth (i - depth - length (map term args)) (omega arith) ∙ omega (arith, n, above, beyond) in
       picked-above depth (map term args) i above ∙ ap (shift_term 0 depth) past ∙ ap bound e
 
 -- for the change as the code has it
-pub kept_room-atom : (c : Change) (r q depth : ℕ) (by : FormTree) (new : TermTrees) → c ≡ change_rel r by → q ≡ r → RoomForm depth (rel_instance c q new) → RoomTerms depth (kept c new)
+pub kept_room-atom : (c : Change) (r q depth : ℕ) (by : FormTree) (new : TermTrees) → c ≡ change_rel r by → q ≡ r
+    → RoomForm depth (rel_instance c q new) → RoomTerms depth (kept c new)
 kept_room-atom c r q depth by new is at room =
-    subst (λ z. RoomTerms depth (kept z new)) (sym is) (kept_room-form r by depth new (subst (RoomForm depth) (ap (λ z. rel_instance z q new) is ∙ ap (λ b. cond b (put_form 0 (reverse (list_of new)) by) (rel q new)) (eq-eqb q r at)) room))
+    subst (λ z. RoomTerms depth (kept z new)) (sym is)
+    (kept_room-form r by depth new
+    (subst (RoomForm depth) (ap (λ z. rel_instance z q new) is
+    ∙ ap (λ b. cond b (put_form 0 (reverse (list_of new)) by) (rel q new)) (eq-eqb q r at)) room))
 
-pub kept_room-application : (c : Change) (g f depth : ℕ) (by : TermTree) (new : TermTrees) → c ≡ change_fun g by → f ≡ g → RoomTerm depth (app_instance c depth f new) → RoomTerms depth (kept c new)
+pub kept_room-application : (c : Change) (g f depth : ℕ) (by : TermTree) (new : TermTrees) → c ≡ change_fun g by → f ≡ g
+    → RoomTerm depth (app_instance c depth f new) → RoomTerms depth (kept c new)
 kept_room-application c g f depth by new is at room =
-    subst (λ z. RoomTerms depth (kept z new)) (sym is) (kept_room-term g by depth new (subst (RoomTerm depth) (ap (λ z. app_instance z depth f new) is ∙ ap (λ b. cond b (put_term 0 (reverse (list_of new)) by) (app f new)) (eq-eqb f g at)) room))
+    subst (λ z. RoomTerms depth (kept z new)) (sym is)
+    (kept_room-term g by depth new
+    (subst (RoomTerm depth) (ap (λ z. app_instance z depth f new) is
+    ∙ ap (λ b. cond b (put_term 0 (reverse (list_of new)) by) (app f new)) (eq-eqb f g at)) room))
 
-pub built-atom : RowsAreLists → (c : Change) (r q depth : ℕ) (by : FormTree) (args : TermTrees) (all ts : List Term) → c ≡ change_rel r by → q ≡ r → RelTakes c q (size_of args) → RoomForm depth (rel_instance c q (changed_terms c depth args)) → ts ≡ reverse all → terms all ≡ kept c (changed_terms c depth args) → BuiltForm by ts (rel_instance c q (changed_terms c depth args))
+pub built-atom : RowsAreLists → (c : Change) (r q depth : ℕ) (by : FormTree) (args : TermTrees) (all ts : List Term)
+    → c ≡ change_rel r by → q ≡ r → RelTakes c q (size_of args)
+    → RoomForm depth (rel_instance c q (changed_terms c depth args)) → ts ≡ reverse all
+    → terms all ≡ kept c (changed_terms c depth args) → BuiltForm by ts (rel_instance c q (changed_terms c depth args))
 built-atom rows c r q depth by args all ts is at ready room rev made =
     let new = changed_terms c depth args in
-    let here : rel_instance c q new ≡ put_form 0 (reverse (list_of new)) by = ap (λ z. rel_instance z q new) is ∙ ap (λ b. cond b (put_form 0 (reverse (list_of new)) by) (rel q new)) (eq-eqb q r at) in
+    let here : rel_instance c q new ≡ put_form 0 (reverse (list_of new)) by =
+    ap (λ z. rel_instance z q new) is ∙ ap (λ b. cond b (put_form 0 (reverse (list_of new)) by) (rel q new))
+    (eq-eqb q r at) in
     subst (BuiltForm by ts) (sym here)
-    (built-form rows r by depth new all ts (subst (λ n. BoundForm n by) (sym (size_of-by (changing c) depth args)) (subst (λ z. RelTakes z q (size_of args)) is ready at)) (subst (RoomForm depth) here room) rev (made ∙ ap (λ z. kept z new) is))
+    (built-form rows r by depth new all ts
+    (subst (λ n. BoundForm n by) (sym (size_of-by (changing c) depth args))
+    (subst (λ z. RelTakes z q (size_of args)) is ready at)) (subst (RoomForm depth) here room) rev
+    (made ∙ ap (λ z. kept z new) is))
 
-pub built-application : RowsAreLists → (c : Change) (g f depth : ℕ) (by : TermTree) (args : TermTrees) (all ts : List Term) → c ≡ change_fun g by → f ≡ g → AppTakes c f (size_of args) → RoomTerm depth (app_instance c depth f (changed_terms c depth args)) → ts ≡ reverse all → terms all ≡ kept c (changed_terms c depth args) → BuiltTerm by ts (app_instance c depth f (changed_terms c depth args))
+pub built-application : RowsAreLists → (c : Change) (g f depth : ℕ) (by : TermTree) (args : TermTrees)
+    (all ts : List Term) → c ≡ change_fun g by → f ≡ g → AppTakes c f (size_of args)
+    → RoomTerm depth (app_instance c depth f (changed_terms c depth args)) → ts ≡ reverse all
+    → terms all ≡ kept c (changed_terms c depth args)
+    → BuiltTerm by ts (app_instance c depth f (changed_terms c depth args))
 built-application rows c g f depth by args all ts is at ready room rev made =
     let new = changed_terms c depth args in
-    let here : app_instance c depth f new ≡ put_term 0 (reverse (list_of new)) by = ap (λ z. app_instance z depth f new) is ∙ ap (λ b. cond b (put_term 0 (reverse (list_of new)) by) (app f new)) (eq-eqb f g at) in
+    let here : app_instance c depth f new ≡ put_term 0 (reverse (list_of new)) by =
+    ap (λ z. app_instance z depth f new) is
+    ∙ ap (λ b. cond b (put_term 0 (reverse (list_of new)) by) (app f new)) (eq-eqb f g at) in
     subst (BuiltTerm by ts) (sym here)
-    (built-term rows g by depth new all ts (subst (λ n. BoundTerm n by) (sym (size_of-by (changing c) depth args)) (subst (λ z. AppTakes z f (size_of args)) is ready at)) (subst (RoomTerm depth) here room) rev (made ∙ ap (λ z. kept z new) is))
+    (built-term rows g by depth new all ts
+    (subst (λ n. BoundTerm n by) (sym (size_of-by (changing c) depth args))
+    (subst (λ z. AppTakes z f (size_of args)) is ready at)) (subst (RoomTerm depth) here room) rev
+    (made ∙ ap (λ z. kept z new) is))
 
 -- one turn of the loop over the arguments
-pub args-drop : RowsAreLists → (ts : List Term) (index i : ℕ) (t : Term) → length ts ≤ 8 → index + i ≡ length ts → i < length ts → size_of (terms (drop (i + 1) ts)) ≡ index - 1
+pub args-drop : RowsAreLists → (ts : List Term) (index i : ℕ) (t : Term) → length ts ≤ 8 → index + i ≡ length ts
+    → i < length ts → size_of (terms (drop (i + 1) ts)) ≡ index - 1
 args-drop rows ts index i t few left lt = rows.term_count (drop (i + 1) ts) ∙ omega (arith, length-drop (i + 1) ts)
 
-pub kept-more : TermLists → (c : Change) (depth : ℕ) (ts all all' : List Term) (i j : ℕ) (t x : Term) (whole : TermTrees) → i < length ts → t ≡ get_or ts i t → size_of (terms (drop (i + 1) ts)) ≡ j → all' ≡ all ++ x ∷ [] → term x ≡ kept_one c j (changed_term c depth (term t)) → terms_then (map term all) (kept c (changed_terms c depth (terms (drop i ts)))) ≡ whole → terms_then (map term all') (kept c (changed_terms c depth (terms (drop (i + 1) ts)))) ≡ whole
+pub kept-more : TermLists → (c : Change) (depth : ℕ) (ts all all' : List Term) (i j : ℕ) (t x : Term)
+    (whole : TermTrees) → i < length ts → t ≡ get_or ts i t → size_of (terms (drop (i + 1) ts)) ≡ j
+    → all' ≡ all ++ x ∷ [] → term x ≡ kept_one c j (changed_term c depth (term t))
+    → terms_then (map term all) (kept c (changed_terms c depth (terms (drop i ts)))) ≡ whole
+    → terms_then (map term all') (kept c (changed_terms c depth (terms (drop (i + 1) ts)))) ≡ whole
 kept-more lists c depth ts all all' i j t x whole lt is size pushed made before =
     let rest = changed_terms c depth (terms (drop (i + 1) ts)) in
     ap (λ z. terms_then (map term z) (kept c rest)) pushed
     ∙ lists.pushed all x (kept c rest)
-    ∙ ap (λ z. terms_then (map term all) (term_then z (kept c rest))) (made ∙ ap (λ n. kept_one c n (changed_term c depth (term t))) (sym size ∙ sym (size_of-by (changing c) depth (terms (drop (i + 1) ts)))))
+    ∙ ap (λ z. terms_then (map term all) (term_then z (kept c rest)))
+    (made ∙ ap (λ n. kept_one c n (changed_term c depth (term t)))
+    (sym size ∙ sym (size_of-by (changing c) depth (terms (drop (i + 1) ts)))))
     ∙ ap (λ z. terms_then (map term all) (kept c (changed_terms c depth z))) (sym (lists.left ts i t lt is))
     ∙ before
 
@@ -415,23 +525,32 @@ pub record TurnRoom (c : Change) (depth : ℕ) (t : TermTree) (ts : TermTrees) (
   pub here : RoomTerm depth (kept_one c j (changed_term c depth t))
   pub rest : RoomTerms depth (kept c (changed_terms c depth ts))
 
-pub turn-room : TermLists → (c : Change) (depth : ℕ) (ts : List Term) (i j : ℕ) (t : Term) → i < length ts → t ≡ get_or ts i t → size_of (terms (drop (i + 1) ts)) ≡ j → RoomTerms depth (kept c (changed_terms c depth (terms (drop i ts)))) → TurnRoom c depth (term t) (terms (drop (i + 1) ts)) j
+pub turn-room : TermLists → (c : Change) (depth : ℕ) (ts : List Term) (i j : ℕ) (t : Term) → i < length ts
+    → t ≡ get_or ts i t → size_of (terms (drop (i + 1) ts)) ≡ j
+    → RoomTerms depth (kept c (changed_terms c depth (terms (drop i ts))))
+    → TurnRoom c depth (term t) (terms (drop (i + 1) ts)) j
 turn-room lists c depth ts i j t lt is size room =
     let h = subst (λ z. RoomTerms depth (kept c (changed_terms c depth z))) (lists.left ts i t lt is) room in
     record {
-      here = subst (λ n. RoomTerm depth (kept_one c n (changed_term c depth (term t)))) (size_of-by (changing c) depth (terms (drop (i + 1) ts)) ∙ size) h.0;
+      here = subst (λ n. RoomTerm depth (kept_one c n (changed_term c depth (term t))))
+          (size_of-by (changing c) depth (terms (drop (i + 1) ts)) ∙ size) h.0;
       rest = h.1;
     }
 
-pub turn-ready : TermLists → (c : Change) (ts : List Term) (i : ℕ) (t : Term) → i < length ts → t ≡ get_or ts i t → ReadyTerms c (terms (drop i ts)) → ReadyTerm c (term t) × ReadyTerms c (terms (drop (i + 1) ts))
+pub turn-ready : TermLists → (c : Change) (ts : List Term) (i : ℕ) (t : Term) → i < length ts → t ≡ get_or ts i t
+    → ReadyTerms c (terms (drop i ts)) → ReadyTerm c (term t) × ReadyTerms c (terms (drop (i + 1) ts))
 turn-ready lists c ts i t lt is ready = subst (ReadyTerms c) (lists.left ts i t lt is) ready
 
 -- one turn of the count of an instance
-pub instance-more : TermLists → (c : Change) (ts : List Term) (i j : ℕ) (t : Term) (all place part new : Extent) (whole : Extent) → i < length ts → t ≡ get_or ts i t → size_of (terms (drop (i + 1) ts)) ≡ j → place ≡ places_of c j → part ≡ extent_term c (term t) → new ≡ put_in all place part → extent_instance c all (terms (drop i ts)) ≡ whole → extent_instance c new (terms (drop (i + 1) ts)) ≡ whole
+pub instance-more : TermLists → (c : Change) (ts : List Term) (i j : ℕ) (t : Term) (all place part new : Extent)
+    (whole : Extent) → i < length ts → t ≡ get_or ts i t → size_of (terms (drop (i + 1) ts)) ≡ j → place ≡ places_of c j
+    → part ≡ extent_term c (term t) → new ≡ put_in all place part → extent_instance c all (terms (drop i ts)) ≡ whole
+    → extent_instance c new (terms (drop (i + 1) ts)) ≡ whole
 instance-more lists c ts i j t all place part new whole lt is size at counted put before =
     let rest = terms (drop (i + 1) ts) in
     ap (λ z. extent_instance c z rest)
-    (put ∙ ap (λ z. put_in all z part) (at ∙ ap (places_of c) (sym size)) ∙ ap (λ z. put_in all (places_of c (size_of rest)) z) counted)
+    (put ∙ ap (λ z. put_in all z part) (at ∙ ap (places_of c) (sym size))
+    ∙ ap (λ z. put_in all (places_of c (size_of rest)) z) counted)
     ∙ ap (extent_instance c all) (sym (lists.left ts i t lt is))
     ∙ before
 
@@ -456,16 +575,22 @@ mutual
 
   bound-indices-forms : (ps : FormTrees) (n : ℕ) → BoundForms n ps → n + forms_depth ps ≤ 2 ^ 32 → IndicesFitAll ps
   bound-indices-forms no_forms n h l = tt
-  bound-indices-forms (form_then p ps) n h l = (bound-indices p n h.0 (omega arith), bound-indices-forms ps n h.1 (omega arith))
+  bound-indices-forms (form_then p ps) n h l =
+      (bound-indices p n h.0 (omega arith), bound-indices-forms ps n h.1 (omega arith))
 
   bound-indices-term : (t : TermTree) (n : ℕ) → BoundTerm n t → n + term_depth t ≤ 2 ^ 32 → IndicesFitTerm t
   bound-indices-term (bound i) n h l = omega (arith, h)
   bound-indices-term (app f args) n h l = bound-indices-terms args n h (omega arith)
-  bound-indices-term (ite p a b) n h l = (bound-indices p n h.0 (omega arith), bound-indices-term a n h.1 (omega arith), bound-indices-term b n h.2 (omega arith))
+  bound-indices-term (ite p a b) n h l = (
+    bound-indices p n h.0 (omega arith),
+    bound-indices-term a n h.1 (omega arith),
+    bound-indices-term b n h.2 (omega arith),
+  )
 
   bound-indices-terms : (ts : TermTrees) (n : ℕ) → BoundTerms n ts → n + terms_depth ts ≤ 2 ^ 32 → IndicesFitTerms ts
   bound-indices-terms no_terms n h l = tt
-  bound-indices-terms (term_then t ts) n h l = (bound-indices-term t n h.0 (omega arith), bound-indices-terms ts n h.1 (omega arith))
+  bound-indices-terms (term_then t ts) n h l =
+      (bound-indices-term t n h.0 (omega arith), bound-indices-terms ts n h.1 (omega arith))
 
 -- a shift raises no index by more than it shifts
 raised-within : (from by i n m : ℕ) → m ≡ n + by → i < n → raised from by i < m
@@ -481,7 +606,8 @@ module _ (by : ℕ) where
     bound-shifted top from n m is h = tt
     bound-shifted bottom from n m is h = tt
     bound-shifted (rel r args) from n m is h = bound_terms-shifted args from n m is h
-    bound-shifted (equal a b) from n m is h = (bound_term-shifted a from n m is h.0, bound_term-shifted b from n m is h.1)
+    bound-shifted (equal a b) from n m is h =
+        (bound_term-shifted a from n m is h.0, bound_term-shifted b from n m is h.1)
     bound-shifted (negation p) from n m is h = bound-shifted p from n m is h
     bound-shifted (conjunction ps) from n m is h = bound_forms-shifted ps from n m is h
     bound-shifted (disjunction ps) from n m is h = bound_forms-shifted ps from n m is h
@@ -490,21 +616,27 @@ module _ (by : ℕ) where
     bound-shifted (for_all k p) from n m is h = bound-shifted p (suc from) (suc n) (suc m) (omega arith) h
     bound-shifted (for_some k p) from n m is h = bound-shifted p (suc from) (suc n) (suc m) (omega arith) h
 
-    bound_forms-shifted : (ps : FormTrees) (from n m : ℕ) → m ≡ n + by → BoundForms n ps → BoundForms m (shift_forms from by ps)
+    bound_forms-shifted : (ps : FormTrees) (from n m : ℕ) → m ≡ n + by → BoundForms n ps
+        → BoundForms m (shift_forms from by ps)
     bound_forms-shifted no_forms from n m is h = tt
-    bound_forms-shifted (form_then p ps) from n m is h = (bound-shifted p from n m is h.0, bound_forms-shifted ps from n m is h.1)
+    bound_forms-shifted (form_then p ps) from n m is h =
+        (bound-shifted p from n m is h.0, bound_forms-shifted ps from n m is h.1)
 
     bound_term-shifted : (t : TermTree) (from n m : ℕ) → m ≡ n + by → BoundTerm n t → BoundTerm m (shift_term from by t)
     bound_term-shifted (bound i) from n m is h = raised-within from by i n m is h
     bound_term-shifted (app f args) from n m is h = bound_terms-shifted args from n m is h
-    bound_term-shifted (ite p a b) from n m is h = (bound-shifted p from n m is h.0, bound_term-shifted a from n m is h.1, bound_term-shifted b from n m is h.2)
+    bound_term-shifted (ite p a b) from n m is h =
+        (bound-shifted p from n m is h.0, bound_term-shifted a from n m is h.1, bound_term-shifted b from n m is h.2)
 
-    bound_terms-shifted : (ts : TermTrees) (from n m : ℕ) → m ≡ n + by → BoundTerms n ts → BoundTerms m (shift_terms from by ts)
+    bound_terms-shifted : (ts : TermTrees) (from n m : ℕ) → m ≡ n + by → BoundTerms n ts
+        → BoundTerms m (shift_terms from by ts)
     bound_terms-shifted no_terms from n m is h = tt
-    bound_terms-shifted (term_then t ts) from n m is h = (bound_term-shifted t from n m is h.0, bound_terms-shifted ts from n m is h.1)
+    bound_terms-shifted (term_then t ts) from n m is h =
+        (bound_term-shifted t from n m is h.0, bound_terms-shifted ts from n m is h.1)
 
 small_indices : (p : FormTree) (n : ℕ) → BoundForm n p → n + 1000 ≤ 2 ^ 32 → is_too_large p ≡ false → IndicesFit p
-small_indices p n h l small = let e = shallow (form_nodes p) (form_depth p) small in bound-indices p n h (omega (arith, e, l))
+small_indices p n h l small = let e = shallow (form_nodes p) (form_depth p) small in
+    bound-indices p n h (omega (arith, e, l))
 
 pub short_lists_suffice : FitsIsBound → ShortListsSuffice
 short_lists_suffice bound_form sig sorts within c h can l = record {
@@ -512,9 +644,11 @@ short_lists_suffice bound_form sig sorts within c h can l = record {
   sorts = sorts;
   within_fits = h;
   change_fits = can;
-  indices = λ small. small_indices (changed_form c 0 within) (length sorts) (bound_form sig sorts (changed_form c 0 within) (changed-fits sig sorts c can within h)) l small;
+  indices = λ small. small_indices (changed_form c 0 within) (length sorts)
+      (bound_form sig sorts (changed_form c 0 within) (changed-fits sig sorts c can within h)) l small;
 }
 
 pub short_lists_allow_shifts : FitsIsBound → ShortListsAllowShifts
 short_lists_allow_shifts bound_form sig sorts within from by h l = λ small.
-    small_indices (shift_form from by within) (length sorts + by) (bound-shifted by within from (length sorts) (length sorts + by) refl (bound_form sig sorts within h)) l small
+    small_indices (shift_form from by within) (length sorts + by)
+    (bound-shifted by within from (length sorts) (length sorts + by) refl (bound_form sig sorts within h)) l small

@@ -1,12 +1,17 @@
 -- How large a formula is that is shifted, or where arguments stand in the place of parameters.
-use Rattle.std.proofs.Common.{◌≡◌, ℕ, zero, suc, ◌+◌, ◌-◌, ◌*◌, ◌<◌, ◌≤◌, ◌==◌, cond, max, List, [], ◌∷◌, length, get_or, Bool, true, false, refl, sym, ap, ◌∙◌, subst, ⊎_elim, arith}
+use Rattle.std.proofs.Common.{◌≡◌, ℕ, zero, suc, ◌+◌, ◌-◌, ◌*◌, ◌<◌, ◌≤◌, ◌==◌, cond, max, List, [], ◌∷◌, length}
+use Rattle.std.proofs.Common.{get_or, Bool, true, false, refl, sym, ap, ◌∙◌, subst, ⊎_elim, arith}
 use Rattle.std.proofs.lemmas.Bool.{cases_lt, eq-eqb, eqb-true, ne_eqb}
 use Rattle.std.proofs.Math.Nat.{add-mul}
-use Rattle.fol_formula.specs.Syntax.{FormTree, FormTrees, TermTree, TermTrees, top, bottom, rel, equal, negation, conjunction, disjunction, implication, equivalence, for_all, for_some, no_forms, form_then, bound, app, ite, no_terms, term_then, size_of}
-use Rattle.fol_formula.specs.Counts.{form_nodes, forms_nodes, term_nodes, terms_nodes, form_depth, forms_depth, term_depth, terms_depth}
+use Rattle.fol_formula.specs.Syntax.{FormTree, FormTrees, TermTree, TermTrees, top, bottom, rel, equal, negation}
+use Rattle.fol_formula.specs.Syntax.{conjunction, disjunction, implication, equivalence, for_all, for_some, no_forms}
+use Rattle.fol_formula.specs.Syntax.{form_then, bound, app, ite, no_terms, term_then, size_of}
+use Rattle.fol_formula.specs.Counts.{form_nodes, forms_nodes, term_nodes, terms_nodes, form_depth, forms_depth}
+use Rattle.fol_formula.specs.Counts.{term_depth, terms_depth}
 use Rattle.fol_subst.specs.Rules.{Rules, form_by, forms_by, term_by, terms_by, EachForm, EachForms, EachTerm, EachTerms}
 use Rattle.fol_subst.specs.Shift.{shifting, shift_form, shift_term}
-use Rattle.fol_subst.specs.Replace.{picked, put_form, put_forms, put_term, put_terms, change_const, changing, changed_form}
+use Rattle.fol_subst.specs.Replace.{picked, put_form, put_forms, put_term, put_terms, change_const, changing}
+use Rattle.fol_subst.specs.Replace.{changed_form}
 use Rattle.fol_subst.specs.Room.{RelReady, AppReady, ReadyForm}
 use Rattle.fol_subst.proofs.Truth.{argument, picked-below, picked-above, size_of-by, Any, any-form, any-term}
 
@@ -30,16 +35,22 @@ beside {n' = n'} {d' = d'} {m = m} {e = e} x y = record {
 -- rules that keep nodes and depth
 pub record KeepsSize (rules : Rules) (R F : ℕ → ℕ → Type 0) : Type 0 where
   pub index : (depth i : ℕ) → Same (term_nodes (rules.index depth i)) (term_depth (rules.index depth i)) 1 1
-  pub relation : (q : ℕ) (args : TermTrees) → R q (size_of args) → Same (form_nodes (rules.relation q args)) (form_depth (rules.relation q args)) (terms_nodes args + 1) (terms_depth args + 1)
-  pub function : (depth f : ℕ) (args : TermTrees) → F f (size_of args) → Same (term_nodes (rules.function depth f args)) (term_depth (rules.function depth f args)) (terms_nodes args + 1) (terms_depth args + 1)
+  pub relation : (q : ℕ) (args : TermTrees) → R q (size_of args)
+      → Same (form_nodes (rules.relation q args)) (form_depth (rules.relation q args)) (terms_nodes args + 1)
+      (terms_depth args + 1)
+  pub function : (depth f : ℕ) (args : TermTrees) → F f (size_of args)
+      → Same (term_nodes (rules.function depth f args)) (term_depth (rules.function depth f args))
+      (terms_nodes args + 1) (terms_depth args + 1)
 
 module _ (rules : Rules) (R F : ℕ → ℕ → Type 0) (keeps : KeepsSize rules R F) where
   mutual
-    pub size-by : (p : FormTree) (depth : ℕ) → EachForm R F p → Same (form_nodes (form_by rules depth p)) (form_depth (form_by rules depth p)) (form_nodes p) (form_depth p)
+    pub size-by : (p : FormTree) (depth : ℕ) → EachForm R F p
+        → Same (form_nodes (form_by rules depth p)) (form_depth (form_by rules depth p)) (form_nodes p) (form_depth p)
     size-by top depth h = record { nodes = refl; depth = refl }
     size-by bottom depth h = record { nodes = refl; depth = refl }
     size-by (rel q args) depth h =
-        followed (keeps.relation q (terms_by rules depth args) (subst (R q) (sym (size_of-by rules depth args)) h.0)) (over (size_terms-by args depth h.1))
+        followed (keeps.relation q (terms_by rules depth args) (subst (R q) (sym (size_of-by rules depth args)) h.0))
+        (over (size_terms-by args depth h.1))
     size-by (equal a b) depth h = over (beside (size_term-by a depth h.0) (size_term-by b depth h.1))
     size-by (negation p) depth h = over (size-by p depth h)
     size-by (conjunction ps) depth h = over (size_forms-by ps depth h)
@@ -49,20 +60,30 @@ module _ (rules : Rules) (R F : ℕ → ℕ → Type 0) (keeps : KeepsSize rules
     size-by (for_all k p) depth h = over (size-by p (suc depth) h)
     size-by (for_some k p) depth h = over (size-by p (suc depth) h)
 
-    size_forms-by : (ps : FormTrees) (depth : ℕ) → EachForms R F ps → Same (forms_nodes (forms_by rules depth ps)) (forms_depth (forms_by rules depth ps)) (forms_nodes ps) (forms_depth ps)
+    size_forms-by : (ps : FormTrees) (depth : ℕ) → EachForms R F ps
+        → Same (forms_nodes (forms_by rules depth ps)) (forms_depth (forms_by rules depth ps)) (forms_nodes ps)
+        (forms_depth ps)
     size_forms-by no_forms depth h = record { nodes = refl; depth = refl }
     size_forms-by (form_then p ps) depth h = beside (size-by p depth h.0) (size_forms-by ps depth h.1)
 
-    pub size_term-by : (t : TermTree) (depth : ℕ) → EachTerm R F t → Same (term_nodes (term_by rules depth t)) (term_depth (term_by rules depth t)) (term_nodes t) (term_depth t)
+    pub size_term-by : (t : TermTree) (depth : ℕ) → EachTerm R F t
+        → Same (term_nodes (term_by rules depth t)) (term_depth (term_by rules depth t)) (term_nodes t) (term_depth t)
     size_term-by (bound i) depth h = keeps.index depth i
     size_term-by (app f args) depth h =
-        followed (keeps.function depth f (terms_by rules depth args) (subst (F f) (sym (size_of-by rules depth args)) h.0)) (over (size_terms-by args depth h.1))
+        followed (keeps.function depth f (terms_by rules depth args)
+        (subst (F f) (sym (size_of-by rules depth args)) h.0)) (over (size_terms-by args depth h.1))
     size_term-by (ite p a b) depth h =
         let x = size-by p depth h.0 in
         let y = beside (size_term-by a depth h.1) (size_term-by b depth h.2) in
-        record { nodes = let e = x.nodes in let e' = y.nodes in omega (arith, e, e'); depth = (over (beside x y)).depth }
+        record {
+          nodes = let e = x.nodes in let e' = y.nodes in
+              omega (arith, e, e');
+          depth = (over (beside x y)).depth;
+        }
 
-    size_terms-by : (ts : TermTrees) (depth : ℕ) → EachTerms R F ts → Same (terms_nodes (terms_by rules depth ts)) (terms_depth (terms_by rules depth ts)) (terms_nodes ts) (terms_depth ts)
+    size_terms-by : (ts : TermTrees) (depth : ℕ) → EachTerms R F ts
+        → Same (terms_nodes (terms_by rules depth ts)) (terms_depth (terms_by rules depth ts)) (terms_nodes ts)
+        (terms_depth ts)
     size_terms-by no_terms depth h = record { nodes = refl; depth = refl }
     size_terms-by (term_then t ts) depth h = beside (size_term-by t depth h.0) (size_terms-by ts depth h.1)
 
@@ -76,14 +97,17 @@ shift_keeps by = record {
   function = λ depth f args h. same (terms_nodes args + 1) (terms_depth args + 1);
 }
 
-pub size-shifted : (p : FormTree) (from by : ℕ) → Same (form_nodes (shift_form from by p)) (form_depth (shift_form from by p)) (form_nodes p) (form_depth p)
+pub size-shifted : (p : FormTree) (from by : ℕ)
+    → Same (form_nodes (shift_form from by p)) (form_depth (shift_form from by p)) (form_nodes p) (form_depth p)
 size-shifted p from by = size-by (shifting by) Any Any (shift_keeps by) p from (any-form p)
 
-size_term-shifted : (t : TermTree) (from by : ℕ) → Same (term_nodes (shift_term from by t)) (term_depth (shift_term from by t)) (term_nodes t) (term_depth t)
+size_term-shifted : (t : TermTree) (from by : ℕ)
+    → Same (term_nodes (shift_term from by t)) (term_depth (shift_term from by t)) (term_nodes t) (term_depth t)
 size_term-shifted t from by = size_term-by (shifting by) Any Any (shift_keeps by) t from (any-term t)
 
 -- a bound variable in the place of a program variable
-index_keeps : (g index : ℕ) → KeepsSize (changing (change_const g index)) (RelReady (change_const g index)) (AppReady (change_const g index))
+index_keeps : (g index : ℕ) → KeepsSize (changing (change_const g index)) (RelReady (change_const g index))
+    (AppReady (change_const g index))
 index_keeps g index = record {
   index = λ depth i. same 1 1;
   relation = λ q args h. same (terms_nodes args + 1) (terms_depth args + 1);
@@ -94,12 +118,18 @@ index_keeps g index = record {
     none no_terms e = same 1 1
     none (term_then t ts) e = absurd (omega arith)
 
-    which : (depth f : ℕ) (args : TermTrees) (b : Bool) → (f == g) ≡ b → (f ≡ g → size_of args ≡ 0) → Same (term_nodes (cond b (bound (depth + index)) (app f args))) (term_depth (cond b (bound (depth + index)) (app f args))) (terms_nodes args + 1) (terms_depth args + 1)
+    which : (depth f : ℕ) (args : TermTrees) (b : Bool) → (f == g) ≡ b → (f ≡ g → size_of args ≡ 0)
+        → Same (term_nodes (cond b (bound (depth + index)) (app f args)))
+        (term_depth (cond b (bound (depth + index)) (app f args))) (terms_nodes args + 1) (terms_depth args + 1)
     which depth f args true e h = none args (h (eqb-true f g e))
     which depth f args false e h = same (terms_nodes args + 1) (terms_depth args + 1)
 
-pub size-index : (g index : ℕ) (p : FormTree) → ReadyForm (change_const g index) p → Same (form_nodes (changed_form (change_const g index) 0 p)) (form_depth (changed_form (change_const g index) 0 p)) (form_nodes p) (form_depth p)
-size-index g index p h = size-by (changing (change_const g index)) (RelReady (change_const g index)) (AppReady (change_const g index)) (index_keeps g index) p 0 h
+pub size-index : (g index : ℕ) (p : FormTree) → ReadyForm (change_const g index) p
+    → Same (form_nodes (changed_form (change_const g index) 0 p)) (form_depth (changed_form (change_const g index) 0 p))
+    (form_nodes p) (form_depth p)
+size-index g index p h =
+    size-by (changing (change_const g index)) (RelReady (change_const g index)) (AppReady (change_const g index))
+    (index_keeps g index) p 0 h
 
 pub nodes-positive : (t : TermTree) → 1 ≤ term_nodes t
 nodes-positive (bound i) = omega arith
@@ -190,10 +220,12 @@ weighted-none f (x ∷ xs) h =
 weighted-add : (f g : ℕ → ℕ) (xs : List TermTree) → weighted (λ j. f j + g j) xs ≡ weighted f xs + weighted g xs
 weighted-add f g [] = refl
 weighted-add f g (x ∷ xs) =
-    let e1 = weighted-add (λ j. f (suc j)) (λ j. g (suc j)) xs in let e2 = add-mul (f 0) (g 0) (term_nodes x - 1) in omega (arith, e1, e2)
+    let e1 = weighted-add (λ j. f (suc j)) (λ j. g (suc j)) xs in let e2 = add-mul (f 0) (g 0) (term_nodes x - 1) in
+    omega (arith, e1, e2)
 
 -- one place of the argument i, and none of the others
-weighted-one : (f : ℕ → ℕ) (xs : List TermTree) (i n : ℕ) → f i ≡ 1 → ((j : ℕ) → (j ≡ i → ⊥) → f j ≡ 0) → weighted f xs + 1 ≡ term_nodes (get_or xs i (bound n))
+weighted-one : (f : ℕ → ℕ) (xs : List TermTree) (i n : ℕ) → f i ≡ 1 → ((j : ℕ) → (j ≡ i → ⊥) → f j ≡ 0)
+    → weighted f xs + 1 ≡ term_nodes (get_or xs i (bound n))
 weighted-one f [] i n one others = refl
 weighted-one f (x ∷ xs) zero n one others =
     let e1 = weighted-none (λ j. f (suc j)) xs (λ j. others (suc j) (λ e. absurd (omega arith))) in
@@ -235,18 +267,23 @@ deepened-max (suc a) (suc b) d =
 highest-max : (f g : ℕ → ℕ) (xs : List TermTree) → highest (λ j. max (f j) (g j)) xs ≡ max (highest f xs) (highest g xs)
 highest-max f g [] = refl
 highest-max f g (x ∷ xs) =
-    let e1 = highest-max (λ j. f (suc j)) (λ j. g (suc j)) xs in let e2 = deepened-max (f 0) (g 0) (term_depth x) in omega (arith, e1, e2)
+    let e1 = highest-max (λ j. f (suc j)) (λ j. g (suc j)) xs in let e2 = deepened-max (f 0) (g 0) (term_depth x) in
+    omega (arith, e1, e2)
 
-below-first : (y r d u v : ℕ) → max (y + 1) u ≡ max y v + 1 → max (y + 1) (max (deepened (below r) d) u) ≡ max y (max (deepened r d) v) + 1
+below-first : (y r d u v : ℕ) → max (y + 1) u ≡ max y v + 1 → max (y + 1) (max (deepened (below r) d) u)
+    ≡ max y (max (deepened r d) v) + 1
 below-first y zero d u v e = omega (arith, e)
 below-first y (suc n) d u v e = omega (arith, e)
 
-highest-below : (y : ℕ) (f : ℕ → ℕ) (xs : List TermTree) → max (y + 1) (highest (λ j. below (f j)) xs) ≡ max y (highest f xs) + 1
+highest-below : (y : ℕ) (f : ℕ → ℕ) (xs : List TermTree) → max (y + 1) (highest (λ j. below (f j)) xs)
+    ≡ max y (highest f xs) + 1
 highest-below y f [] = omega arith
 highest-below y f (x ∷ xs) =
-    below-first y (f 0) (term_depth x) (highest (λ j. below (f (suc j))) xs) (highest (λ j. f (suc j)) xs) (highest-below y (λ j. f (suc j)) xs)
+    below-first y (f 0) (term_depth x) (highest (λ j. below (f (suc j))) xs) (highest (λ j. f (suc j)) xs)
+    (highest-below y (λ j. f (suc j)) xs)
 
-highest-one : (f : ℕ → ℕ) (xs : List TermTree) (i n : ℕ) → f i ≡ 1 → ((j : ℕ) → (j ≡ i → ⊥) → f j ≡ 0) → max 1 (highest f xs) ≡ term_depth (get_or xs i (bound n))
+highest-one : (f : ℕ → ℕ) (xs : List TermTree) (i n : ℕ) → f i ≡ 1 → ((j : ℕ) → (j ≡ i → ⊥) → f j ≡ 0)
+    → max 1 (highest f xs) ≡ term_depth (get_or xs i (bound n))
 highest-one f [] i n one others = refl
 highest-one f (x ∷ xs) zero n one others =
     let e1 = highest-none (λ j. f (suc j)) xs (λ j. others (suc j) (λ e. absurd (omega arith))) in
@@ -274,18 +311,22 @@ module _ (xs : List TermTree) (i e : ℕ) where
   index-nodes : term_nodes (picked e xs i) ≡ 1 + weighted place xs
   index-nodes =
       ⊎_elim
-      (λ (l : i < e). let none = weighted-none place xs (λ j. elsewhere j (λ is. absurd (omega arith))) in ap term_nodes (picked-below e xs i l) ∙ omega (arith, none))
+      (λ (l : i < e). let none = weighted-none place xs (λ j. elsewhere j (λ is. absurd (omega arith))) in
+      ap term_nodes (picked-below e xs i l) ∙ omega (arith, none))
       (λ (l : e ≤ i).
-      let one = weighted-one place xs (i - e) (i - e - length xs) (here l) (λ j other. elsewhere j (λ is. other (omega arith))) in
+      let one = weighted-one place xs (i - e) (i - e - length xs) (here l)
+      (λ j other. elsewhere j (λ is. other (omega arith))) in
       ap term_nodes (picked-above e xs i l) ∙ (size_term-shifted (argument xs (i - e)) 0 e).nodes ∙ omega (arith, one))
       (cases_lt i e)
 
   index-depth : term_depth (picked e xs i) ≡ max 1 (highest place xs)
   index-depth =
       ⊎_elim
-      (λ (l : i < e). let none = highest-none place xs (λ j. elsewhere j (λ is. absurd (omega arith))) in ap term_depth (picked-below e xs i l) ∙ omega (arith, none))
+      (λ (l : i < e). let none = highest-none place xs (λ j. elsewhere j (λ is. absurd (omega arith))) in
+      ap term_depth (picked-below e xs i l) ∙ omega (arith, none))
       (λ (l : e ≤ i).
-      let one = highest-one place xs (i - e) (i - e - length xs) (here l) (λ j other. elsewhere j (λ is. other (omega arith))) in
+      let one = highest-one place xs (i - e) (i - e - length xs) (here l)
+      (λ j other. elsewhere j (λ is. other (omega arith))) in
       ap term_depth (picked-above e xs i l) ∙ (size_term-shifted (argument xs (i - e)) 0 e).depth ∙ sym one)
       (cases_lt i e)
 
@@ -301,14 +342,17 @@ module _ (xs : List TermTree) where
       let e2 = highest-none (λ j. 0) xs (λ j. refl) in
       record { nodes = omega (arith, e1); depth = omega (arith, e2) }
 
-  over_filled : {n d : ℕ} {u r : ℕ → ℕ} {n' d' : ℕ} → Filled xs n d u r n' d' → Filled xs (n + 1) (d + 1) u (λ j. below (r j)) (n' + 1) (d' + 1)
+  over_filled : {n d : ℕ} {u r : ℕ → ℕ} {n' d' : ℕ} → Filled xs n d u r n' d'
+      → Filled xs (n + 1) (d + 1) u (λ j. below (r j)) (n' + 1) (d' + 1)
   over_filled {d = d} {r = r} h =
       let e1 = h.nodes in
       let e2 = h.depth in
       let e3 = highest-below d r xs in
       record { nodes = omega (arith, e1); depth = omega (arith, e2, e3) }
 
-  both_filled : {n d : ℕ} {u r : ℕ → ℕ} {n' d' m e : ℕ} {v s : ℕ → ℕ} {m' e' : ℕ} → Filled xs n d u r n' d' → Filled xs m e v s m' e' → Filled xs (n + m) (max d e) (λ j. u j + v j) (λ j. max (r j) (s j)) (n' + m') (max d' e')
+  both_filled : {n d : ℕ} {u r : ℕ → ℕ} {n' d' m e : ℕ} {v s : ℕ → ℕ} {m' e' : ℕ} → Filled xs n d u r n' d'
+      → Filled xs m e v s m' e' → Filled xs (n + m) (max d e) (λ j. u j + v j) (λ j. max (r j) (s j)) (n' + m')
+      (max d' e')
   both_filled {u = u} {r = r} {v = v} {s = s} h g =
       let e1 = h.nodes in
       let e2 = g.nodes in
@@ -318,14 +362,16 @@ module _ (xs : List TermTree) where
       let e6 = highest-max r s xs in
       record { nodes = omega (arith, e1, e2, e3); depth = omega (arith, e4, e5, e6) }
 
-  renamed : (n d : ℕ) (u v r s : ℕ → ℕ) (n' d' : ℕ) → ((j : ℕ) → u j ≡ v j) → ((j : ℕ) → r j ≡ s j) → Filled xs n d v s n' d' → Filled xs n d u r n' d'
+  renamed : (n d : ℕ) (u v r s : ℕ → ℕ) (n' d' : ℕ) → ((j : ℕ) → u j ≡ v j) → ((j : ℕ) → r j ≡ s j)
+      → Filled xs n d v s n' d' → Filled xs n d u r n' d'
   renamed n d u v r s n' d' same same' h = record {
     nodes = h.nodes ∙ ap (λ z. n + z) (sym (weighted-same u v xs same));
     depth = h.depth ∙ ap (λ z. max d z) (sym (highest-same r s xs same'));
   }
 
   mutual
-    pub filled-form : (p : FormTree) (e : ℕ) → Filled xs (form_nodes p) (form_depth p) (λ j. uses_form (j + e) p) (λ j. reach_form (j + e) p) (form_nodes (put_form e xs p)) (form_depth (put_form e xs p))
+    pub filled-form : (p : FormTree) (e : ℕ) → Filled xs (form_nodes p) (form_depth p) (λ j. uses_form (j + e) p)
+        (λ j. reach_form (j + e) p) (form_nodes (put_form e xs p)) (form_depth (put_form e xs p))
     filled-form top e = none_filled 1 1
     filled-form bottom e = none_filled 1 1
     filled-form (rel r ts) e = over_filled (filled-terms ts e)
@@ -335,14 +381,20 @@ module _ (xs : List TermTree) where
     filled-form (disjunction ps) e = over_filled (filled-forms ps e)
     filled-form (implication p q) e = over_filled (both_filled (filled-form p e) (filled-form q e))
     filled-form (equivalence p q) e = over_filled (both_filled (filled-form p e) (filled-form q e))
-    filled-form (for_all k p) e = over_filled (renamed _ _ _ _ _ _ _ _ (λ j. ap (λ m. uses_form m p) (under_suc j e)) (λ j. ap (λ m. reach_form m p) (under_suc j e)) (filled-form p (suc e)))
-    filled-form (for_some k p) e = over_filled (renamed _ _ _ _ _ _ _ _ (λ j. ap (λ m. uses_form m p) (under_suc j e)) (λ j. ap (λ m. reach_form m p) (under_suc j e)) (filled-form p (suc e)))
+    filled-form (for_all k p) e =
+        over_filled (renamed _ _ _ _ _ _ _ _ (λ j. ap (λ m. uses_form m p) (under_suc j e))
+        (λ j. ap (λ m. reach_form m p) (under_suc j e)) (filled-form p (suc e)))
+    filled-form (for_some k p) e =
+        over_filled (renamed _ _ _ _ _ _ _ _ (λ j. ap (λ m. uses_form m p) (under_suc j e))
+        (λ j. ap (λ m. reach_form m p) (under_suc j e)) (filled-form p (suc e)))
 
-    filled-forms : (ps : FormTrees) (e : ℕ) → Filled xs (forms_nodes ps) (forms_depth ps) (λ j. uses_forms (j + e) ps) (λ j. reach_forms (j + e) ps) (forms_nodes (put_forms e xs ps)) (forms_depth (put_forms e xs ps))
+    filled-forms : (ps : FormTrees) (e : ℕ) → Filled xs (forms_nodes ps) (forms_depth ps) (λ j. uses_forms (j + e) ps)
+        (λ j. reach_forms (j + e) ps) (forms_nodes (put_forms e xs ps)) (forms_depth (put_forms e xs ps))
     filled-forms no_forms e = none_filled 0 0
     filled-forms (form_then p ps) e = both_filled (filled-form p e) (filled-forms ps e)
 
-    pub filled-term : (t : TermTree) (e : ℕ) → Filled xs (term_nodes t) (term_depth t) (λ j. uses_term (j + e) t) (λ j. reach_term (j + e) t) (term_nodes (put_term e xs t)) (term_depth (put_term e xs t))
+    pub filled-term : (t : TermTree) (e : ℕ) → Filled xs (term_nodes t) (term_depth t) (λ j. uses_term (j + e) t)
+        (λ j. reach_term (j + e) t) (term_nodes (put_term e xs t)) (term_depth (put_term e xs t))
     filled-term (bound i) e = record { nodes = index-nodes xs i e; depth = index-depth xs i e }
     filled-term (app f ts) e = over_filled (filled-terms ts e)
     filled-term (ite p a b) e =
@@ -350,6 +402,7 @@ module _ (xs : List TermTree) where
         let e1 = h.nodes in
         record { nodes = omega (arith, e1); depth = h.depth }
 
-    filled-terms : (ts : TermTrees) (e : ℕ) → Filled xs (terms_nodes ts) (terms_depth ts) (λ j. uses_terms (j + e) ts) (λ j. reach_terms (j + e) ts) (terms_nodes (put_terms e xs ts)) (terms_depth (put_terms e xs ts))
+    filled-terms : (ts : TermTrees) (e : ℕ) → Filled xs (terms_nodes ts) (terms_depth ts) (λ j. uses_terms (j + e) ts)
+        (λ j. reach_terms (j + e) ts) (terms_nodes (put_terms e xs ts)) (terms_depth (put_terms e xs ts))
     filled-terms no_terms e = none_filled 0 0
     filled-terms (term_then t ts) e = both_filled (filled-term t e) (filled-terms ts e)

@@ -1,7 +1,9 @@
 -- How large the result of a replacement is, counted without the result, as the code counts. Counts stop at 1000001.
 use Rattle.std.specs.Prelude.{ℕ, suc, ◌+◌, ◌-◌, ◌*◌, ◌==◌, nat_lt, ◌||◌, max, min, if◌then◌else◌, Bool, false}
 use Rattle.fol_formula.specs.Counts.{form_nodes, form_depth, term_nodes, term_depth}
-use Rattle.fol_formula.specs.Syntax.{FormTree, FormTrees, TermTree, TermTrees, top, bottom, rel, equal, negation, conjunction, disjunction, implication, equivalence, for_all, for_some, no_forms, form_then, bound, app, ite, no_terms, term_then, size_of}
+use Rattle.fol_formula.specs.Syntax.{FormTree, FormTrees, TermTree, TermTrees, top, bottom, rel, equal, negation}
+use Rattle.fol_formula.specs.Syntax.{conjunction, disjunction, implication, equivalence, for_all, for_some, no_forms}
+use Rattle.fol_formula.specs.Syntax.{form_then, bound, app, ite, no_terms, term_then, size_of}
 use Rattle.fol_subst.specs.Replace.{Change, change_rel, change_fun, change_const}
 use Rattle.fol_subst.specs.declared.extent.Extent.{Extent}
 
@@ -90,7 +92,8 @@ abbrev mutual
   pub extent_form : Change → FormTree → Extent
   extent_form c top = one
   extent_form c bottom = one
-  extent_form c (rel q args) = if changes_rel c q then extent_instance c (extent_of c) args else over (extent_terms c args)
+  extent_form c (rel q args) =
+      if changes_rel c q then extent_instance c (extent_of c) args else over (extent_terms c args)
   extent_form c (equal a b) = over (beside (extent_term c a) (extent_term c b))
   extent_form c (negation p) = over (extent_form c p)
   extent_form c (conjunction ps) = over (extent_forms c ps)
@@ -106,7 +109,8 @@ abbrev mutual
 
   pub extent_term : Change → TermTree → Extent
   extent_term c (bound n) = one
-  extent_term c (app f args) = if changes_fun c f then extent_instance c (extent_of c) args else over (extent_terms c args)
+  extent_term c (app f args) =
+      if changes_fun c f then extent_instance c (extent_of c) args else over (extent_terms c args)
   extent_term c (ite p a b) = over (beside (extent_form c p) (beside (extent_term c a) (extent_term c b)))
 
   pub extent_terms : Change → TermTrees → Extent
@@ -116,7 +120,8 @@ abbrev mutual
   -- the last argument is parameter 0
   pub extent_instance : Change → Extent → TermTrees → Extent
   extent_instance c whole no_terms = whole
-  extent_instance c whole (term_then t ts) = extent_instance c (put_in whole (places_of c (size_of ts)) (extent_term c t)) ts
+  extent_instance c whole (term_then t ts) =
+      extent_instance c (put_in whole (places_of c (size_of ts)) (extent_term c t)) ts
 
 abbrev pub is_over : Extent → Bool
 is_over a = nat_lt 1000000 a.count || nat_lt 1000 a.depth

@@ -1,7 +1,8 @@
 -- Replacement and the fragments of sentences.
 use Rattle.std.specs.Prelude.{◌≡◌, Bool}
 use Rattle.fol_formula.specs.Syntax.{FormTree}
-use Rattle.fol_formula.specs.Fragments.{IsUniversal, IsExistsForall, IsQuantifierFree, IsQuantifierFreeTerm, HasPlainTerms}
+use Rattle.fol_formula.specs.Fragments.{IsUniversal, IsExistsForall, IsQuantifierFree, IsQuantifierFreeTerm}
+use Rattle.fol_formula.specs.Fragments.{HasPlainTerms}
 use Rattle.fol_formula.specs.NormalForms.{normal_form}
 use Rattle.fol_formula.specs.Witnesses.{some_sorts}
 use Rattle.fol_subst.specs.Replace.{Change, change_rel, change_fun, change_const}
@@ -19,4 +20,5 @@ pub record KeepsFragments (within new : FormTree) : Type 0 where
   pub exists_forall : (positive : Bool) → IsExistsForall positive within → IsExistsForall positive new
   pub plain : HasPlainTerms within → HasPlainTerms new
   pub quantifier_free : IsQuantifierFree within → IsQuantifierFree new
-  pub existentials : (positive : Bool) → some_sorts (normal_form positive new) ≡ some_sorts (normal_form positive within)
+  pub existentials : (positive : Bool) → some_sorts (normal_form positive new)
+      ≡ some_sorts (normal_form positive within)

@@ -17,4 +17,5 @@ ShiftKeepsSize = (within : FormTree) (from by : ℕ) → SameSize within (shift_
 
 -- a bound variable in the place of a program variable
 abbrev pub IndexKeepsSize : Type 0
-IndexKeepsSize = (sig : Symbols) (sorts : List ℕ) (within : FormTree) (v index : ℕ) → FitsForm sig sorts within → CanChange sig sorts (change_const v index) → SameSize within (changed_form (change_const v index) 0 within)
+IndexKeepsSize = (sig : Symbols) (sorts : List ℕ) (within : FormTree) (v index : ℕ) → FitsForm sig sorts within
+    → CanChange sig sorts (change_const v index) → SameSize within (changed_form (change_const v index) 0 within)

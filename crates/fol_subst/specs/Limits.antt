@@ -1,7 +1,9 @@
 -- The limits of a formula: its size, and the numbers that its indices may have.
 use Rattle.std.specs.Prelude.{◌<◌, ◌^◌, ◌||◌, nat_lt, Bool}
 use Rattle.fol_formula.specs.Counts.{form_nodes, form_depth}
-use Rattle.fol_formula.specs.Syntax.{FormTree, FormTrees, TermTree, TermTrees, top, bottom, rel, equal, negation, conjunction, disjunction, implication, equivalence, for_all, for_some, no_forms, form_then, bound, app, ite, no_terms, term_then}
+use Rattle.fol_formula.specs.Syntax.{FormTree, FormTrees, TermTree, TermTrees, top, bottom, rel, equal, negation}
+use Rattle.fol_formula.specs.Syntax.{conjunction, disjunction, implication, equivalence, for_all, for_some, no_forms}
+use Rattle.fol_formula.specs.Syntax.{form_then, bound, app, ite, no_terms, term_then}
 
 -- over a million nodes, or over a thousand deep
 abbrev pub is_too_large : FormTree → Bool

@@ -1,5 +1,6 @@
 -- A relation is replaced by a formula, a function by a term, or a variable by an index, without capture.
-use Rattle.std.specs.Prelude.{◌≡◌, ℕ, ◌+◌, ◌-◌, ◌<◌, nat_lt, ◌==◌, if◌then◌else◌, Bool, List, [], length, slice_index, slice_index_or, reverse}
+use Rattle.std.specs.Prelude.{◌≡◌, ℕ, ◌+◌, ◌-◌, ◌<◌, nat_lt, ◌==◌, if◌then◌else◌, Bool, List, [], length, slice_index}
+use Rattle.std.specs.Prelude.{slice_index_or, reverse}
 use Rattle.fol_sig.specs.Tables.{Reading}
 use Rattle.fol_sig.specs.Symbols.{Symbols}
 use Rattle.fol_formula.specs.Truth.{truth, value}
@@ -8,10 +9,12 @@ use Rattle.fol_formula.specs.Syntax.{FormTree, FormTrees, TermTree, TermTrees, r
 use Rattle.fol_subst.specs.Rules.{Rules, of_indices, form_by, forms_by, term_by, terms_by}
 use Rattle.fol_subst.specs.Shift.{shift_term}
 
--- Under `depth` binders the index means a binder, or else an argument, which is taken under those binders; one beyond the
--- arguments is an index outside of them.
+-- Under `depth` binders the index means a binder, or else an argument, which is taken under those binders; one beyond
+-- the arguments is an index outside of them.
 abbrev pub picked : ℕ → List TermTree → ℕ → TermTree
-picked depth args i = if nat_lt i depth then bound i else shift_term 0 depth (slice_index_or args (i - depth) (bound (i - depth - length args)))
+picked depth args i =
+    if nat_lt i depth then bound i
+    else shift_term 0 depth (slice_index_or args (i - depth) (bound (i - depth - length args)))
 
 abbrev pub putting : List TermTree → Rules
 putting args = of_indices (λ depth i. picked depth args i)
@@ -83,7 +86,8 @@ updated s (change_const g index) env = with_fun s g (λ xs. slice_index env inde
 abbrev pub CanChange : Symbols → List ℕ → Change → Type 0
 CanChange sig sorts (change_rel r by) = (r < sig.relations) × FitsForm sig (reverse (sig.sorts_of r)) by
 CanChange sig sorts (change_fun g by) = (g < sig.functions) × FitsTerm sig (reverse (sig.from_of g)) by (sig.into_of g)
-CanChange sig sorts (change_const g index) = (g < sig.functions) × (sig.from_of g ≡ []) × (index < length sorts) × (slice_index sorts index ≡ sig.into_of g)
+CanChange sig sorts (change_const g index) =
+    (g < sig.functions) × (sig.from_of g ≡ []) × (index < length sorts) × (slice_index sorts index ≡ sig.into_of g)
 
 -- true exactly where the old formula is true in the updated structure
 abbrev pub IsReplaced : FormTree → Change → FormTree → Type 0

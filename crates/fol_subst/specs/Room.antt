@@ -2,7 +2,9 @@
 -- the symbol stands it has as many arguments as what replaces it has parameters.
 use Rattle.std.specs.Prelude.{◌≡◌, ℕ, suc, ◌<◌, ◌≤◌, ◌^◌}
 use Rattle.fol_formula.specs.Fits.{BoundForm, BoundTerm}
-use Rattle.fol_formula.specs.Syntax.{FormTree, FormTrees, TermTree, TermTrees, top, bottom, rel, equal, negation, conjunction, disjunction, implication, equivalence, for_all, for_some, no_forms, form_then, bound, app, ite, no_terms, term_then}
+use Rattle.fol_formula.specs.Syntax.{FormTree, FormTrees, TermTree, TermTrees, top, bottom, rel, equal, negation}
+use Rattle.fol_formula.specs.Syntax.{conjunction, disjunction, implication, equivalence, for_all, for_some, no_forms}
+use Rattle.fol_formula.specs.Syntax.{form_then, bound, app, ite, no_terms, term_then}
 use Rattle.fol_subst.specs.Rules.{EachForm, EachForms, EachTerm, EachTerms}
 use Rattle.fol_subst.specs.Replace.{Change, change_rel, change_fun, change_const}
 

@@ -1,10 +1,12 @@
--- A formula with its indices, relations and functions changed by rules. Shifting indices (Shift), putting arguments into
--- indices and replacing a symbol (Replace) are its three cases.
+-- A formula with its indices, relations and functions changed by rules. Shifting indices (Shift), putting arguments
+-- into indices and replacing a symbol (Replace) are its three cases.
 use Rattle.std.specs.Prelude.{ℕ, suc}
-use Rattle.fol_formula.specs.Syntax.{FormTree, FormTrees, TermTree, TermTrees, top, bottom, rel, equal, negation, conjunction, disjunction, implication, equivalence, for_all, for_some, no_forms, form_then, bound, app, ite, no_terms, term_then, size_of}
+use Rattle.fol_formula.specs.Syntax.{FormTree, FormTrees, TermTree, TermTrees, top, bottom, rel, equal, negation}
+use Rattle.fol_formula.specs.Syntax.{conjunction, disjunction, implication, equivalence, for_all, for_some, no_forms}
+use Rattle.fol_formula.specs.Syntax.{form_then, bound, app, ite, no_terms, term_then, size_of}
 
--- What an index under so many binders becomes, and what a relation and a function (this one under so many binders) become
--- before arguments that are changed already.
+-- What an index under so many binders becomes, and what a relation and a function (this one under so many binders)
+-- become before arguments that are changed already.
 pub record Rules : Type 0 where
   pub index : ℕ → ℕ → TermTree
   pub relation : ℕ → TermTrees → FormTree

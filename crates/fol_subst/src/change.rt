@@ -3,7 +3,8 @@ ghost use Rattle.std.specs.Prelude.{◌≡◌, ◌+◌, ◌<◌, ◌≤◌, ◌^
 ghost use Rattle.fol_formula.specs.View.{form, forms, term as term_view, terms as terms_view};
 ghost use Rattle.fol_formula.specs.Syntax.{rel as rel_tree, app as app_tree, size_of};
 ghost use Rattle.fol_subst.specs.Replace.{changed_form, changed_forms, changed_term, changed_terms};
-ghost use Rattle.fol_subst.specs.Room.{ReadyForm, ReadyForms, ReadyTerm, ReadyTerms, RoomForm, RoomForms, RoomTerm, RoomTerms};
+ghost use Rattle.fol_subst.specs.Room.{ReadyForm, ReadyForms, ReadyTerm, ReadyTerms, RoomForm, RoomForms, RoomTerm};
+ghost use Rattle.fol_subst.specs.Room.{RoomTerms};
 ghost use Rattle.fol_subst.specs.Changes.{change_of};
 ghost use Rattle.fol_subst.specs.Measured.{Measures};
 ghost use Rattle.fol_subst.specs.Kept.{kept, kept_one};
@@ -100,7 +101,8 @@ fn change_application(
     requires measures { Measures m.now (change_of c.now) }
     requires ready { ReadyTerm (change_of c.now) (app_tree f.0 (terms_view args.now)) }
     requires room { RoomTerm depth (changed_term (change_of c.now) depth (app_tree f.0 (terms_view args.now))) }
-    ensures { IfOk result (λ t. term_view t ≡ changed_term (change_of c.now) depth (app_tree f.0 (terms_view args.now))) }
+    ensures { IfOk result
+        (λ t. term_view t ≡ changed_term (change_of c.now) depth (app_tree f.0 (terms_view args.now))) }
 {
     fol_formula::lists();
     match c {
@@ -231,8 +233,11 @@ fn change_kept(
     requires measures { Measures m.now (change_of c.now) }
     requires few { size_of (terms_view ts.now) ≤ 8 }
     requires ready { ReadyTerms (change_of c.now) (terms_view ts.now) }
-    requires room { RoomTerms depth (kept (change_of c.now) (changed_terms (change_of c.now) depth (terms_view ts.now))) }
-    ensures { IfOk result (λ fs. terms_view fs.items ≡ kept (change_of c.now) (changed_terms (change_of c.now) depth (terms_view ts.now))) }
+    requires room { RoomTerms depth
+        (kept (change_of c.now) (changed_terms (change_of c.now) depth (terms_view ts.now))) }
+    ensures { IfOk result
+        (λ fs. terms_view fs.items
+        ≡ kept (change_of c.now) (changed_terms (change_of c.now) depth (terms_view ts.now))) }
 {
     fol_formula::lists();
     let mut all = Vec::with_capacity(alloc, ts.len())?;
@@ -257,8 +262,10 @@ fn change_one(
     requires measures { Measures m.now (change_of c.now) }
     requires few { index < 8 }
     requires ready { ReadyTerm (change_of c.now) (term_view t.now) }
-    requires room { RoomTerm depth (kept_one (change_of c.now) index (changed_term (change_of c.now) depth (term_view t.now))) }
-    ensures { IfOk result (λ f. term_view f ≡ kept_one (change_of c.now) index (changed_term (change_of c.now) depth (term_view t.now))) }
+    requires room { RoomTerm depth
+        (kept_one (change_of c.now) index (changed_term (change_of c.now) depth (term_view t.now))) }
+    ensures { IfOk result
+        (λ f. term_view f ≡ kept_one (change_of c.now) index (changed_term (change_of c.now) depth (term_view t.now))) }
 {
     if m.places[index].depth == 0 {
         Ok(Term::Bound(0))

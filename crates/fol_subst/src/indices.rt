@@ -156,7 +156,8 @@ fn copy_boxed_term<R: Indices>(alloc: Global, t: &Term, rule: &R, depth: u64) ->
 #[cycle(copy)]
 fn copy_terms<R: Indices>(alloc: Global, ts: &[Term], rule: &R, depth: u64) -> Mem<Vec<Term>>
     requires { RoomTerms depth (terms_by (of_indices (R.becomes rule.now)) depth (terms_view ts.now)) }
-    ensures { IfOk result (λ fs. terms_view fs.items ≡ terms_by (of_indices (R.becomes rule.now)) depth (terms_view ts.now)) }
+    ensures { IfOk result
+        (λ fs. terms_view fs.items ≡ terms_by (of_indices (R.becomes rule.now)) depth (terms_view ts.now)) }
 {
     fol_formula::lists();
     let mut all = Vec::with_capacity(alloc, ts.len())?;

@@ -46,7 +46,8 @@ pub fn replace_rel(
 ) -> Result<Formula, Refused<FormulaLimit>>
     requires { CanReplace (form within.now) (change_rel rel.0 (form by.now)) }
     ensures replaced { IfOk result (λ f. IsReplacement (form within.now) (change_rel rel.0 (form by.now)) (form f)) }
-    ensures limit { IfErr result (Because (λ _. IsTrue (is_too_large (changed_form (change_rel rel.0 (form by.now)) 0 (form within.now))))) }
+    ensures limit { IfErr result
+        (Because (λ _. IsTrue (is_too_large (changed_form (change_rel rel.0 (form by.now)) 0 (form within.now))))) }
 {
     let counted = replace(alloc, within, &Replacement::Rel(rel, &*by))?;
     Ok(counted.formula)
@@ -60,8 +61,10 @@ pub fn replace_rel_counted(
     by: &Formula,
 ) -> Result<Counted, Refused<FormulaLimit>>
     requires { CanReplace (form within.now) (change_rel rel.0 (form by.now)) }
-    ensures replaced { IfOk result (λ c. IsReplacement (form within.now) (change_rel rel.0 (form by.now)) (form c.formula)) }
-    ensures limit { IfErr result (Because (λ _. IsTrue (is_too_large (changed_form (change_rel rel.0 (form by.now)) 0 (form within.now))))) }
+    ensures replaced { IfOk result
+        (λ c. IsReplacement (form within.now) (change_rel rel.0 (form by.now)) (form c.formula)) }
+    ensures limit { IfErr result
+        (Because (λ _. IsTrue (is_too_large (changed_form (change_rel rel.0 (form by.now)) 0 (form within.now))))) }
 {
     let counted = replace(alloc, within, &Replacement::Rel(rel, &*by))?;
     Ok(counted)
@@ -76,8 +79,11 @@ pub fn replace_fun(
     by: &Term,
 ) -> Result<Formula, Refused<FormulaLimit>>
     requires { CanReplace (form within.now) (change_fun fun.0 (term_view by.now)) }
-    ensures replaced { IfOk result (λ f. IsReplacement (form within.now) (change_fun fun.0 (term_view by.now)) (form f)) }
-    ensures limit { IfErr result (Because (λ _. IsTrue (is_too_large (changed_form (change_fun fun.0 (term_view by.now)) 0 (form within.now))))) }
+    ensures replaced { IfOk result
+        (λ f. IsReplacement (form within.now) (change_fun fun.0 (term_view by.now)) (form f)) }
+    ensures limit { IfErr result
+        (Because (λ _. IsTrue
+        (is_too_large (changed_form (change_fun fun.0 (term_view by.now)) 0 (form within.now))))) }
 {
     let counted = replace(alloc, within, &Replacement::Fun(fun, &*by))?;
     Ok(counted.formula)
@@ -91,8 +97,11 @@ pub fn replace_fun_counted(
     by: &Term,
 ) -> Result<Counted, Refused<FormulaLimit>>
     requires { CanReplace (form within.now) (change_fun fun.0 (term_view by.now)) }
-    ensures replaced { IfOk result (λ c. IsReplacement (form within.now) (change_fun fun.0 (term_view by.now)) (form c.formula)) }
-    ensures limit { IfErr result (Because (λ _. IsTrue (is_too_large (changed_form (change_fun fun.0 (term_view by.now)) 0 (form within.now))))) }
+    ensures replaced { IfOk result
+        (λ c. IsReplacement (form within.now) (change_fun fun.0 (term_view by.now)) (form c.formula)) }
+    ensures limit { IfErr result
+        (Because (λ _. IsTrue
+        (is_too_large (changed_form (change_fun fun.0 (term_view by.now)) 0 (form within.now))))) }
 {
     let counted = replace(alloc, within, &Replacement::Fun(fun, &*by))?;
     Ok(counted)
@@ -108,7 +117,8 @@ pub fn replace_const(
 ) -> Result<Formula, Refused<FormulaLimit>>
     requires { CanReplace (form within.now) (change_const fun.0 index) }
     ensures replaced { IfOk result (λ f. IsReplacement (form within.now) (change_const fun.0 index) (form f)) }
-    ensures limit { IfErr result (Because (λ _. IsTrue (is_too_large (changed_form (change_const fun.0 index) 0 (form within.now))))) }
+    ensures limit { IfErr result
+        (Because (λ _. IsTrue (is_too_large (changed_form (change_const fun.0 index) 0 (form within.now))))) }
 {
     let counted = replace(alloc, within, &Replacement::Const(fun, index))?;
     Ok(counted.formula)
@@ -123,7 +133,8 @@ pub fn replace_const_counted(
 ) -> Result<Counted, Refused<FormulaLimit>>
     requires { CanReplace (form within.now) (change_const fun.0 index) }
     ensures replaced { IfOk result (λ c. IsReplacement (form within.now) (change_const fun.0 index) (form c.formula)) }
-    ensures limit { IfErr result (Because (λ _. IsTrue (is_too_large (changed_form (change_const fun.0 index) 0 (form within.now))))) }
+    ensures limit { IfErr result
+        (Because (λ _. IsTrue (is_too_large (changed_form (change_const fun.0 index) 0 (form within.now))))) }
 {
     let counted = replace(alloc, within, &Replacement::Const(fun, index))?;
     Ok(counted)
@@ -156,7 +167,8 @@ fn replace(
 ) -> Result<Counted, Refused<FormulaLimit>>
     requires { CanReplace (form within.now) (change_of change.now) }
     ensures replaced { IfOk result (λ c. IsReplacement (form within.now) (change_of change.now) (form c.formula)) }
-    ensures limit { IfErr result (Because (λ _. IsTrue (is_too_large (changed_form (change_of change.now) 0 (form within.now))))) }
+    ensures limit { IfErr result
+        (Because (λ _. IsTrue (is_too_large (changed_form (change_of change.now) 0 (form within.now))))) }
 {
     exactness();
     fol_formula::indices();

@@ -4,7 +4,8 @@ ghost use Rattle.fol_formula.specs.View.{form, forms, term as term_view, terms a
 ghost use Rattle.fol_formula.specs.Syntax.{size_of};
 ghost use Rattle.fol_subst.specs.Changes.{change_of};
 ghost use Rattle.fol_subst.specs.Room.{ReadyForm, ReadyForms, ReadyTerm, ReadyTerms};
-ghost use Rattle.fol_subst.specs.Extents.{extent_form, extent_forms, extent_term, extent_terms, extent_instance, places_of};
+ghost use Rattle.fol_subst.specs.Extents.{extent_form, extent_forms, extent_term, extent_terms, extent_instance};
+ghost use Rattle.fol_subst.specs.Extents.{places_of};
 ghost use Rattle.fol_subst.specs.Measured.{Measures};
 
 use crate::extent::Extent;

@@ -10,5 +10,6 @@ use Rattle.goal_clauses.specs.declared.GoalClauses.TheVariants.{Written, Over}
 
 -- the clauses of its refuting sentence, where it passes no limit by its size; or the first limit that it passes
 abbrev pub AreGoalClauses : Ceilings → ModelTree → Goal → GoalClauses → Type 0
-AreGoalClauses limits m goal (Written f) = PassesFirst limits m goal None × IsClauseForm m.signature (refuting_sentence m goal) f
+AreGoalClauses limits m goal (Written f) =
+    PassesFirst limits m goal None × IsClauseForm m.signature (refuting_sentence m goal) f
 AreGoalClauses limits m goal (Over c) = PassesFirst limits m goal (Some c)

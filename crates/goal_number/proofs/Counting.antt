@@ -53,7 +53,8 @@ met group ps i left p whole at is none h =
     sym (ap (λ n. seek n (goal_at group (i + 1) ∷ goals_among group (i + 1 + 1) (drop (i + 1) ps))) none)
     ∙ sym (ap (seek left) (turn group ps i p true at is)) ∙ h
 
-before : (left : ℕ) (goal : Goal) (goals : List Goal) → (left ≡ 0 → ⊥) → seek left (goal ∷ goals) ≡ seek (left - 1) goals
+before : (left : ℕ) (goal : Goal) (goals : List Goal) → (left ≡ 0 → ⊥)
+    → seek left (goal ∷ goals) ≡ seek (left - 1) goals
 before zero goal goals some = absurd (some refl)
 before (suc n) goal goals some = let same : n ≡ suc n - 1 = omega arith in ap (λ k. seek k goals) same
 
@@ -118,9 +119,11 @@ first_group G f n most old new x same e =
     ∙ sym (on_next G old x (map f (count_from 0 most)))
 
 -- the first groups, before some numbered lists of them
-pub first_groups : {B : Type 0} (G : B → List Goal) (f : ℕ → List B) (n most : ℕ) (old new : Sought) (xs rest : List B) → n ≡ most
+pub first_groups : {B : Type 0} (G : B → List Goal) (f : ℕ → List B) (n most : ℕ) (old new : Sought) (xs rest : List B)
+    → n ≡ most
     → new ≡ seek_on old (flat_map G xs)
-    → seek_on new (flat_map G (flat_map f (count_from 0 (n - 0)) ++ rest)) ≡ seek_on old (flat_map G (xs ++ (flat_map f (count_from 0 most) ++ rest)))
+    → seek_on new (flat_map G (flat_map f (count_from 0 (n - 0)) ++ rest))
+    ≡ seek_on old (flat_map G (xs ++ (flat_map f (count_from 0 most) ++ rest)))
 first_groups G f n most old new xs rest same e =
     let all : n - 0 ≡ most = omega (arith, same) in
     ap (λ s. seek_on s (flat_map G (flat_map f (count_from 0 (n - 0)) ++ rest))) e
@@ -143,7 +146,8 @@ no_group G f k n sought whole le h =
     sym (on_none sought) ∙ sym (ap (λ ns. seek_on sought (flat_map G (map f ns))) (count-none k n le)) ∙ h
 
 -- the next of some numbered lists of groups
-pub next_groups : {B : Type 0} (G : B → List Goal) (f : ℕ → List B) (k n : ℕ) (old new whole : Sought) (rest : List B) → k < n
+pub next_groups : {B : Type 0} (G : B → List Goal) (f : ℕ → List B) (k n : ℕ) (old new whole : Sought) (rest : List B)
+    → k < n
     → new ≡ seek_on old (flat_map G (f k))
     → seek_on old (flat_map G (flat_map f (count_from k (n - k)) ++ rest)) ≡ whole
     → seek_on new (flat_map G (flat_map f (count_from (k + 1) (n - (k + 1))) ++ rest)) ≡ whole
@@ -151,7 +155,8 @@ next_groups G f k n old new whole rest lt e h =
     let more = flat_map f (count_from (k + 1) (n - (k + 1))) in
     ap (λ s. seek_on s (flat_map G (flat_map f (count_from (k + 1) (n - (k + 1))) ++ rest))) e
     ∙ sym (on_more G old (f k) (flat_map f (count_from (k + 1) (n - (k + 1))) ++ rest))
-    ∙ sym (ap (λ xs. seek_on old (flat_map G xs)) (append_assoc (f k) (flat_map f (count_from (k + 1) (n - (k + 1)))) rest))
+    ∙ sym (ap (λ xs. seek_on old (flat_map G xs))
+    (append_assoc (f k) (flat_map f (count_from (k + 1) (n - (k + 1)))) rest))
     ∙ sym (ap (λ ns. seek_on old (flat_map G (flat_map f ns ++ rest))) (count-step k n lt)) ∙ h
 
 pub last_group : {B : Type 0} (G : B → List Goal) (f : ℕ → List B) (k n : ℕ) (old new whole : Sought) (x : B) → n ≤ k
@@ -161,7 +166,8 @@ last_group G f k n old new whole x le e h =
     e ∙ sym (on_none (seek_on old (G x))) ∙ sym (on_next G old x [])
     ∙ sym (ap (λ ns. seek_on old (flat_map G (flat_map f ns ++ x ∷ []))) (count-none k n le)) ∙ h
 
-one_more : (goal : Goal) (goals : List Goal) (n : ℕ) (sought : Sought) → IsPlace goals n sought → IsPlace (goal ∷ goals) (suc n) sought
+one_more : (goal : Goal) (goals : List Goal) (n : ℕ) (sought : Sought) → IsPlace goals n sought
+    → IsPlace (goal ∷ goals) (suc n) sought
 one_more goal goals n (Found g) is = is
 one_more goal goals n (Left k) is = omega (arith, is)
 

@@ -1,13 +1,17 @@
 -- Universal formulas in normal form that fit, along the tree: what the walk over a formula asks of each part.
 use Rattle.std.specs.Prelude.{ℕ, ◌<◌, ◌≤◌, List, ◌∷◌, length}
 use Rattle.fol_sig.specs.Symbols.{Symbols}
-use Rattle.fol_formula.specs.Syntax.{FormTree, FormTrees, TermTree, TermTrees, top, bottom, rel, equal, negation, conjunction, disjunction, implication, equivalence, for_all, for_some, no_forms, form_then, bound, app, ite, no_terms, term_then, size_of}
+use Rattle.fol_formula.specs.Syntax.{FormTree, FormTrees, TermTree, TermTrees, top, bottom, rel, equal, negation}
+use Rattle.fol_formula.specs.Syntax.{conjunction, disjunction, implication, equivalence, for_all, for_some, no_forms}
+use Rattle.fol_formula.specs.Syntax.{form_then, bound, app, ite, no_terms, term_then, size_of}
 use Rattle.fol_formula.specs.Fits.{FitsTerms}
 
 abbrev mutual
   pub IsGroundableTerm : Symbols → List ℕ → TermTree → Type 0
   IsGroundableTerm sig sorts (bound i) = i < length sorts
-  IsGroundableTerm sig sorts (app f args) = (f < sig.functions) × (size_of args ≤ 8) × FitsTerms sig sorts args (sig.from_of f) × AreGroundableTerms sig sorts args
+  IsGroundableTerm sig sorts (app f args) =
+      (f < sig.functions) × (size_of args ≤ 8) × FitsTerms sig sorts args (sig.from_of f)
+      × AreGroundableTerms sig sorts args
   IsGroundableTerm sig sorts (ite p a b) = ⊥
 
   pub AreGroundableTerms : Symbols → List ℕ → TermTrees → Type 0

@@ -3,7 +3,9 @@
 use Rattle.std.specs.Prelude.{ℕ, Bool, true, false, List, [], ◌∷◌, slice_index}
 use Rattle.fol_sig.specs.Symbols.{Symbols}
 use Rattle.fol_sig.specs.Tuples.{join_below}
-use Rattle.fol_formula.specs.Syntax.{FormTree, FormTrees, TermTree, TermTrees, top, bottom, rel, equal, negation, conjunction, disjunction, implication, equivalence, for_all, for_some, no_forms, form_then, bound, app, ite, no_terms, term_then}
+use Rattle.fol_formula.specs.Syntax.{FormTree, FormTrees, TermTree, TermTrees, top, bottom, rel, equal, negation}
+use Rattle.fol_formula.specs.Syntax.{conjunction, disjunction, implication, equivalence, for_all, for_some, no_forms}
+use Rattle.fol_formula.specs.Syntax.{form_then, bound, app, ite, no_terms, term_then}
 use Rattle.ground_terms.specs.Terms.{Lists}
 use Rattle.ground_terms.specs.Numberings.{Numbering, numbering}
 use Rattle.ground_terms.specs.Trees.{Tree, Trees, literal, node, none, part, trees_of}
@@ -32,7 +34,8 @@ abbrev pub relation_at : Numbering → ℕ → TermTrees → List ℕ → Atom
 relation_at names r args env = Rel (record { 0 = r }) (places_of_terms names args env)
 
 abbrev pub equation_at : Symbols → Numbering → List ℕ → TermTree → TermTree → List ℕ → Atom
-equation_at sig names sorts s t env = Eq (record { 0 = sort_of_term sig sorts s }) (place_of_term names s env) (place_of_term names t env)
+equation_at sig names sorts s t env =
+    Eq (record { 0 = sort_of_term sig sorts s }) (place_of_term names s env) (place_of_term names t env)
 
 abbrev pub literal_at : Symbols → Numbering → List ℕ → FormTree → List ℕ → Bool → Tree
 literal_at sig names sorts (rel r args) env positive = literal (relation_at names r args env) positive
@@ -51,12 +54,14 @@ abbrev mutual
   instance sig names sorts (implication p q) env = node Or none
   instance sig names sorts (equivalence p q) env = node Or none
   instance sig names sorts (for_all k p) env =
-      node And (trees_of (join_below (slice_index names.counts k) (λ x. instance sig names (k ∷ sorts) p (x ∷ env) ∷ [])))
+      node And (trees_of
+      (join_below (slice_index names.counts k) (λ x. instance sig names (k ∷ sorts) p (x ∷ env) ∷ [])))
   instance sig names sorts (for_some k p) env = node Or none
 
   pub instances : Symbols → Numbering → List ℕ → FormTrees → List ℕ → Trees
   instances sig names sorts no_forms env = none
-  instances sig names sorts (form_then p ps) env = part (instance sig names sorts p env) (instances sig names sorts ps env)
+  instances sig names sorts (form_then p ps) env =
+      part (instance sig names sorts p env) (instances sig names sorts ps env)
 
 -- the instance of a sentence over closed lists of terms
 abbrev pub instance_of : Symbols → Lists → FormTree → Tree

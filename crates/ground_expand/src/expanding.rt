@@ -35,7 +35,8 @@ pub fn expand_into<S: GroundSink>(
     requires closed { AreClosed (symbols signature.now) terms.now }
     requires fits { FitsForm (symbols signature.now) [] sentence.now }
     requires normal { IsNormalForm sentence.now }
-    ensures { Hands (S.stands sink.old) (S.stands sink.new) result (calls_of (instance_of (symbols signature.now) terms.now sentence.now)) }
+    ensures { Hands (S.stands sink.old) (S.stands sink.new) result
+        (calls_of (instance_of (symbols signature.now) terms.now sentence.now)) }
 {
     let formula = sentence.sentence().formula();
     expand(alloc, signature, terms, formula, &Scope::Outside, sink)
@@ -53,7 +54,9 @@ fn expand<S: GroundSink>(
     requires closed { AreClosed (symbols signature.now) terms.now }
     requires in_range { InRange (term_counts terms.now) (sorts_in scope.now) (terms_in scope.now) }
     requires known { IsGroundable (symbols signature.now) (sorts_in scope.now) (form p.now) }
-    ensures { Hands (S.stands sink.old) (S.stands sink.new) result (calls_of (instance (symbols signature.now) (numbering (symbols signature.now) terms.now) (sorts_in scope.now) (form p.now) (terms_in scope.now))) }
+    ensures { Hands (S.stands sink.old) (S.stands sink.new) result
+        (calls_of (instance (symbols signature.now) (numbering (symbols signature.now) terms.now) (sorts_in scope.now)
+        (form p.now) (terms_in scope.now))) }
 {
     match p {
         Formula::True => hand_node(sink, Junction::And, 0),
@@ -80,7 +83,9 @@ fn expand_atom<S: GroundSink>(
     requires closed { AreClosed (symbols signature.now) terms.now }
     requires in_range { InRange (term_counts terms.now) (sorts_in scope.now) (terms_in scope.now) }
     requires known { IsGroundableAtom (symbols signature.now) (sorts_in scope.now) (form p.now) }
-    ensures { Hands (S.stands sink.old) (S.stands sink.new) result (calls_of (literal_at (symbols signature.now) (numbering (symbols signature.now) terms.now) (sorts_in scope.now) (form p.now) (terms_in scope.now) positive)) }
+    ensures { Hands (S.stands sink.old) (S.stands sink.new) result
+        (calls_of (literal_at (symbols signature.now) (numbering (symbols signature.now) terms.now) (sorts_in scope.now)
+        (form p.now) (terms_in scope.now) positive)) }
 {
     let atom = atom(alloc, signature, terms, p, scope);
     hand_literal(sink, atom, positive)
@@ -99,7 +104,10 @@ fn expand_parts<S: GroundSink>(
     requires closed { AreClosed (symbols signature.now) terms.now }
     requires in_range { InRange (term_counts terms.now) (sorts_in scope.now) (terms_in scope.now) }
     requires known { AreGroundable (symbols signature.now) (sorts_in scope.now) (forms ps.now) }
-    ensures { Hands (S.stands sink.old) (S.stands sink.new) result (calls_of (node junction (instances (symbols signature.now) (numbering (symbols signature.now) terms.now) (sorts_in scope.now) (forms ps.now) (terms_in scope.now)))) }
+    ensures { Hands (S.stands sink.old) (S.stands sink.new) result
+        (calls_of (node junction
+        (instances (symbols signature.now) (numbering (symbols signature.now) terms.now) (sorts_in scope.now)
+        (forms ps.now) (terms_in scope.now)))) }
 {
     lists();
     hand_node(sink, junction, ps.len() as u64)?;
@@ -124,7 +132,9 @@ fn expand_each<S: GroundSink>(
     requires in_range { InRange (term_counts terms.now) (sorts_in scope.now) (terms_in scope.now) }
     requires sort { sort.0 < signature.now.sorts }
     requires known { IsGroundable (symbols signature.now) (sort.0 ∷ sorts_in scope.now) (form p.now) }
-    ensures { Hands (S.stands sink.old) (S.stands sink.new) result (calls_of (instance (symbols signature.now) (numbering (symbols signature.now) terms.now) (sorts_in scope.now) (for_all sort.0 (form p.now)) (terms_in scope.now))) }
+    ensures { Hands (S.stands sink.old) (S.stands sink.new) result
+        (calls_of (instance (symbols signature.now) (numbering (symbols signature.now) terms.now) (sorts_in scope.now)
+        (for_all sort.0 (form p.now)) (terms_in scope.now))) }
 {
     let count = terms.counts()[sort.0 as usize];
     hand_node(sink, Junction::And, count as u64)?;

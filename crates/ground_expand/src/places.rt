@@ -23,7 +23,8 @@ pub fn atom(alloc: Global, signature: &Signature, terms: &Terms, p: &Formula, sc
     requires closed { AreClosed (symbols signature.now) terms.now }
     requires in_range { InRange (term_counts terms.now) (sorts_in scope.now) (terms_in scope.now) }
     requires known { IsGroundableAtom (symbols signature.now) (sorts_in scope.now) (form p.now) }
-    ensures { (positive : Bool) → literal result positive ≡ literal_at (symbols signature.now) (numbering (symbols signature.now) terms.now) (sorts_in scope.now) (form p.now) (terms_in scope.now) positive }
+    ensures { (positive : Bool) → literal result positive ≡ literal_at (symbols signature.now)
+        (numbering (symbols signature.now) terms.now) (sorts_in scope.now) (form p.now) (terms_in scope.now) positive }
 {
     match p {
         Formula::Rel(r, args) => Atom::Rel(*r, places(alloc, signature, terms, args, scope)),
@@ -53,7 +54,8 @@ fn place(alloc: Global, signature: &Signature, terms: &Terms, t: &Term, scope: &
     requires closed { AreClosed (symbols signature.now) terms.now }
     requires in_range { InRange (term_counts terms.now) (sorts_in scope.now) (terms_in scope.now) }
     requires known { IsGroundableTerm (symbols signature.now) (sorts_in scope.now) (term_view t.now) }
-    ensures { result ≡ place_of_term (numbering (symbols signature.now) terms.now) (term_view t.now) (terms_in scope.now) }
+    ensures { result ≡ place_of_term (numbering (symbols signature.now) terms.now) (term_view t.now)
+        (terms_in scope.now) }
 {
     match t {
         Term::Bound(i) => term_at(scope, *i),
@@ -75,9 +77,12 @@ fn application(
     requires in_range { InRange (term_counts terms.now) (sorts_in scope.now) (terms_in scope.now) }
     requires function { function.0 < length signature.now.functions }
     requires few { size_of (terms_view arguments.now) ≤ 8 }
-    requires fits { FitsTerms (symbols signature.now) (sorts_in scope.now) (terms_view arguments.now) ((symbols signature.now).from_of function.0) }
+    requires fits { FitsTerms (symbols signature.now) (sorts_in scope.now) (terms_view arguments.now)
+        ((symbols signature.now).from_of function.0) }
     requires known { AreGroundableTerms (symbols signature.now) (sorts_in scope.now) (terms_view arguments.now) }
-    ensures { result ≡ (numbering (symbols signature.now) terms.now).place function.0 (places_of_terms (numbering (symbols signature.now) terms.now) (terms_view arguments.now) (terms_in scope.now)) }
+    ensures { result ≡ (numbering (symbols signature.now) terms.now).place function.0
+        (places_of_terms (numbering (symbols signature.now) terms.now) (terms_view arguments.now)
+        (terms_in scope.now)) }
 {
     range_laws();
     place_laws();
@@ -92,7 +97,8 @@ fn places(alloc: Global, signature: &Signature, terms: &Terms, ts: &[Term], scop
     requires in_range { InRange (term_counts terms.now) (sorts_in scope.now) (terms_in scope.now) }
     requires few { size_of (terms_view ts.now) ≤ 8 }
     requires known { AreGroundableTerms (symbols signature.now) (sorts_in scope.now) (terms_view ts.now) }
-    ensures { result ≡ places_of_terms (numbering (symbols signature.now) terms.now) (terms_view ts.now) (terms_in scope.now) }
+    ensures { result ≡ places_of_terms (numbering (symbols signature.now) terms.now) (terms_view ts.now)
+        (terms_in scope.now) }
 {
     let mut all = Tuple::new(alloc);
     for t in ts {

@@ -1,5 +1,6 @@
 -- Where the atoms of each relation and each sort begin.
-use Rattle.std.proofs.Common.{◌≡◌, ℕ, suc, ◌+◌, ◌*◌, ◌<◌, ◌^◌, All, List, [], ◌∷◌, ◌++◌, length, get_or, min, ap, subst, arith}
+use Rattle.std.proofs.Common.{◌≡◌, ℕ, suc, ◌+◌, ◌*◌, ◌<◌, ◌^◌, All, List, [], ◌∷◌, ◌++◌, length, get_or, min, ap, subst}
+use Rattle.std.proofs.Common.{arith}
 use Rattle.std.proofs.lemmas.List.{get_or-map, length-map}
 use Rattle.fol_sig.specs.declared.Sort.{Sort}
 use Rattle.fol_sig.specs.Tables.{numbers}
@@ -14,7 +15,8 @@ use Rattle.ground_terms.proofs.Pushes.{AreValues, values-more}
 pub sum-more : (f : ℕ → ℕ) (r most before count : ℕ) → before ≡ min (sum_below r f) most → count ≡ min (f r) most
     → min (before + count) most ≡ min (sum_below (r + 1) f) most
 sum-more f r most before count b n =
-    let next : sum_below (r + 1) f ≡ sum_below r f + f r = ap (λ m. sum_below m f) (let e : r + 1 ≡ suc r = omega arith in e) in
+    let next : sum_below (r + 1) f ≡ sum_below r f + f r =
+    ap (λ m. sum_below m f) (let e : r + 1 ≡ suc r = omega arith in e) in
     omega (arith, b, n, next)
 
 pub one-first : (g : ℕ → ℕ) (xs : List ℕ) → xs ≡ [] → (x : ℕ) (ys : List ℕ) → ys ≡ xs ++ x ∷ [] → x ≡ g 0

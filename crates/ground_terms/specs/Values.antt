@@ -36,7 +36,8 @@ term_values sig lists order s = values_in_order sig lists s order (λ k i. 0)
 
 -- each term of the lists has the value that its arguments' values give it
 abbrev pub AreValues : Symbols → Lists → Tables → Elements → Type 0
-AreValues sig lists s v = (k x : ℕ) → k < sig.sorts → x < slice_index (term_counts lists) k → v k x ≡ value_of_term sig (reading s) v (term_at lists k x)
+AreValues sig lists s v = (k x : ℕ) → k < sig.sorts → x < slice_index (term_counts lists) k
+    → v k x ≡ value_of_term sig (reading s) v (term_at lists k x)
 
 -- the truth of each ground atom in a structure where the terms have these values
 abbrev pub atoms_in : Symbols → Reading → Elements → Atom → Bool
@@ -46,13 +47,17 @@ atoms_in sig s v (Eq k x y) = v k.0 x == v k.0 y
 -- these elements are the values of the terms in the structure, and each atom is true there as assigned
 pub record Realises (sig : Symbols) (names : Numbering) (a : Atom → Bool) (s : Tables) (v : Elements) : Type 0 where
   pub within : (k x : ℕ) → k < sig.sorts → x < slice_index names.counts k → v k x < slice_index s.sizes k
-  pub applied : (f : ℕ) (xs : List ℕ) → f < sig.functions → InRange names.counts (sig.from_of f) xs → v (sig.into_of f) (names.place f xs) ≡ (reading s).fun f (elements_of v (sig.from_of f) xs)
-  pub related : (r : RelId) (xs : List ℕ) → r.0 < sig.relations → InRange names.counts (sig.sorts_of r.0) xs → a (Rel r xs) ≡ (reading s).rel r.0 (elements_of v (sig.sorts_of r.0) xs)
-  pub equal : (k : Sort) (x y : ℕ) → k.0 < sig.sorts → x < slice_index names.counts k.0 → y < slice_index names.counts k.0 → a (Eq k x y) ≡ (v k.0 x == v k.0 y)
+  pub applied : (f : ℕ) (xs : List ℕ) → f < sig.functions → InRange names.counts (sig.from_of f) xs
+      → v (sig.into_of f) (names.place f xs) ≡ (reading s).fun f (elements_of v (sig.from_of f) xs)
+  pub related : (r : RelId) (xs : List ℕ) → r.0 < sig.relations → InRange names.counts (sig.sorts_of r.0) xs
+      → a (Rel r xs) ≡ (reading s).rel r.0 (elements_of v (sig.sorts_of r.0) xs)
+  pub equal : (k : Sort) (x y : ℕ) → k.0 < sig.sorts → x < slice_index names.counts k.0
+      → y < slice_index names.counts k.0 → a (Eq k x y) ≡ (v k.0 x == v k.0 y)
 
 -- each element is the value of a term
 abbrev pub IsOnto : Symbols → Numbering → Tables → Elements → Type 0
-IsOnto sig names s v = (k c : ℕ) → k < sig.sorts → c < slice_index s.sizes k → (x : ℕ) × (x < slice_index names.counts k) × (v k x ≡ c)
+IsOnto sig names s v =
+    (k c : ℕ) → k < sig.sorts → c < slice_index s.sizes k → (x : ℕ) × (x < slice_index names.counts k) × (v k x ≡ c)
 
 -- in a structure that has the symbols each term has a value, and these values realise what is true there
 pub record HasValues (sig : Symbols) (lists : Lists) (s : Tables) (v : Elements) : Type 0 where

@@ -1,5 +1,6 @@
 // The numbers of atoms, by which what is kept for each atom lies in a row and is found without a search.
-ghost use Rattle.std.specs.Prelude.{◌≡◌, ◌<◌, ◌≤◌, ◌^◌, ◌+◌, ◌*◌, ℕ, All, IfOk, IfSome, None, IsTrue, ◌↔◌, length, slice_index};
+ghost use Rattle.std.specs.Prelude.{◌≡◌, ◌<◌, ◌≤◌, ◌^◌, ◌+◌, ◌*◌, ℕ, All, IfOk, IfSome, None, IsTrue, ◌↔◌, length};
+ghost use Rattle.std.specs.Prelude.{slice_index};
 ghost use Rattle.fol_sig.specs.Symbols.{symbols};
 ghost use Rattle.fol_sig.specs.Tables.{InRange, numbers};
 ghost use Rattle.ground_terms.specs.declared.atom.Atom.TheVariants.{Rel};
@@ -34,7 +35,8 @@ impl Model for AtomNumbers {
     ghost view = { λ n. record { signature = n.signature; counts = n.counts.items } };
 
     ghost invariant = { λ n.
-        AreFirsts (record { signature = n.signature; counts = n.counts.items }) n.relations.items n.equations.items n.few };
+        AreFirsts (record { signature = n.signature; counts = n.counts.items }) n.relations.items n.equations.items
+        n.few };
 }
 
 impl AtomNumbers {

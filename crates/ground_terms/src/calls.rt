@@ -9,7 +9,8 @@ use base::Mem;
 /// Calls a sink for a formula.
 #[cycle(feed)]
 pub fn feed<S: GroundSink>(sink: &mut S, formula: &Ground) -> Mem<()>
-    ensures { OnOk result ((calls : List Call) → S.stands sink.old calls → S.stands sink.new (calls ++ calls_of (tree formula.now))) }
+    ensures { OnOk result ((calls : List Call) → S.stands sink.old calls
+        → S.stands sink.new (calls ++ calls_of (tree formula.now))) }
 {
     match formula {
         Ground::Literal(atom, positive) => {
@@ -32,7 +33,8 @@ pub fn feed<S: GroundSink>(sink: &mut S, formula: &Ground) -> Mem<()>
 /// Calls a sink for formulas.
 #[cycle(feed)]
 pub fn feed_all<S: GroundSink>(sink: &mut S, formulas: &[Ground]) -> Mem<()>
-    ensures { OnOk result ((calls : List Call) → S.stands sink.old calls → S.stands sink.new (calls ++ calls_of_all (trees formulas.now))) }
+    ensures { OnOk result ((calls : List Call) → S.stands sink.old calls
+        → S.stands sink.new (calls ++ calls_of_all (trees formulas.now))) }
 {
     for formula in formulas {
         feed(sink, formula)?;

@@ -13,14 +13,17 @@ pub trait GroundSink {
     ghost stands: { Self → List Call → Type 0 };
 
     fn and(&mut self, parts: u64) -> Mem<()>
-        ensures taken { OnOk result ((calls : List Call) → stands self.old calls → stands self.new (calls ++ a_node And parts ∷ [])) }
+        ensures taken { OnOk result ((calls : List Call) → stands self.old calls
+            → stands self.new (calls ++ a_node And parts ∷ [])) }
         ensures refused { OnErr result ((calls : List Call) → stands self.old calls → stands self.new calls) };
 
     fn or(&mut self, parts: u64) -> Mem<()>
-        ensures taken { OnOk result ((calls : List Call) → stands self.old calls → stands self.new (calls ++ a_node Or parts ∷ [])) }
+        ensures taken { OnOk result ((calls : List Call) → stands self.old calls
+            → stands self.new (calls ++ a_node Or parts ∷ [])) }
         ensures refused { OnErr result ((calls : List Call) → stands self.old calls → stands self.new calls) };
 
     fn literal(&mut self, atom: Atom, positive: bool) -> Mem<()>
-        ensures taken { OnOk result ((calls : List Call) → stands self.old calls → stands self.new (calls ++ a_literal atom positive ∷ [])) }
+        ensures taken { OnOk result ((calls : List Call) → stands self.old calls
+            → stands self.new (calls ++ a_literal atom positive ∷ [])) }
         ensures refused { OnErr result ((calls : List Call) → stands self.old calls → stands self.new calls) };
 }

@@ -4,7 +4,9 @@ ghost use Rattle.fol_sig.specs.Symbols.{symbols};
 ghost use Rattle.fol_sig.specs.Strata.{IsStrata};
 ghost use Rattle.fol_sig.specs.Tables.{InRange, tuple_count, place_of, numbers};
 ghost use Rattle.fol_sig.specs.Tuples.{tuples};
-ghost use Rattle.ground_terms.specs.Terms.{AreClosed, StandOnce, term_counts, terms_into, terms_at, term_at, constants_into, applications_into, constant_of, applications_of, application};
+ghost use Rattle.ground_terms.specs.Terms.{AreClosed, StandOnce, term_counts, terms_into, terms_at, term_at};
+ghost use Rattle.ground_terms.specs.Terms.{constants_into, applications_into, constant_of, applications_of};
+ghost use Rattle.ground_terms.specs.Terms.{application};
 ghost use Rattle.ground_terms.specs.TermCounts.{AreCounts, HasFewTerms};
 ghost use Rattle.ground_terms.specs.Numberings.{numbering, first_place, place_where, is_of, AreFirsts, IsPlaced};
 ghost use Rattle.ground_terms.specs.TermViews.{plain_term};
@@ -43,7 +45,8 @@ impl Model for Terms {
 
     ghost view = { λ s. map (λ v. map plain_term v.items) s.lists.items };
 
-    ghost invariant = { λ s. (s.counts.items ≡ term_counts (map (λ v. map plain_term v.items) s.lists.items)) × AreFirsts (map (λ v. map plain_term v.items) s.lists.items) s.firsts.items };
+    ghost invariant = { λ s. (s.counts.items ≡ term_counts (map (λ v. map plain_term v.items) s.lists.items))
+        × AreFirsts (map (λ v. map plain_term v.items) s.lists.items) s.firsts.items };
 }
 
 impl Terms {
@@ -110,7 +113,8 @@ fn place_in(
     requires sorted { All (λ k. k < length counts.now) (numbers sorts.now) }
     requires in_range { InRange counts.now (numbers sorts.now) arguments.now }
     requires known { function.0 < length firsts.now }
-    requires room { (k : ℕ) × (slice_index firsts.now function.0 + tuple_count counts.now (numbers sorts.now) ≤ slice_index counts.now k) }
+    requires room { (k : ℕ)
+        × (slice_index firsts.now function.0 + tuple_count counts.now (numbers sorts.now) ≤ slice_index counts.now k) }
     ensures { result ≡ slice_index firsts.now function.0 + place_of counts.now (numbers sorts.now) arguments.now }
 {
     firsts[function.0 as usize] + number_of_tuple(counts, sorts, arguments) as u32
@@ -124,8 +128,10 @@ fn closed_lists(
 ) -> Mem<(Vec<Vec<GroundTerm>>, Vec<u32>)>
     requires strata { IsStrata (symbols signature.now) strata.now }
     requires few { HasFewTerms (symbols signature.now) }
-    ensures closed { IfOk result (λ made. AreClosed (symbols signature.now) (map (λ v. map plain_term v.items) made.0.items)) }
-    ensures counted { IfOk result (λ made. made.1.items ≡ term_counts (map (λ v. map plain_term v.items) made.0.items)) }
+    ensures closed { IfOk result
+        (λ made. AreClosed (symbols signature.now) (map (λ v. map plain_term v.items) made.0.items)) }
+    ensures counted { IfOk result
+        (λ made. made.1.items ≡ term_counts (map (λ v. map plain_term v.items) made.0.items)) }
 {
     tuple_laws();
     let mut lists = Vec::new(alloc);
@@ -167,7 +173,8 @@ fn push_constants(
     sort: Sort,
     all: &mut Vec<GroundTerm>,
 ) -> Mem<()>
-    ensures { IfOk result (λ _. map plain_term all.new.items ≡ map plain_term all.old.items ++ constants_into (symbols signature.now) sort.0) }
+    ensures { IfOk result (λ _. map plain_term all.new.items ≡ map plain_term all.old.items
+        ++ constants_into (symbols signature.now) sort.0) }
 {
     for f in 0..signature.function_count() {
         push_constant(alloc, signature, sort, FunId(f), all)?;
@@ -183,7 +190,8 @@ fn push_constant(
     all: &mut Vec<GroundTerm>,
 ) -> Mem<()>
     requires { function.0 < length signature.now.functions }
-    ensures { IfOk result (λ _. map plain_term all.new.items ≡ map plain_term all.old.items ++ constant_of (symbols signature.now) sort.0 function.0) }
+    ensures { IfOk result (λ _. map plain_term all.new.items ≡ map plain_term all.old.items
+        ++ constant_of (symbols signature.now) sort.0 function.0) }
 {
     if signature.into_of(function).0 == sort.0 && signature.from_of(function).is_empty() {
         all.push(GroundTerm::App(function, Tuple::new(alloc)))?;
@@ -200,7 +208,8 @@ fn push_applications(
 ) -> Mem<()>
     requires each { length counts.now ≡ signature.now.sorts }
     requires few { length (terms_into (symbols signature.now) counts.now sort.0) < 2 ^ 32 }
-    ensures { IfOk result (λ _. map plain_term all.new.items ≡ map plain_term all.old.items ++ applications_into (symbols signature.now) counts.now sort.0) }
+    ensures { IfOk result (λ _. map plain_term all.new.items ≡ map plain_term all.old.items
+        ++ applications_into (symbols signature.now) counts.now sort.0) }
 {
     for f in 0..signature.function_count() {
         push_applications_of(alloc, signature, counts, sort, FunId(f), all)?;
@@ -219,7 +228,8 @@ fn push_applications_of(
     requires each { length counts.now ≡ signature.now.sorts }
     requires known { function.0 < length signature.now.functions }
     requires few { length (terms_into (symbols signature.now) counts.now sort.0) < 2 ^ 32 }
-    ensures { IfOk result (λ _. map plain_term all.new.items ≡ map plain_term all.old.items ++ applications_of (symbols signature.now) counts.now sort.0 function.0) }
+    ensures { IfOk result (λ _. map plain_term all.new.items ≡ map plain_term all.old.items
+        ++ applications_of (symbols signature.now) counts.now sort.0 function.0) }
 {
     tuple_laws();
     let _sorts = signature.sorts();
@@ -241,7 +251,8 @@ fn push_each(
     requires sorted { All (λ k. k < length counts.now) (numbers sorts.now) }
     requires short { length sorts.now ≤ 8 }
     requires few { tuple_count counts.now (numbers sorts.now) < 2 ^ 32 }
-    ensures { IfOk result (λ _. map plain_term all.new.items ≡ map plain_term all.old.items ++ map (application function.0) (tuples counts.now (numbers sorts.now))) }
+    ensures { IfOk result (λ _. map plain_term all.new.items ≡ map plain_term all.old.items
+        ++ map (application function.0) (tuples counts.now (numbers sorts.now))) }
 {
     tuple_laws();
     for number in 0..count_tuples(counts, sorts) {

@@ -1,6 +1,7 @@
 // Files and a sink in memory, which fail at the calls that they are told.
 ghost use Rattle.std.specs.Prelude.{◌≡◌, ◌⊎◌, List, [], ℕ, IfOk, IsTrue, IsErrOf, is_err, MatchOption, Some};
-ghost use Rattle.rml_bytes.specs.Memory.{NamesDiffer, IncreaseAbove, new_shelf, told_by, fails_next, called, new_slot, fault_at, after_put, put_fails, firsts};
+ghost use Rattle.rml_bytes.specs.Memory.{NamesDiffer, IncreaseAbove, new_shelf, told_by, fails_next, called, new_slot};
+ghost use Rattle.rml_bytes.specs.Memory.{fault_at, after_put, put_fails, firsts};
 ghost use Rattle.rml_bytes.specs.Outside.{Told, Loads, Takes, HasCause, absent, whole};
 
 use crate::{Bytes, Failed, FileName, Files, LoadError, Sink};
@@ -22,7 +23,12 @@ impl Model for MemFiles {
 
     ghost Value = { Shelf };
 
-    ghost view = { λ m. record { files = m.files.items; failing = m.failing.items; calls = m.calls; faults = m.faults } };
+    ghost view = { λ m. record {
+      files = m.files.items;
+      failing = m.failing.items;
+      calls = m.calls;
+      faults = m.faults;
+    } };
 }
 
 impl MemFiles {
@@ -76,12 +82,14 @@ impl Files for MemFiles {
 
     fn load(&mut self, name: &str, limit: u64, into: &mut Vec<u8>) -> Result<(), LoadError>
         ensures same { (n : List ℕ) → told_by self.new.files n ≡ told_by self.old.files n }
-        ensures loads { Loads (told_by self.old.files name.now) limit self.old.faults self.new.faults into.old.items into.new.items result }
+        ensures loads { Loads (told_by self.old.files name.now) limit self.old.faults self.new.faults into.old.items
+            into.new.items result }
 
         // It fails at the calls that are to fail, and at a name that it doesn't hold.
         ensures state { self.new ≡ called self.old (fails_next self.old) }
         ensures fails { IsTrue (fails_next self.old) → IsErrOf result LoadError.Failed }
-        ensures failed { IsErrOf result LoadError.Failed → IsTrue (fails_next self.old) ⊎ (told_by self.old.files name.now ≡ absent) }
+        ensures failed { IsErrOf result LoadError.Failed → IsTrue (fails_next self.old)
+            ⊎ (told_by self.old.files name.now ≡ absent) }
     {
         self.calls = self.calls.saturating_add(1);
         if self.failing.contains(&self.calls) {
@@ -111,7 +119,13 @@ impl Model for MemSink {
 
     ghost Value = { Slot };
 
-    ghost view = { λ m. record { taken = m.taken.items; room = m.room; failing = m.failing.items; calls = m.calls; faults = m.faults } };
+    ghost view = { λ m. record {
+      taken = m.taken.items;
+      room = m.room;
+      failing = m.failing.items;
+      calls = m.calls;
+      faults = m.faults;
+    } };
 
     ghost invariant = { λ m. (length m.taken.items ≤ m.room) × (m.room ≤ vec_capacity m.taken) };
 }

@@ -47,7 +47,8 @@ pub trait Files {
     /// Adds the whole file of at most `limit` bytes behind what stands in `into`, or says why not.
     fn load(&mut self, name: &str, limit: u64, into: &mut Vec<u8>) -> Result<(), LoadError>
         ensures same { (n : List ℕ) → told self.new n ≡ told self.old n }
-        ensures loads { Loads (told self.old name.now) limit (faults self.old) (faults self.new) into.old.items into.new.items result };
+        ensures loads { Loads (told self.old name.now) limit (faults self.old) (faults self.new) into.old.items
+            into.new.items result };
 }
 
 /// What takes bytes, piece by piece.

@@ -15,11 +15,15 @@ start_text i = numbered (codes "; r") i (codes "(x) := false")
 
 -- an element goes over from the relation before
 unfoldable pub action_text : ℕ → List ℕ
-action_text i = numbered (codes "action a") i (codes " { v := *; assume r") ++ numbered [] (i - 1) (codes "(v); insert r") ++ numbered [] i (codes "(v) }\n")
+action_text i =
+    numbered (codes "action a") i (codes " { v := *; assume r") ++ numbered [] (i - 1) (codes "(v); insert r")
+    ++ numbered [] i (codes "(v) }\n")
 
 -- a relation is contained in the one before
 unfoldable pub conjecture_text : ℕ → List ℕ
-conjecture_text i = numbered (codes "conjecture c") i (codes ": forall x:node. r") ++ numbered [] i (codes "(x) -> r") ++ numbered [] (i - 1) (codes "(x)\n")
+conjecture_text i =
+    numbered (codes "conjecture c") i (codes ": forall x:node. r") ++ numbered [] i (codes "(x) -> r")
+    ++ numbered [] (i - 1) (codes "(x)\n")
 
 -- only relations are numbered from 0
 abbrev pub IsThere : Piece → ℕ → Type 0

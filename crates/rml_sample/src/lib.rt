@@ -1,5 +1,5 @@
-//! A model of any size that is inductive: a chain of relations, each of which holds only where the one before it does. Its
-//! text serves to measure the checker.
+//! A model of any size that is inductive: a chain of relations, each of which holds only where the one before it does.
+//! Its text serves to measure the checker.
 #![tactic(auto)]
 
 mod pushing;

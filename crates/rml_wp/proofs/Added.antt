@@ -21,7 +21,8 @@ use Rattle.rml_wp.proofs.Counterexamples.{target-ae}
 use Rattle.rml_wp.proofs.Fragment.{all-ea}
 use Rattle.rml_wp.proofs.Closed.{universal-ea, all-chosen}
 
-each_part : (P : FormTree → Type 0) (st : Stage) (a i n : FormTree) (more : List FormTree) → P a → P i → P (negation n) → AllByRecursion P more → AllByRecursion P ((parts_before st a i ++ negation n ∷ []) ++ more)
+each_part : (P : FormTree → Type 0) (st : Stage) (a i n : FormTree) (more : List FormTree) → P a → P i → P (negation n)
+    → AllByRecursion P more → AllByRecursion P ((parts_before st a i ++ negation n ∷ []) ++ more)
 each_part P stage.Init a i n more h g k rest = (h, (k, rest))
 each_part P (stage.Action _) a i n more h g k rest = (h, (g, (k, rest)))
 each_part P stage.Final a i n more h g k rest = (h, (g, (k, rest)))
@@ -45,11 +46,19 @@ sentences_fit laws m held more goal checked g added =
     let path = laws.goals.symbols_fit m goal p f is_path in
     let t = target-fits m goal.about f has in
     let pre = goal_precondition m goal in
-    let ae : IsAe pre = laws.stays sig m.axioms target p f.axioms t path checked.fragment.axioms (target-ae laws.universal_ae m goal.about checked.fragment.conjectures has) (laws.goals.in_fragment m goal p checked is_path) in
+    let ae : IsAe pre =
+    laws.stays sig m.axioms target p f.axioms t path checked.fragment.axioms
+    (target-ae laws.universal_ae m goal.about checked.fragment.conjectures has)
+    (laws.goals.in_fragment m goal p checked is_path) in
     let fit : FitsForm sig [] pre = precondition-fits laws.replaces sig m.axioms target p f.axioms t path in
     let whole = refuting_all m held more goal in
-    let ea : IsEa whole = all-ea _ (each_part IsEa goal.stage (all_of m.axioms) (all_of held) pre more (all-ea m.axioms checked.fragment.axioms) (universal-ea laws.universal held added.universal) ae added.others) in
-    let all : FitsForm sig [] whole = all_fit sig _ (each_part (FitsForm sig []) goal.stage (all_of m.axioms) (all_of held) pre more (all_fit sig m.axioms f.axioms) (all_fit sig held added.universal_fit) fit added.others_fit) in
+    let ea : IsEa whole =
+    all-ea _ (each_part IsEa goal.stage (all_of m.axioms) (all_of held) pre more
+    (all-ea m.axioms checked.fragment.axioms) (universal-ea laws.universal held added.universal) ae
+    added.others) in
+    let all : FitsForm sig [] whole =
+    all_fit sig _ (each_part (FitsForm sig []) goal.stage (all_of m.axioms) (all_of held) pre more
+    (all_fit sig m.axioms f.axioms) (all_fit sig held added.universal_fit) fit added.others_fit) in
     record { fragment = ea; fits = all }
 
 pub no_parts : NoPartsAreAdded

@@ -6,7 +6,8 @@ use Rattle.rml_command.specs.declared.goal.Stage.TheVariants as stage
 use Rattle.rml_wp.specs.Preconditions.{parts_before}
 use Rattle.rml_wp.specs.Held.{held_at}
 
-pub same-parts : (st : Stage) (lawful held : FormTree) → parts_before st lawful (held_at st held) ≡ parts_before st lawful held
+pub same-parts : (st : Stage) (lawful held : FormTree) → parts_before st lawful (held_at st held)
+    ≡ parts_before st lawful held
 same-parts stage.Init lawful held = refl
 same-parts (stage.Action a) lawful held = refl
 same-parts stage.Final lawful held = refl

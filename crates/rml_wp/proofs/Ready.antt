@@ -1,5 +1,6 @@
 -- What a step back needs, and how the limit is passed on from a rest of a path to the whole.
-use Rattle.std.proofs.Common.{◌≡◌, ℕ, ◌||◌, Bool, true, false, List, [], ◌∷◌, ◌++◌, refl, sym, ap, ◌∙◌, subst, arith, append_assoc, append-nil}
+use Rattle.std.proofs.Common.{◌≡◌, ℕ, ◌||◌, Bool, true, false, List, [], ◌∷◌, ◌++◌, refl, sym, ap, ◌∙◌, subst, arith}
+use Rattle.std.proofs.Common.{append_assoc, append-nil}
 use Rattle.std.specs.Prelude.{IsTrue}
 use Rattle.base.proofs.Lists.{all_back}
 use Rattle.fol_formula.specs.View.{form}
@@ -22,15 +23,20 @@ use Rattle.rml_command.specs.Models.{FitsPrimitive, FitsPath}
 use Rattle.rml_wp.specs.Preconditions.{where_lawful, back_of, precondition_of, passes_limit}
 use Rattle.rml_wp.proofs.StepTruth.{Replaces, lawful-fits, precondition-fits, one_change}
 
-module _ (conditions : ShortListsSuffice) (sig : Symbols) (given axioms : List FormTree) (rest w : FormTree) (fit : AllByRecursion (FitsForm sig []) axioms) (h : FitsForm sig [] rest) (same : given ≡ axioms) (is : w ≡ where_lawful given rest) where
+module _ (conditions : ShortListsSuffice) (sig : Symbols) (given axioms : List FormTree) (rest w : FormTree)
+    (fit : AllByRecursion (FitsForm sig []) axioms) (h : FitsForm sig [] rest) (same : given ≡ axioms)
+    (is : w ≡ where_lawful given rest) where
   pub within_fits : FitsForm sig [] w
-  within_fits = subst (FitsForm sig []) (sym (is ∙ ap (λ a. where_lawful a rest) same)) (lawful-fits sig axioms rest fit h)
+  within_fits =
+      subst (FitsForm sig []) (sym (is ∙ ap (λ a. where_lawful a rest) same)) (lawful-fits sig axioms rest fit h)
 
   pub ready : (c : Change) → CanChange sig [] c → CanReplace w c
   ready c can = conditions sig [] w c within_fits can (omega arith)
 
   pub ready_one : FitsUnderMore → (v : ℕ) → FitsPrimitive sig (havoc v) → CanReplace w (change_const v 0)
-  ready_one under v f = conditions sig (sig.into_of v ∷ []) w (change_const v 0) (under sig w [] (sig.into_of v ∷ []) within_fits) (one_change sig v f) (omega arith)
+  ready_one under v f =
+      conditions sig (sig.into_of v ∷ []) w (change_const v 0) (under sig w [] (sig.into_of v ∷ []) within_fits)
+      (one_change sig v f) (omega arith)
 
 -- the limit, from a rest to the whole
 later : (a b : Bool) → b ≡ true → (a || b) ≡ true
@@ -48,13 +54,16 @@ module _ (sig : Symbols) (axioms : List FormTree) (target : FormTree) where
   limit-end [] e = e
   limit-end (q ∷ qs) e = later (is_too_large (precondition_of sig axioms target (q ∷ qs))) _ (limit-end qs e)
 
-  pub stops_at_end : (given : FormTree) (ps : List PrimitiveTree) (e : Refused FormulaLimit) → given ≡ target → Because (λ x. IsTrue (is_too_large given)) e → Because (Passes ps) e
+  pub stops_at_end : (given : FormTree) (ps : List PrimitiveTree) (e : Refused FormulaLimit) → given ≡ target
+      → Because (λ x. IsTrue (is_too_large given)) e → Because (Passes ps) e
   stops_at_end given ps (For x) same h = limit-end ps (ap is_too_large (sym same) ∙ h)
   stops_at_end given ps NoMemory same h = tt
 
-  limit-append : (front behind : List PrimitiveTree) → passes_limit sig axioms target behind ≡ true → passes_limit sig axioms target (front ++ behind) ≡ true
+  limit-append : (front behind : List PrimitiveTree) → passes_limit sig axioms target behind ≡ true
+      → passes_limit sig axioms target (front ++ behind) ≡ true
   limit-append [] behind e = e
-  limit-append (q ∷ front) behind e = later (is_too_large (precondition_of sig axioms target (q ∷ (front ++ behind)))) _ (limit-append front behind e)
+  limit-append (q ∷ front) behind e =
+      later (is_too_large (precondition_of sig axioms target (q ∷ (front ++ behind)))) _ (limit-append front behind e)
 
   -- a path was gone back as far as these primitives before, and the formula is the precondition of those behind
   pub record IsBack (path before : List PrimitiveTree) (now : Measured) : Type 0 where
@@ -63,18 +72,30 @@ module _ (sig : Symbols) (axioms : List FormTree) (target : FormTree) where
     pub measured : Measures now (precondition_of sig axioms target behind)
     pub small : passes_limit sig axioms target behind ≡ false
 
-  pub at_end : (given : FormTree) (path before : List PrimitiveTree) (now : Measured) → given ≡ target → before ≡ path → Measures now given → IsBack path before now
+  pub at_end : (given : FormTree) (path before : List PrimitiveTree) (now : Measured) → given ≡ target → before ≡ path
+      → Measures now given → IsBack path before now
   at_end given path before now is whole m =
       let measured : Measures now target = subst (Measures now) is m in
-      record { behind = []; split = sym (append-nil path) ∙ ap (λ z. z ++ []) (sym whole); measured = measured; small = measured.small }
+      record {
+        behind = [];
+        split = sym (append-nil path) ∙ ap (λ z. z ++ []) (sym whole);
+        measured = measured;
+        small = measured.small;
+      }
 
-  pub at_start : (path before : List PrimitiveTree) (now : Measured) → before ≡ [] → IsBack path before now → Measures now (precondition_of sig axioms target path)
-  at_start path before now none h = subst (λ p. Measures now (precondition_of sig axioms target p)) (sym (h.split ∙ ap (λ z. z ++ h.behind) none)) h.measured
+  pub at_start : (path before : List PrimitiveTree) (now : Measured) → before ≡ [] → IsBack path before now
+      → Measures now (precondition_of sig axioms target path)
+  at_start path before now none h =
+      subst (λ p. Measures now (precondition_of sig axioms target p)) (sym (h.split ∙ ap (λ z. z ++ h.behind) none))
+      h.measured
 
-  pub within_limit : (path before : List PrimitiveTree) (now : Measured) → before ≡ [] → IsBack path before now → passes_limit sig axioms target path ≡ false
-  within_limit path before now none h = ap (passes_limit sig axioms target) (h.split ∙ ap (λ z. z ++ h.behind) none) ∙ h.small
+  pub within_limit : (path before : List PrimitiveTree) (now : Measured) → before ≡ [] → IsBack path before now
+      → passes_limit sig axioms target path ≡ false
+  within_limit path before now none h =
+      ap (passes_limit sig axioms target) (h.split ∙ ap (λ z. z ++ h.behind) none) ∙ h.small
 
-  module _ (path before rest : List PrimitiveTree) (q : PrimitiveTree) (now : Measured) (step : before ≡ rest ++ q ∷ []) (fits : FitsPath sig path) (h : IsBack path before now) where
+  module _ (path before rest : List PrimitiveTree) (q : PrimitiveTree) (now : Measured) (step : before ≡ rest ++ q ∷ [])
+      (fits : FitsPath sig path) (h : IsBack path before now) where
     whole : path ≡ rest ++ (q ∷ h.behind)
     whole = h.split ∙ ap (λ z. z ++ h.behind) step ∙ append_assoc rest (q ∷ []) h.behind
 
@@ -84,16 +105,28 @@ module _ (sig : Symbols) (axioms : List FormTree) (target : FormTree) where
     pub one-fits : FitsPrimitive sig q
     one-fits = behind-fits.0
 
-    pub formula-fits : Replaces → AllByRecursion (FitsForm sig []) axioms → FitsForm sig [] target → FitsForm sig [] (form now.formula)
-    formula-fits laws a t = subst (FitsForm sig []) (sym h.measured.tree) (precondition-fits laws sig axioms target h.behind a t behind-fits.1)
+    pub formula-fits : Replaces → AllByRecursion (FitsForm sig []) axioms → FitsForm sig [] target
+        → FitsForm sig [] (form now.formula)
+    formula-fits laws a t =
+        subst (FitsForm sig []) (sym h.measured.tree)
+        (precondition-fits laws sig axioms target h.behind a t behind-fits.1)
 
-    pub stops_at : (e : Refused FormulaLimit) → Because (λ x. IsTrue (is_too_large (back_of sig axioms q (form now.formula)))) e → Because (Passes path) e
+    pub stops_at : (e : Refused FormulaLimit)
+        → Because (λ x. IsTrue (is_too_large (back_of sig axioms q (form now.formula)))) e → Because (Passes path) e
     stops_at (For x) large =
-        let passes : is_too_large (precondition_of sig axioms target (q ∷ h.behind)) ≡ true = ap (λ r. is_too_large (back_of sig axioms q r)) (sym h.measured.tree) ∙ large in
-        ap (passes_limit sig axioms target) whole ∙ limit-append rest (q ∷ h.behind) (sooner _ (passes_limit sig axioms target h.behind) passes)
+        let passes : is_too_large (precondition_of sig axioms target (q ∷ h.behind)) ≡ true =
+        ap (λ r. is_too_large (back_of sig axioms q r)) (sym h.measured.tree) ∙ large in
+        ap (passes_limit sig axioms target) whole
+        ∙ limit-append rest (q ∷ h.behind) (sooner _ (passes_limit sig axioms target h.behind) passes)
     stops_at NoMemory large = tt
 
     pub goes_back : (next : Measured) → Measures next (back_of sig axioms q (form now.formula)) → IsBack path rest next
     goes_back next m =
-        let measured : Measures next (precondition_of sig axioms target (q ∷ h.behind)) = subst (λ r. Measures next (back_of sig axioms q r)) h.measured.tree m in
-        record { behind = q ∷ h.behind; split = whole; measured = measured; small = ap (λ b. b || passes_limit sig axioms target h.behind) measured.small ∙ h.small }
+        let measured : Measures next (precondition_of sig axioms target (q ∷ h.behind)) =
+        subst (λ r. Measures next (back_of sig axioms q r)) h.measured.tree m in
+        record {
+          behind = q ∷ h.behind;
+          split = whole;
+          measured = measured;
+          small = ap (λ b. b || passes_limit sig axioms target h.behind) measured.small ∙ h.small;
+        }

@@ -30,11 +30,13 @@ pub record IsRefutingSentence (m : ModelTree) (held more : List FormTree) (goal 
   pub fits : FitsForm (symbols m.signature) [] (refuting_all m held more goal)
 
 abbrev pub RefutingSentencesFit : Type 0
-RefutingSentencesFit = (m : ModelTree) (held more : List FormTree) (goal : Goal) → IsChecked m → IsGoal m goal → AreAdded m held more → IsRefutingSentence m held more goal
+RefutingSentencesFit = (m : ModelTree) (held more : List FormTree) (goal : Goal) → IsChecked m → IsGoal m goal
+    → AreAdded m held more → IsRefutingSentence m held more goal
 
 -- Without further parts it is the refuting sentence.
 abbrev pub NoPartsAreAdded : Type 0
-NoPartsAreAdded = (m : ModelTree) (held : List FormTree) (goal : Goal) → refuting_all m held [] goal ≡ refuting_of m held goal
+NoPartsAreAdded =
+    (m : ModelTree) (held : List FormTree) (goal : Goal) → refuting_all m held [] goal ≡ refuting_of m held goal
 
 -- Conjectures of a checked model may hold in place of all, beside exists-forall sentences of the model.
 pub record AddsConjectures (m : ModelTree) (more : List FormTree) : Type 0 where
@@ -42,4 +44,5 @@ pub record AddsConjectures (m : ModelTree) (more : List FormTree) : Type 0 where
   pub some : (ks : List ℕ) → AreAdded m (conjectures_of m ks) more
 
 abbrev pub ConjecturesAreAdded : Type 0
-ConjecturesAreAdded = (m : ModelTree) (more : List FormTree) → IsChecked m → AllByRecursion IsEa more → AllByRecursion (FitsForm (symbols m.signature) []) more → AddsConjectures m more
+ConjecturesAreAdded = (m : ModelTree) (more : List FormTree) → IsChecked m → AllByRecursion IsEa more
+    → AllByRecursion (FitsForm (symbols m.signature) []) more → AddsConjectures m more

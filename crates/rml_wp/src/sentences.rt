@@ -1,6 +1,7 @@
 // The precondition and the refuting sentence of a goal.
 ghost use Rattle.std.specs.List.{AllByRecursion};
-ghost use Rattle.std.specs.Prelude.{◌≡◌, ◌<◌, ◌++◌, ◌∷◌, [], length, map, false, IfOk, IfErr, OnOk, IsTrue, All, slice_index_or};
+ghost use Rattle.std.specs.Prelude.{◌≡◌, ◌<◌, ◌++◌, ◌∷◌, [], length, map, false, IfOk, IfErr, OnOk, IsTrue, All};
+ghost use Rattle.std.specs.Prelude.{slice_index_or};
 ghost use Rattle.base.specs.Because.{Because};
 ghost use Rattle.fol_formula.specs.View.{form};
 ghost use Rattle.fol_formula.specs.Syntax.{negation, top};
@@ -8,7 +9,8 @@ ghost use Rattle.fol_formula.specs.Fits.{BoundForm};
 ghost use Rattle.fol_formula.specs.Fragments.{IsEa};
 ghost use Rattle.rml_command.specs.Outcomes.{all_of as all_of_them};
 ghost use Rattle.rml_command.specs.Goals.{IsGoal};
-ghost use Rattle.rml_wp.specs.Preconditions.{goal_precondition, goal_passes_limit, conjectures_of, parts_before, refuting_of};
+ghost use Rattle.rml_wp.specs.Preconditions.{goal_precondition, goal_passes_limit, conjectures_of, parts_before};
+ghost use Rattle.rml_wp.specs.Preconditions.{refuting_of};
 ghost use Rattle.rml_wp.specs.Held.{held_at};
 
 use crate::laws::fragment_law;
@@ -118,7 +120,9 @@ fn with_allowed(
     requires axioms { AllByRecursion IsEa model.now.axioms }
     requires held { IsEa (form held) }
     requires bound { BoundForm 0 (form held) }
-    ensures { IfOk result (λ f. f ≡ all_of_them (parts_before stage (all_of_them model.now.axioms) (form held) ++ negation precondition ∷ [])) }
+    ensures { IfOk result
+        (λ f. f ≡ all_of_them (parts_before stage (all_of_them model.now.axioms) (form held) ++ negation precondition
+        ∷ [])) }
 {
     fol_formula::indices();
     let axioms = model.axioms();
@@ -136,7 +140,9 @@ fn conjoined(
     stage: Stage,
     precondition: Formula,
 ) -> Mem<Formula>
-    ensures { IfOk result (λ f. form f ≡ all_of_them (parts_before stage (form lawful) (form held) ++ negation (form precondition) ∷ [])) }
+    ensures { IfOk result
+        (λ f. form f
+        ≡ all_of_them (parts_before stage (form lawful) (form held) ++ negation (form precondition) ∷ [])) }
 {
     let mut parts = Vec::new(alloc);
     parts.push(lawful)?;

@@ -12,7 +12,8 @@ ghost use Rattle.rml_command.specs.Trees.{set_rel, set_fun, havoc};
 ghost use Rattle.rml_command.specs.View.{primitive as primitive_view};
 ghost use Rattle.rml_command.specs.Models.{FitsPrimitive, FitsPath};
 ghost use Rattle.rml_command.specs.Outcomes.{all_of as all_of_them};
-ghost use Rattle.rml_wp.specs.Preconditions.{back_of, precondition_of, passes_limit, target_of, where_lawful as where_lawful_of};
+ghost use Rattle.rml_wp.specs.Preconditions.{back_of, precondition_of, passes_limit, target_of};
+ghost use Rattle.rml_wp.specs.Preconditions.{where_lawful as where_lawful_of};
 ghost use Rattle.rml_wp.specs.Laws.{HasTarget};
 ghost use Rattle.rml_wp.specs.Measures.{Measures};
 
@@ -33,9 +34,14 @@ pub fn along(
 ) -> Result<Measured, Refused<FormulaLimit>>
     requires about { HasTarget model.now about }
     requires path { FitsPath (symbols model.now.signature) path.now }
-    ensures precondition { IfOk result (λ m. Measures m (precondition_of (symbols model.now.signature) model.now.axioms (target_of model.now about) path.now)) }
-    ensures within { OnOk result (passes_limit (symbols model.now.signature) model.now.axioms (target_of model.now about) path.now ≡ false) }
-    ensures limit { IfErr result (Because (λ _. IsTrue (passes_limit (symbols model.now.signature) model.now.axioms (target_of model.now about) path.now))) }
+    ensures precondition { IfOk result
+        (λ m. Measures m
+        (precondition_of (symbols model.now.signature) model.now.axioms (target_of model.now about) path.now)) }
+    ensures within { OnOk result
+        (passes_limit (symbols model.now.signature) model.now.axioms (target_of model.now about) path.now ≡ false) }
+    ensures limit { IfErr result
+        (Because (λ _. IsTrue
+        (passes_limit (symbols model.now.signature) model.now.axioms (target_of model.now about) path.now))) }
 {
     fol_subst::exactness();
     fol_formula::indices();
@@ -77,8 +83,13 @@ fn step_back(
     requires primitive { FitsPrimitive (symbols model.now.signature) (primitive_view primitive.now) }
     requires rest { FitsForm (symbols model.now.signature) [] (form rest.formula) }
     requires counted { Measures rest (form rest.formula) }
-    ensures back { IfOk result (λ m. Measures m (back_of (symbols model.now.signature) model.now.axioms (primitive_view primitive.now) (form rest.formula))) }
-    ensures limit { IfErr result (Because (λ _. IsTrue (is_too_large (back_of (symbols model.now.signature) model.now.axioms (primitive_view primitive.now) (form rest.formula))))) }
+    ensures back { IfOk result
+        (λ m. Measures m
+        (back_of (symbols model.now.signature) model.now.axioms (primitive_view primitive.now) (form rest.formula))) }
+    ensures limit { IfErr result
+        (Because (λ _. IsTrue
+        (is_too_large
+        (back_of (symbols model.now.signature) model.now.axioms (primitive_view primitive.now) (form rest.formula))))) }
 {
     match primitive {
         Primitive::Assume(sentence) => before_assumption(alloc, sentence, rest),
@@ -117,8 +128,13 @@ fn before_set_rel(
 ) -> Result<Measured, Refused<FormulaLimit>>
     requires primitive { FitsPrimitive (symbols model.now.signature) (set_rel rel.0 (form by.now)) }
     requires rest { FitsForm (symbols model.now.signature) [] (form rest) }
-    ensures back { IfOk result (λ m. Measures m (changed_form (change_rel rel.0 (form by.now)) 0 (where_lawful_of model.now.axioms (form rest)))) }
-    ensures limit { IfErr result (Because (λ _. IsTrue (is_too_large (changed_form (change_rel rel.0 (form by.now)) 0 (where_lawful_of model.now.axioms (form rest)))))) }
+    ensures back { IfOk result
+        (λ m. Measures m
+        (changed_form (change_rel rel.0 (form by.now)) 0 (where_lawful_of model.now.axioms (form rest)))) }
+    ensures limit { IfErr result
+        (Because (λ _. IsTrue
+        (is_too_large
+        (changed_form (change_rel rel.0 (form by.now)) 0 (where_lawful_of model.now.axioms (form rest)))))) }
 {
     fol_subst::conditions();
     let axioms = model.axioms();
@@ -136,8 +152,13 @@ fn before_set_fun(
 ) -> Result<Measured, Refused<FormulaLimit>>
     requires primitive { FitsPrimitive (symbols model.now.signature) (set_fun fun.0 (term by.now)) }
     requires rest { FitsForm (symbols model.now.signature) [] (form rest) }
-    ensures back { IfOk result (λ m. Measures m (changed_form (change_fun fun.0 (term by.now)) 0 (where_lawful_of model.now.axioms (form rest)))) }
-    ensures limit { IfErr result (Because (λ _. IsTrue (is_too_large (changed_form (change_fun fun.0 (term by.now)) 0 (where_lawful_of model.now.axioms (form rest)))))) }
+    ensures back { IfOk result
+        (λ m. Measures m
+        (changed_form (change_fun fun.0 (term by.now)) 0 (where_lawful_of model.now.axioms (form rest)))) }
+    ensures limit { IfErr result
+        (Because (λ _. IsTrue
+        (is_too_large
+        (changed_form (change_fun fun.0 (term by.now)) 0 (where_lawful_of model.now.axioms (form rest)))))) }
 {
     fol_subst::conditions();
     let axioms = model.axioms();
@@ -156,8 +177,13 @@ fn before_havoc(
     requires primitive { FitsPrimitive (symbols model.now.signature) (havoc variable.0) }
     requires rest { FitsForm (symbols model.now.signature) [] (form rest.formula) }
     requires counted { Measures rest (form rest.formula) }
-    ensures back { IfOk result (λ m. Measures m (back_of (symbols model.now.signature) model.now.axioms (havoc variable.0) (form rest.formula))) }
-    ensures limit { IfErr result (Because (λ _. IsTrue (is_too_large (back_of (symbols model.now.signature) model.now.axioms (havoc variable.0) (form rest.formula))))) }
+    ensures back { IfOk result
+        (λ m. Measures m
+        (back_of (symbols model.now.signature) model.now.axioms (havoc variable.0) (form rest.formula))) }
+    ensures limit { IfErr result
+        (Because (λ _. IsTrue
+        (is_too_large
+        (back_of (symbols model.now.signature) model.now.axioms (havoc variable.0) (form rest.formula))))) }
 {
     fol_subst::conditions();
     fol_formula::indices();

@@ -36,8 +36,10 @@ pub fn read_witness(
 ) -> Mem<Witness>
     requires { IsGoal checked.now goal.now }
     ensures havoc { IfOk result (λ w. w.havoc ≡ values_at witnesses.now (witness_places checked.now goal.now).havocs) }
-    ensures values { IfOk result (λ w. w.values ≡ values_at witnesses.now (witness_places checked.now goal.now).values) }
-    ensures counterexamples { IfOk result (λ w. GivesCounterexamples checked.now goal.now witnesses.now w.havoc w.values) }
+    ensures values { IfOk result
+        (λ w. w.values ≡ values_at witnesses.now (witness_places checked.now goal.now).values) }
+    ensures counterexamples { IfOk result
+        (λ w. GivesCounterexamples checked.now goal.now witnesses.now w.havoc w.values) }
 {
     witness_law();
     let path = checked.path(goal);

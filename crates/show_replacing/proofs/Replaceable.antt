@@ -21,7 +21,10 @@ sample = record {
 }
 
 grown-fits : (sorts : List ℕ) → FitsForm sample (0 ∷ sorts) grown
-grown-fits sorts = ((omega arith, omega arith, ((omega arith, refl), tt)), ((0, (omega arith, refl), (omega arith, refl, omega arith, tt)), tt))
+grown-fits sorts = (
+  (omega arith, omega arith, ((omega arith, refl), tt)),
+  ((0, (omega arith, refl), (omega arith, refl, omega arith, tt)), tt),
+)
 
 pub relation : (p q : FormTree) → p ≡ grown → q ≡ grown → CanReplace p (change_rel 0 q)
 relation p q e f =
@@ -54,7 +57,10 @@ function p u e f =
       sig = sample;
       sorts = 0 ∷ [];
       within_fits = (0, (omega arith, refl, omega arith, ((omega arith, refl), tt)), (omega arith, refl));
-      change_fits = (omega arith, (omega arith, refl, omega arith, ((omega arith, refl, omega arith, ((omega arith, refl), tt)), tt)));
+      change_fits = (
+        omega arith,
+        (omega arith, refl, omega arith, ((omega arith, refl, omega arith, ((omega arith, refl), tt)), tt)),
+      );
       indices = λ small. (((omega arith, tt), tt), omega arith);
     }))
 

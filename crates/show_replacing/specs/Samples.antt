@@ -1,5 +1,6 @@
 -- The formulas that calls are given.
-use Rattle.fol_formula.specs.Syntax.{FormTree, TermTree, rel, equal, conjunction, disjunction, for_all, for_some, form_then, no_forms, bound, app, term_then, no_terms}
+use Rattle.fol_formula.specs.Syntax.{FormTree, TermTree, rel, equal, conjunction, disjunction, for_all, for_some}
+use Rattle.fol_formula.specs.Syntax.{form_then, no_forms, bound, app, term_then, no_terms}
 
 -- r(x), for the nearest variable x
 abbrev pub atom : FormTree
@@ -27,4 +28,5 @@ fixed_point = equal image (bound 0)
 
 -- (exists x. r(x)) and (exists x. forall y. y = x)
 abbrev pub two_constants : FormTree
-two_constants = conjunction (form_then (for_some 0 atom) (form_then (for_some 0 (for_all 0 (equal (bound 0) (bound 1)))) no_forms))
+two_constants =
+    conjunction (form_then (for_some 0 atom) (form_then (for_some 0 (for_all 0 (equal (bound 0) (bound 1)))) no_forms))

@@ -1,4 +1,5 @@
-//! Prints formulas that others become: with constants in the place of existential quantifiers, and by replacements. What
+//! Prints formulas that others become: with constants in the place of existential quantifiers, and by replacements.
+//! What
 //! `stdout` holds was written down from outside: by hand, from the definitions.
 #![tactic(auto)]
 

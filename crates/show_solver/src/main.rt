@@ -1,6 +1,6 @@
 //! Prints what is answered to formulas in DIMACS and to logs of refutations: read and written again, checked, and
-//! searched for values. What `stdout` holds was written down from outside, by hand from the definitions, but for how many
-//! lines refute the last formula.
+//! searched for values. What `stdout` holds was written down from outside, by hand from the definitions, but for how
+//! many lines refute the last formula.
 #![tactic(auto)]
 
 mod checks;

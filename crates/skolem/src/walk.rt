@@ -24,7 +24,8 @@ pub fn skolem_formula(
     constants: &mut Vec<Sort>,
 ) -> Mem<Formula>
     requires few { functions + length constants.old.items + length (new_sorts (form p.now)) < 2 ^ 32 }
-    ensures tree { IfOk result (λ f. form f ≡ skolem_form (functions + length constants.old.items) (slots scope.now) (form p.now)) }
+    ensures tree { IfOk result
+        (λ f. form f ≡ skolem_form (functions + length constants.old.items) (slots scope.now) (form p.now)) }
     ensures sorts { OnOk result (numbers constants.new.items ≡ numbers constants.old.items ++ new_sorts (form p.now)) }
 {
     match p {
@@ -58,8 +59,11 @@ fn skolem_exists(
     constants: &mut Vec<Sort>,
 ) -> Mem<Formula>
     requires few { functions + length constants.old.items + suc (length (new_sorts (form p.now))) < 2 ^ 32 }
-    ensures tree { IfOk result (λ f. form f ≡ skolem_form (suc (functions + length constants.old.items)) (constant (functions + length constants.old.items) ∷ slots scope.now) (form p.now)) }
-    ensures sorts { OnOk result (numbers constants.new.items ≡ numbers constants.old.items ++ sort.0 ∷ new_sorts (form p.now)) }
+    ensures tree { IfOk result
+        (λ f. form f ≡ skolem_form (suc (functions + length constants.old.items))
+        (constant (functions + length constants.old.items) ∷ slots scope.now) (form p.now)) }
+    ensures sorts { OnOk result (numbers constants.new.items ≡ numbers constants.old.items ++ sort.0
+        ∷ new_sorts (form p.now)) }
 {
     let function = FunId(functions + constants.len() as u32);
     constants.push(sort)?;
@@ -80,8 +84,11 @@ fn skolem_formulas(
     constants: &mut Vec<Sort>,
 ) -> Mem<Vec<Formula>>
     requires few { functions + length constants.old.items + length (all_new_sorts (forms ps.now)) < 2 ^ 32 }
-    ensures tree { IfOk result (λ fs. forms fs.items ≡ skolem_forms (functions + length constants.old.items) (slots scope.now) (forms ps.now)) }
-    ensures sorts { OnOk result (numbers constants.new.items ≡ numbers constants.old.items ++ all_new_sorts (forms ps.now)) }
+    ensures tree { IfOk result
+        (λ fs. forms fs.items ≡ skolem_forms (functions + length constants.old.items) (slots scope.now)
+        (forms ps.now)) }
+    ensures sorts { OnOk result (numbers constants.new.items ≡ numbers constants.old.items
+        ++ all_new_sorts (forms ps.now)) }
 {
     fol_formula::lists();
     let mut all = Vec::with_capacity(alloc, ps.len())?;

@@ -5,8 +5,11 @@ use Rattle.fol_formula.proofs.+nodes.Given as goal
 
 abbrev pub invariant-counts::nodes_of_formulas-loop-p : goal.invariant-counts::nodes_of_formulas-loop-p
 invariant-counts::nodes_of_formulas-loop-p l =
-    (l.sum < 2 ^ 64) × (saturated (l.sum + forms_nodes (forms (drop l.p-index l.formulas))) ≡ saturated (forms_nodes (forms l.formulas)))
+    (l.sum < 2 ^ 64)
+    × (saturated (l.sum + forms_nodes (forms (drop l.p-index l.formulas)))
+    ≡ saturated (forms_nodes (forms l.formulas)))
 
 abbrev pub invariant-counts::nodes_of_terms-loop-t : goal.invariant-counts::nodes_of_terms-loop-t
 invariant-counts::nodes_of_terms-loop-t l =
-    (l.sum < 2 ^ 64) × (saturated (l.sum + terms_nodes (terms (drop l.t-index l.terms))) ≡ saturated (terms_nodes (terms l.terms)))
+    (l.sum < 2 ^ 64)
+    × (saturated (l.sum + terms_nodes (terms (drop l.t-index l.terms))) ≡ saturated (terms_nodes (terms l.terms)))

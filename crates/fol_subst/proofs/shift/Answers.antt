@@ -18,8 +18,11 @@ returns-then-is_over-clause-limit c =
     let within = form c.args.within.now in
     let new = shift_form c.args.from c.args.by within in
     let same : extent (form_nodes within) (form_depth within) ≡ extent (form_nodes new) (form_depth new) =
-    ap (λ n. extent n (form_depth within)) (sym (size-shifted within c.args.from c.args.by).nodes) ∙ ap (extent (form_nodes new)) (sym (size-shifted within c.args.from c.args.by).depth) in
-    sym (over-is-too-large new c.new-extent.result (c.new-extent.ensures ∙ ap (λ n. extent n c.depth.result) c.nodes.ensures ∙ ap (extent _) c.depth.ensures ∙ extent-saturated (form_nodes within) (form_depth within) ∙ same))
+    ap (λ n. extent n (form_depth within)) (sym (size-shifted within c.args.from c.args.by).nodes)
+    ∙ ap (extent (form_nodes new)) (sym (size-shifted within c.args.from c.args.by).depth) in
+    sym (over-is-too-large new c.new-extent.result
+    (c.new-extent.ensures ∙ ap (λ n. extent n c.depth.result) c.nodes.ensures ∙ ap (extent _) c.depth.ensures
+    ∙ extent-saturated (form_nodes within) (form_depth within) ∙ same))
     ∙ sym c.is_over.ensures
     ∙ c.if-is_over.true
 
@@ -28,9 +31,12 @@ copy_formula-requires c =
     let within = form c.args.within.now in
     let new = shift_form c.args.from c.args.by within in
     let same : extent (form_nodes within) (form_depth within) ≡ extent (form_nodes new) (form_depth new) =
-    ap (λ n. extent n (form_depth within)) (sym (size-shifted within c.args.from c.args.by).nodes) ∙ ap (extent (form_nodes new)) (sym (size-shifted within c.args.from c.args.by).depth) in
+    ap (λ n. extent n (form_depth within)) (sym (size-shifted within c.args.from c.args.by).nodes)
+    ∙ ap (extent (form_nodes new)) (sym (size-shifted within c.args.from c.args.by).depth) in
     let small : is_too_large new ≡ false =
-    sym (over-is-too-large new c.new-extent.result (c.new-extent.ensures ∙ ap (λ n. extent n c.depth.result) c.nodes.ensures ∙ ap (extent _) c.depth.ensures ∙ extent-saturated (form_nodes within) (form_depth within) ∙ same))
+    sym (over-is-too-large new c.new-extent.result
+    (c.new-extent.ensures ∙ ap (λ n. extent n c.depth.result) c.nodes.ensures ∙ ap (extent _) c.depth.ensures
+    ∙ extent-saturated (form_nodes within) (form_depth within) ∙ same))
     ∙ sym c.is_over.ensures
     ∙ c.if-is_over.false in
     room-within new c.args.from (c.requires small) small (omega arith)
@@ -40,16 +46,22 @@ returns-clause-shifted c =
     let within = form c.args.within.now in
     let new = shift_form c.args.from c.args.by within in
     let same : extent (form_nodes within) (form_depth within) ≡ extent (form_nodes new) (form_depth new) =
-    ap (λ n. extent n (form_depth within)) (sym (size-shifted within c.args.from c.args.by).nodes) ∙ ap (extent (form_nodes new)) (sym (size-shifted within c.args.from c.args.by).depth) in
+    ap (λ n. extent n (form_depth within)) (sym (size-shifted within c.args.from c.args.by).nodes)
+    ∙ ap (extent (form_nodes new)) (sym (size-shifted within c.args.from c.args.by).depth) in
     let small : is_too_large new ≡ false =
-    sym (over-is-too-large new c.new-extent.result (c.new-extent.ensures ∙ ap (λ n. extent n c.depth.result) c.nodes.ensures ∙ ap (extent _) c.depth.ensures ∙ extent-saturated (form_nodes within) (form_depth within) ∙ same))
+    sym (over-is-too-large new c.new-extent.result
+    (c.new-extent.ensures ∙ ap (λ n. extent n c.depth.result) c.nodes.ensures ∙ ap (extent _) c.depth.ensures
+    ∙ extent-saturated (form_nodes within) (form_depth within) ∙ same))
     ∙ sym c.is_over.ensures
     ∙ c.if-is_over.false in
     record {
       tree = c.in_ok-shifted.ensures;
       truth = λ s front mid back l m.
-          ap (λ q. truth s q (front ++ (mid ++ back))) c.in_ok-shifted.ensures ∙ truth-shifted c.quantified.ensures.all c.quantified.ensures.any s within front mid back c.args.from c.args.by l m;
+          ap (λ q. truth s q (front ++ (mid ++ back))) c.in_ok-shifted.ensures
+          ∙ truth-shifted c.quantified.ensures.all c.quantified.ensures.any s within front mid back c.args.from
+          c.args.by l m;
       fits = λ sig front mid back l m h.
-          subst (FitsForm sig (front ++ (mid ++ back))) (sym c.in_ok-shifted.ensures) (shifted-fits sig within front mid back c.args.from c.args.by l m h);
+          subst (FitsForm sig (front ++ (mid ++ back))) (sym c.in_ok-shifted.ensures)
+          (shifted-fits sig within front mid back c.args.from c.args.by l m h);
       small = ap is_too_large c.in_ok-shifted.ensures ∙ small;
     }

@@ -6,4 +6,6 @@ pub returns-clause-line : goal.returns-clause-line
 unfolding emit_line
 returns-clause-line c =
     c.emit_of.ensures.line
-    ∙ ap emit_by (c.in_ok-matches.ensures ∙ ap (λ app. matched app (map (λ w. string_bytes w) c.args.words.now)) c.in_ok-command.ensures)
+    ∙ ap emit_by
+    (c.in_ok-matches.ensures ∙ ap (λ app. matched app (map (λ w. string_bytes w) c.args.words.now))
+    c.in_ok-command.ensures)

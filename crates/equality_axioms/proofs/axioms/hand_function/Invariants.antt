@@ -7,4 +7,8 @@ use Rattle.equality_axioms.specs.Axioms.{scheme_axioms}
 use Rattle.equality_axioms.proofs.axioms.hand_function.Given as goal
 
 abbrev pub invariant-loop-place : goal.invariant-loop-place
-invariant-loop-place g l = TakesAll (g.S.GroundSink.stands l.fn.sink) (g.S.GroundSink.stands l.sink) (calls_of_each (join_below l.place (λ i. scheme_axioms (symbols l.signature) (numbering (symbols l.signature) l.terms) (Function l.function i))))
+invariant-loop-place g l =
+    TakesAll (g.S.GroundSink.stands l.fn.sink) (g.S.GroundSink.stands l.sink)
+    (calls_of_each
+    (join_below l.place
+    (λ i. scheme_axioms (symbols l.signature) (numbering (symbols l.signature) l.terms) (Function l.function i))))

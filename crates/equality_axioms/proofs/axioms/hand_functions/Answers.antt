@@ -13,7 +13,8 @@ loop-f-preserved g c =
     let P : List Call → Type 0 = g.S.GroundSink.stands c.args.sink.now in
     let Q : List Call → Type 0 = g.S.GroundSink.stands c.loop-f.sink in
     let R : List Call → Type 0 = g.S.GroundSink.stands c.hand_function.new.sink in
-    let f : ℕ → List Tree = function_axioms (symbols c.args.signature.now) (numbering (symbols c.args.signature.now) c.args.terms.now) in
+    let f : ℕ → List Tree =
+    function_axioms (symbols c.args.signature.now) (numbering (symbols c.args.signature.now) c.args.terms.now) in
     each_taken P Q R [] f c.loop-f.f c.loop-f.invariant c.in_ok-hand_function.ensures
 
 pub returns-in_err-hand_function : goal.returns-in_err-hand_function
@@ -21,16 +22,21 @@ returns-in_err-hand_function g c =
     let P : List Call → Type 0 = g.S.GroundSink.stands c.args.sink.now in
     let Q : List Call → Type 0 = g.S.GroundSink.stands c.loop-f.sink in
     let R : List Call → Type 0 = g.S.GroundSink.stands c.hand_function.new.sink in
-    let f : ℕ → List Tree = function_axioms (symbols c.args.signature.now) (numbering (symbols c.args.signature.now) c.args.terms.now) in
+    let f : ℕ → List Tree =
+    function_axioms (symbols c.args.signature.now) (numbering (symbols c.args.signature.now) c.args.terms.now) in
     let e : c.function_count-f-end.result ≡ (length c.args.signature.now.functions) = c.function_count-f-end.ensures in
     let lt : c.loop-f.f < (length c.args.signature.now.functions) = subst (λ n. c.loop-f.f < n) e c.loop-f-test.true in
-    refused P R c.from_residual.result _ c.from_residual.ensures.0 (some_taken P Q R [] f c.loop-f.f c.loop-f.invariant (length c.args.signature.now.functions) lt c.in_err-hand_function.ensures)
+    refused P R c.from_residual.result _ c.from_residual.ensures.0
+    (some_taken P Q R [] f c.loop-f.f c.loop-f.invariant (length c.args.signature.now.functions) lt
+    c.in_err-hand_function.ensures)
 
 pub returns : goal.returns
 returns g c =
     let P : List Call → Type 0 = g.S.GroundSink.stands c.args.sink.now in
     let Q : List Call → Type 0 = g.S.GroundSink.stands c.loop-f.sink in
-    let f : ℕ → List Tree = function_axioms (symbols c.args.signature.now) (numbering (symbols c.args.signature.now) c.args.terms.now) in
+    let f : ℕ → List Tree =
+    function_axioms (symbols c.args.signature.now) (numbering (symbols c.args.signature.now) c.args.terms.now) in
     let e : c.function_count-f-end.result ≡ (length c.args.signature.now.functions) = c.function_count-f-end.ensures in
-    let end : c.loop-f.f ≡ (length c.args.signature.now.functions) = omega (arith, c.loop-f.auto.f-end, c.loop-f-test.false, e) in
+    let end : c.loop-f.f ≡ (length c.args.signature.now.functions) =
+    omega (arith, c.loop-f.auto.f-end, c.loop-f-test.false, e) in
     subst (λ m. TakesAll P Q (calls_of_each (join_below m f))) end c.loop-f.invariant

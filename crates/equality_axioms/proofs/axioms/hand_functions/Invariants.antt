@@ -6,4 +6,7 @@ use Rattle.equality_axioms.specs.Axioms.{function_axioms}
 use Rattle.equality_axioms.proofs.axioms.hand_functions.Given as goal
 
 abbrev pub invariant-loop-f : goal.invariant-loop-f
-invariant-loop-f g l = TakesAll (g.S.GroundSink.stands l.fn.sink) (g.S.GroundSink.stands l.sink) (calls_of_each (join_below l.f (function_axioms (symbols l.signature) (numbering (symbols l.signature) l.terms))))
+invariant-loop-f g l =
+    TakesAll (g.S.GroundSink.stands l.fn.sink) (g.S.GroundSink.stands l.sink)
+    (calls_of_each
+    (join_below l.f (function_axioms (symbols l.signature) (numbering (symbols l.signature) l.terms))))

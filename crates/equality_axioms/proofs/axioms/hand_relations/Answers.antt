@@ -13,7 +13,8 @@ loop-r-preserved g c =
     let P : List Call → Type 0 = g.S.GroundSink.stands c.args.sink.now in
     let Q : List Call → Type 0 = g.S.GroundSink.stands c.loop-r.sink in
     let R : List Call → Type 0 = g.S.GroundSink.stands c.hand_relation.new.sink in
-    let f : ℕ → List Tree = relation_axioms (symbols c.args.signature.now) (numbering (symbols c.args.signature.now) c.args.terms.now) in
+    let f : ℕ → List Tree =
+    relation_axioms (symbols c.args.signature.now) (numbering (symbols c.args.signature.now) c.args.terms.now) in
     each_taken P Q R [] f c.loop-r.r c.loop-r.invariant c.in_ok-hand_relation.ensures
 
 pub returns-in_err-hand_relation : goal.returns-in_err-hand_relation
@@ -21,16 +22,21 @@ returns-in_err-hand_relation g c =
     let P : List Call → Type 0 = g.S.GroundSink.stands c.args.sink.now in
     let Q : List Call → Type 0 = g.S.GroundSink.stands c.loop-r.sink in
     let R : List Call → Type 0 = g.S.GroundSink.stands c.hand_relation.new.sink in
-    let f : ℕ → List Tree = relation_axioms (symbols c.args.signature.now) (numbering (symbols c.args.signature.now) c.args.terms.now) in
+    let f : ℕ → List Tree =
+    relation_axioms (symbols c.args.signature.now) (numbering (symbols c.args.signature.now) c.args.terms.now) in
     let e : c.relation_count-r-end.result ≡ (length c.args.signature.now.relations) = c.relation_count-r-end.ensures in
     let lt : c.loop-r.r < (length c.args.signature.now.relations) = subst (λ n. c.loop-r.r < n) e c.loop-r-test.true in
-    refused P R c.from_residual.result _ c.from_residual.ensures.0 (some_taken P Q R [] f c.loop-r.r c.loop-r.invariant (length c.args.signature.now.relations) lt c.in_err-hand_relation.ensures)
+    refused P R c.from_residual.result _ c.from_residual.ensures.0
+    (some_taken P Q R [] f c.loop-r.r c.loop-r.invariant (length c.args.signature.now.relations) lt
+    c.in_err-hand_relation.ensures)
 
 pub returns : goal.returns
 returns g c =
     let P : List Call → Type 0 = g.S.GroundSink.stands c.args.sink.now in
     let Q : List Call → Type 0 = g.S.GroundSink.stands c.loop-r.sink in
-    let f : ℕ → List Tree = relation_axioms (symbols c.args.signature.now) (numbering (symbols c.args.signature.now) c.args.terms.now) in
+    let f : ℕ → List Tree =
+    relation_axioms (symbols c.args.signature.now) (numbering (symbols c.args.signature.now) c.args.terms.now) in
     let e : c.relation_count-r-end.result ≡ (length c.args.signature.now.relations) = c.relation_count-r-end.ensures in
-    let end : c.loop-r.r ≡ (length c.args.signature.now.relations) = omega (arith, c.loop-r.auto.r-end, c.loop-r-test.false, e) in
+    let end : c.loop-r.r ≡ (length c.args.signature.now.relations) =
+    omega (arith, c.loop-r.auto.r-end, c.loop-r-test.false, e) in
     subst (λ m. TakesAll P Q (calls_of_each (join_below m f))) end c.loop-r.invariant

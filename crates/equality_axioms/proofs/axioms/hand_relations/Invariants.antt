@@ -6,4 +6,7 @@ use Rattle.equality_axioms.specs.Axioms.{relation_axioms}
 use Rattle.equality_axioms.proofs.axioms.hand_relations.Given as goal
 
 abbrev pub invariant-loop-r : goal.invariant-loop-r
-invariant-loop-r g l = TakesAll (g.S.GroundSink.stands l.fn.sink) (g.S.GroundSink.stands l.sink) (calls_of_each (join_below l.r (relation_axioms (symbols l.signature) (numbering (symbols l.signature) l.terms))))
+invariant-loop-r g l =
+    TakesAll (g.S.GroundSink.stands l.fn.sink) (g.S.GroundSink.stands l.sink)
+    (calls_of_each
+    (join_below l.r (relation_axioms (symbols l.signature) (numbering (symbols l.signature) l.terms))))

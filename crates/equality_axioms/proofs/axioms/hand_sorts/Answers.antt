@@ -13,7 +13,8 @@ loop-k-preserved g c =
     let P : List Call → Type 0 = g.S.GroundSink.stands c.args.sink.now in
     let Q : List Call → Type 0 = g.S.GroundSink.stands c.loop-k.sink in
     let R : List Call → Type 0 = g.S.GroundSink.stands c.hand_sort.new.sink in
-    let f : ℕ → List Tree = sort_axioms (symbols c.args.signature.now) (numbering (symbols c.args.signature.now) c.args.terms.now) in
+    let f : ℕ → List Tree =
+    sort_axioms (symbols c.args.signature.now) (numbering (symbols c.args.signature.now) c.args.terms.now) in
     each_taken P Q R [] f c.loop-k.k c.loop-k.invariant c.in_ok-hand_sort.ensures
 
 pub returns-in_err-hand_sort : goal.returns-in_err-hand_sort
@@ -21,16 +22,19 @@ returns-in_err-hand_sort g c =
     let P : List Call → Type 0 = g.S.GroundSink.stands c.args.sink.now in
     let Q : List Call → Type 0 = g.S.GroundSink.stands c.loop-k.sink in
     let R : List Call → Type 0 = g.S.GroundSink.stands c.hand_sort.new.sink in
-    let f : ℕ → List Tree = sort_axioms (symbols c.args.signature.now) (numbering (symbols c.args.signature.now) c.args.terms.now) in
+    let f : ℕ → List Tree =
+    sort_axioms (symbols c.args.signature.now) (numbering (symbols c.args.signature.now) c.args.terms.now) in
     let e : c.sorts-k-end.result ≡ c.args.signature.now.sorts = c.sorts-k-end.ensures.value in
     let lt : c.loop-k.k < c.args.signature.now.sorts = subst (λ n. c.loop-k.k < n) e c.loop-k-test.true in
-    refused P R c.from_residual.result _ c.from_residual.ensures.0 (some_taken P Q R [] f c.loop-k.k c.loop-k.invariant c.args.signature.now.sorts lt c.in_err-hand_sort.ensures)
+    refused P R c.from_residual.result _ c.from_residual.ensures.0
+    (some_taken P Q R [] f c.loop-k.k c.loop-k.invariant c.args.signature.now.sorts lt c.in_err-hand_sort.ensures)
 
 pub returns : goal.returns
 returns g c =
     let P : List Call → Type 0 = g.S.GroundSink.stands c.args.sink.now in
     let Q : List Call → Type 0 = g.S.GroundSink.stands c.loop-k.sink in
-    let f : ℕ → List Tree = sort_axioms (symbols c.args.signature.now) (numbering (symbols c.args.signature.now) c.args.terms.now) in
+    let f : ℕ → List Tree =
+    sort_axioms (symbols c.args.signature.now) (numbering (symbols c.args.signature.now) c.args.terms.now) in
     let e : c.sorts-k-end.result ≡ c.args.signature.now.sorts = c.sorts-k-end.ensures.value in
     let end : c.loop-k.k ≡ c.args.signature.now.sorts = omega (arith, c.loop-k.auto.k-end, c.loop-k-test.false, e) in
     subst (λ m. TakesAll P Q (calls_of_each (join_below m f))) end c.loop-k.invariant

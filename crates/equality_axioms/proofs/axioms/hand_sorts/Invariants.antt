@@ -6,4 +6,6 @@ use Rattle.equality_axioms.specs.Axioms.{sort_axioms}
 use Rattle.equality_axioms.proofs.axioms.hand_sorts.Given as goal
 
 abbrev pub invariant-loop-k : goal.invariant-loop-k
-invariant-loop-k g l = TakesAll (g.S.GroundSink.stands l.fn.sink) (g.S.GroundSink.stands l.sink) (calls_of_each (join_below l.k (sort_axioms (symbols l.signature) (numbering (symbols l.signature) l.terms))))
+invariant-loop-k g l =
+    TakesAll (g.S.GroundSink.stands l.fn.sink) (g.S.GroundSink.stands l.sink)
+    (calls_of_each (join_below l.k (sort_axioms (symbols l.signature) (numbering (symbols l.signature) l.terms))))

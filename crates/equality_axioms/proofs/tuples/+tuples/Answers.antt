@@ -38,7 +38,11 @@ hand_tuples-hand_longer-requires g t c κs within =
               sorted zero 0 (omega arith),
               (
                 (λ i d lt. sorted (suc i) d (omega arith)),
-                (omega (arith, more, c.requires.few), (subst (FillsScheme (symbols c.args.signature.now) (term_counts c.args.terms.now) c.args.scheme c.args.tuple.now) e c.requires.filled)),
+                (
+                  omega (arith, more, c.requires.few),
+                  (subst (FillsScheme (symbols c.args.signature.now) (term_counts c.args.terms.now) c.args.scheme
+                      c.args.tuple.now) e c.requires.filled),
+                ),
               ),
             ),
           ),
@@ -56,8 +60,10 @@ hand_longer-loop-term-preserved g t c =
     let rest = numbers c.args.rest.now in
     let at : List ℕ → List Tree = axioms_at sig (numbering sig c.args.terms.now) c.args.scheme in
     let f : ℕ → List Tree = λ x. join_tuples counts rest (λ xs. at (c.args.tuple.now ++ (x ∷ xs))) in
-    let e = longer_tuples counts rest c.args.tuple.now c.longer_tuple-longer.result c.loop-term.term at c.longer_tuple-longer.ensures in
-    each_taken P Q R [] f c.loop-term.term c.loop-term.invariant (subst (λ ts. TakesAll Q R (calls_of_each ts)) e c.in_ok-hand_tuples.ensures)
+    let e = longer_tuples counts rest c.args.tuple.now c.longer_tuple-longer.result c.loop-term.term at
+    c.longer_tuple-longer.ensures in
+    each_taken P Q R [] f c.loop-term.term c.loop-term.invariant
+    (subst (λ ts. TakesAll Q R (calls_of_each ts)) e c.in_ok-hand_tuples.ensures)
 
 pub hand_longer-returns-in_err-hand_tuples : goal.hand_longer-returns-in_err-hand_tuples
 hand_longer-returns-in_err-hand_tuples g t c =
@@ -69,7 +75,11 @@ hand_longer-returns-in_err-hand_tuples g t c =
     let rest = numbers c.args.rest.now in
     let at : List ℕ → List Tree = axioms_at sig (numbering sig c.args.terms.now) c.args.scheme in
     let f : ℕ → List Tree = λ x. join_tuples counts rest (λ xs. at (c.args.tuple.now ++ (x ∷ xs))) in
-    let e = longer_tuples counts rest c.args.tuple.now c.longer_tuple-longer.result c.loop-term.term at c.longer_tuple-longer.ensures in
-    let n : get_or c.counts.result.now c.args.sort.0 0 ≡ get_or counts c.args.sort.0 0 = ap (λ ns. get_or ns c.args.sort.0 0) c.counts.ensures in
+    let e = longer_tuples counts rest c.args.tuple.now c.longer_tuple-longer.result c.loop-term.term at
+    c.longer_tuple-longer.ensures in
+    let n : get_or c.counts.result.now c.args.sort.0 0 ≡ get_or counts c.args.sort.0 0 =
+    ap (λ ns. get_or ns c.args.sort.0 0) c.counts.ensures in
     refused P R c.from_residual.result _ c.from_residual.ensures.0
-    (some_taken P Q R [] f c.loop-term.term c.loop-term.invariant (get_or counts c.args.sort.0 0) (subst (λ n. c.loop-term.term < n) n c.loop-term-test.true) (subst (λ ts. TakesSome Q R (calls_of_each ts)) e c.in_err-hand_tuples.ensures))
+    (some_taken P Q R [] f c.loop-term.term c.loop-term.invariant (get_or counts c.args.sort.0 0)
+    (subst (λ n. c.loop-term.term < n) n c.loop-term-test.true)
+    (subst (λ ts. TakesSome Q R (calls_of_each ts)) e c.in_err-hand_tuples.ensures))

@@ -9,7 +9,12 @@ use Rattle.equality_axioms.specs.Axioms.{axioms_at, join_tuples}
 use Rattle.equality_axioms.proofs.tuples.+tuples.Given as goal
 
 abbrev pub invariant-hand_longer-loop-term : goal.invariant-hand_longer-loop-term
-invariant-hand_longer-loop-term g l = TakesAll (g.S.GroundSink.stands l.fn.sink) (g.S.GroundSink.stands l.sink) (calls_of_each (join_below l.term (λ x. join_tuples (term_counts l.terms) (numbers l.rest) (λ xs. axioms_at (symbols l.signature) (numbering (symbols l.signature) l.terms) l.scheme (l.tuple ++ (x ∷ xs))))))
+invariant-hand_longer-loop-term g l =
+    TakesAll (g.S.GroundSink.stands l.fn.sink) (g.S.GroundSink.stands l.sink)
+    (calls_of_each
+    (join_below l.term (λ x. join_tuples (term_counts l.terms) (numbers l.rest)
+    (λ xs. axioms_at (symbols l.signature) (numbering (symbols l.signature) l.terms) l.scheme
+    (l.tuple ++ (x ∷ xs))))))
 
 abbrev pub decreases-hand_tuples : goal.decreases-hand_tuples
 decreases-hand_tuples g l = 2 * length l.sorts.now

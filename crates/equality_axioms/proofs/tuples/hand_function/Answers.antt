@@ -16,7 +16,12 @@ loop-term-preserved g c =
     let P : List Call → Type 0 = g.S.GroundSink.stands c.args.sink.now in
     let Q : List Call → Type 0 = g.S.GroundSink.stands c.loop-term.sink in
     let R : List Call → Type 0 = g.S.GroundSink.stands c.exchange_in_function.new.sink in
-    let f : ℕ → List Tree = λ (y : ℕ). clause (Eq c.args.sort (get_or c.args.tuple.now c.args.place 0) y ∷ []) (equation ((symbols c.args.signature.now).into_of c.args.function.0) ((numbering (symbols c.args.signature.now) c.args.terms.now).place c.args.function.0 c.args.tuple.now) ((numbering (symbols c.args.signature.now) c.args.terms.now).place c.args.function.0 (set c.args.tuple.now c.args.place y))) ∷ [] in
+    let f : ℕ → List Tree =
+    λ (y : ℕ). clause (Eq c.args.sort (get_or c.args.tuple.now c.args.place 0) y ∷ [])
+    (equation ((symbols c.args.signature.now).into_of c.args.function.0)
+    ((numbering (symbols c.args.signature.now) c.args.terms.now).place c.args.function.0 c.args.tuple.now)
+    ((numbering (symbols c.args.signature.now) c.args.terms.now).place c.args.function.0
+    (set c.args.tuple.now c.args.place y))) ∷ [] in
     each_taken P Q R [] f c.loop-term.term c.loop-term.invariant c.in_ok-exchange_in_function.ensures
 
 pub returns-in_err-exchange_in_function : goal.returns-in_err-exchange_in_function
@@ -24,27 +29,47 @@ returns-in_err-exchange_in_function g c =
     let P : List Call → Type 0 = g.S.GroundSink.stands c.args.sink.now in
     let Q : List Call → Type 0 = g.S.GroundSink.stands c.loop-term.sink in
     let R : List Call → Type 0 = g.S.GroundSink.stands c.exchange_in_function.new.sink in
-    let f : ℕ → List Tree = λ (y : ℕ). clause (Eq c.args.sort (get_or c.args.tuple.now c.args.place 0) y ∷ []) (equation ((symbols c.args.signature.now).into_of c.args.function.0) ((numbering (symbols c.args.signature.now) c.args.terms.now).place c.args.function.0 c.args.tuple.now) ((numbering (symbols c.args.signature.now) c.args.terms.now).place c.args.function.0 (set c.args.tuple.now c.args.place y))) ∷ [] in
-    let e : get_or c.counts.result.now c.args.sort.0 0 ≡ get_or (term_counts c.args.terms.now) c.args.sort.0 0 = ap (λ ns. get_or ns c.args.sort.0 0) c.counts.ensures in
-    let lt : c.loop-term.term < get_or (term_counts c.args.terms.now) c.args.sort.0 0 = subst (λ n. c.loop-term.term < n) e c.loop-term-test.true in
-    refused P R c.from_residual.result _ c.from_residual.ensures.0 (some_taken P Q R [] f c.loop-term.term c.loop-term.invariant (get_or (term_counts c.args.terms.now) c.args.sort.0 0) lt c.in_err-exchange_in_function.ensures)
+    let f : ℕ → List Tree =
+    λ (y : ℕ). clause (Eq c.args.sort (get_or c.args.tuple.now c.args.place 0) y ∷ [])
+    (equation ((symbols c.args.signature.now).into_of c.args.function.0)
+    ((numbering (symbols c.args.signature.now) c.args.terms.now).place c.args.function.0 c.args.tuple.now)
+    ((numbering (symbols c.args.signature.now) c.args.terms.now).place c.args.function.0
+    (set c.args.tuple.now c.args.place y))) ∷ [] in
+    let e : get_or c.counts.result.now c.args.sort.0 0 ≡ get_or (term_counts c.args.terms.now) c.args.sort.0 0 =
+    ap (λ ns. get_or ns c.args.sort.0 0) c.counts.ensures in
+    let lt : c.loop-term.term < get_or (term_counts c.args.terms.now) c.args.sort.0 0 =
+    subst (λ n. c.loop-term.term < n) e c.loop-term-test.true in
+    refused P R c.from_residual.result _ c.from_residual.ensures.0
+    (some_taken P Q R [] f c.loop-term.term c.loop-term.invariant
+    (get_or (term_counts c.args.terms.now) c.args.sort.0 0) lt c.in_err-exchange_in_function.ensures)
 
 pub returns : goal.returns
 returns g c =
     let P : List Call → Type 0 = g.S.GroundSink.stands c.args.sink.now in
     let Q : List Call → Type 0 = g.S.GroundSink.stands c.loop-term.sink in
-    let f : ℕ → List Tree = λ (y : ℕ). clause (Eq c.args.sort (get_or c.args.tuple.now c.args.place 0) y ∷ []) (equation ((symbols c.args.signature.now).into_of c.args.function.0) ((numbering (symbols c.args.signature.now) c.args.terms.now).place c.args.function.0 c.args.tuple.now) ((numbering (symbols c.args.signature.now) c.args.terms.now).place c.args.function.0 (set c.args.tuple.now c.args.place y))) ∷ [] in
-    let e : get_or c.counts.result.now c.args.sort.0 0 ≡ get_or (term_counts c.args.terms.now) c.args.sort.0 0 = ap (λ ns. get_or ns c.args.sort.0 0) c.counts.ensures in
-    let end : c.loop-term.term ≡ get_or (term_counts c.args.terms.now) c.args.sort.0 0 = omega (arith, c.loop-term.auto.term-end, c.loop-term-test.false, e) in
+    let f : ℕ → List Tree =
+    λ (y : ℕ). clause (Eq c.args.sort (get_or c.args.tuple.now c.args.place 0) y ∷ [])
+    (equation ((symbols c.args.signature.now).into_of c.args.function.0)
+    ((numbering (symbols c.args.signature.now) c.args.terms.now).place c.args.function.0 c.args.tuple.now)
+    ((numbering (symbols c.args.signature.now) c.args.terms.now).place c.args.function.0
+    (set c.args.tuple.now c.args.place y))) ∷ [] in
+    let e : get_or c.counts.result.now c.args.sort.0 0 ≡ get_or (term_counts c.args.terms.now) c.args.sort.0 0 =
+    ap (λ ns. get_or ns c.args.sort.0 0) c.counts.ensures in
+    let end : c.loop-term.term ≡ get_or (term_counts c.args.terms.now) c.args.sort.0 0 =
+    omega (arith, c.loop-term.auto.term-end, c.loop-term-test.false, e) in
     subst (λ m. TakesAll P Q (calls_of_each (join_below m f))) end c.loop-term.invariant
 
 pub exchange_in_function-requires-clause-term : goal.exchange_in_function-requires-clause-term
 exchange_in_function-requires-clause-term g c =
     let counts = term_counts c.args.terms.now in
     let from = (symbols c.args.signature.now).from_of c.args.function.0 in
-    let e : get_or c.counts.result.now c.args.sort.0 0 ≡ get_or counts (get_or from c.args.place 0) 0 = ap (λ ns. get_or ns c.args.sort.0 0) c.counts.ensures ∙ ap (λ k. get_or counts k 0) c.requires.sort in
-    exchanged counts from c.args.tuple.now c.args.place c.loop-term.term c.requires.in_range (subst (λ n. c.loop-term.term < n) e c.loop-term-test.true) c.requires.place
+    let e : get_or c.counts.result.now c.args.sort.0 0 ≡ get_or counts (get_or from c.args.place 0) 0 =
+    ap (λ ns. get_or ns c.args.sort.0 0) c.counts.ensures ∙ ap (λ k. get_or counts k 0) c.requires.sort in
+    exchanged counts from c.args.tuple.now c.args.place c.loop-term.term c.requires.in_range
+    (subst (λ n. c.loop-term.term < n) e c.loop-term-test.true) c.requires.place
 
 pub exchange_in_function-requires-clause-place : goal.exchange_in_function-requires-clause-place
 exchange_in_function-requires-clause-place g c =
-    subst (λ n. c.args.place < n) (sym (range-length (term_counts c.args.terms.now) ((symbols c.args.signature.now).from_of c.args.function.0) c.args.tuple.now c.requires.in_range)) c.requires.place
+    subst (λ n. c.args.place < n)
+    (sym (range-length (term_counts c.args.terms.now) ((symbols c.args.signature.now).from_of c.args.function.0)
+    c.args.tuple.now c.requires.in_range)) c.requires.place

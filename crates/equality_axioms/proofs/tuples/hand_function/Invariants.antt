@@ -8,4 +8,10 @@ use Rattle.equality_axioms.specs.Axioms.{clause, equation}
 use Rattle.equality_axioms.proofs.tuples.hand_function.Given as goal
 
 abbrev pub invariant-loop-term : goal.invariant-loop-term
-invariant-loop-term g l = TakesAll (g.S.GroundSink.stands l.fn.sink) (g.S.GroundSink.stands l.sink) (calls_of_each (join_below l.term (λ y. clause (Eq l.sort (get_or l.tuple l.place 0) y ∷ []) (equation ((symbols l.signature).into_of l.function.0) ((numbering (symbols l.signature) l.terms).place l.function.0 l.tuple) ((numbering (symbols l.signature) l.terms).place l.function.0 (set l.tuple l.place y))) ∷ [])))
+invariant-loop-term g l =
+    TakesAll (g.S.GroundSink.stands l.fn.sink) (g.S.GroundSink.stands l.sink)
+    (calls_of_each
+    (join_below l.term (λ y. clause (Eq l.sort (get_or l.tuple l.place 0) y ∷ [])
+    (equation ((symbols l.signature).into_of l.function.0)
+    ((numbering (symbols l.signature) l.terms).place l.function.0 l.tuple)
+    ((numbering (symbols l.signature) l.terms).place l.function.0 (set l.tuple l.place y))) ∷ [])))

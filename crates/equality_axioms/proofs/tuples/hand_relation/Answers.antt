@@ -13,7 +13,10 @@ loop-term-preserved g c =
     let P : List Call → Type 0 = g.S.GroundSink.stands c.args.sink.now in
     let Q : List Call → Type 0 = g.S.GroundSink.stands c.loop-term.sink in
     let R : List Call → Type 0 = g.S.GroundSink.stands c.exchange_in_relation.new.sink in
-    let f : ℕ → List Tree = λ (y : ℕ). clause (Eq c.args.sort (get_or c.args.tuple.now c.args.place 0) y ∷ Rel c.args.relation c.args.tuple.now ∷ []) (Rel c.args.relation (set c.args.tuple.now c.args.place y)) ∷ [] in
+    let f : ℕ → List Tree =
+    λ (y : ℕ). clause (Eq c.args.sort (get_or c.args.tuple.now c.args.place 0) y
+    ∷ Rel c.args.relation c.args.tuple.now ∷ []) (Rel c.args.relation (set c.args.tuple.now c.args.place y))
+    ∷ [] in
     each_taken P Q R [] f c.loop-term.term c.loop-term.invariant c.in_ok-exchange_in_relation.ensures
 
 pub returns-in_err-exchange_in_relation : goal.returns-in_err-exchange_in_relation
@@ -21,16 +24,28 @@ returns-in_err-exchange_in_relation g c =
     let P : List Call → Type 0 = g.S.GroundSink.stands c.args.sink.now in
     let Q : List Call → Type 0 = g.S.GroundSink.stands c.loop-term.sink in
     let R : List Call → Type 0 = g.S.GroundSink.stands c.exchange_in_relation.new.sink in
-    let f : ℕ → List Tree = λ (y : ℕ). clause (Eq c.args.sort (get_or c.args.tuple.now c.args.place 0) y ∷ Rel c.args.relation c.args.tuple.now ∷ []) (Rel c.args.relation (set c.args.tuple.now c.args.place y)) ∷ [] in
-    let e : get_or c.counts.result.now c.args.sort.0 0 ≡ get_or (term_counts c.args.terms.now) c.args.sort.0 0 = ap (λ ns. get_or ns c.args.sort.0 0) c.counts.ensures in
-    let lt : c.loop-term.term < get_or (term_counts c.args.terms.now) c.args.sort.0 0 = subst (λ n. c.loop-term.term < n) e c.loop-term-test.true in
-    refused P R c.from_residual.result _ c.from_residual.ensures.0 (some_taken P Q R [] f c.loop-term.term c.loop-term.invariant (get_or (term_counts c.args.terms.now) c.args.sort.0 0) lt c.in_err-exchange_in_relation.ensures)
+    let f : ℕ → List Tree =
+    λ (y : ℕ). clause (Eq c.args.sort (get_or c.args.tuple.now c.args.place 0) y
+    ∷ Rel c.args.relation c.args.tuple.now ∷ []) (Rel c.args.relation (set c.args.tuple.now c.args.place y))
+    ∷ [] in
+    let e : get_or c.counts.result.now c.args.sort.0 0 ≡ get_or (term_counts c.args.terms.now) c.args.sort.0 0 =
+    ap (λ ns. get_or ns c.args.sort.0 0) c.counts.ensures in
+    let lt : c.loop-term.term < get_or (term_counts c.args.terms.now) c.args.sort.0 0 =
+    subst (λ n. c.loop-term.term < n) e c.loop-term-test.true in
+    refused P R c.from_residual.result _ c.from_residual.ensures.0
+    (some_taken P Q R [] f c.loop-term.term c.loop-term.invariant
+    (get_or (term_counts c.args.terms.now) c.args.sort.0 0) lt c.in_err-exchange_in_relation.ensures)
 
 pub returns : goal.returns
 returns g c =
     let P : List Call → Type 0 = g.S.GroundSink.stands c.args.sink.now in
     let Q : List Call → Type 0 = g.S.GroundSink.stands c.loop-term.sink in
-    let f : ℕ → List Tree = λ (y : ℕ). clause (Eq c.args.sort (get_or c.args.tuple.now c.args.place 0) y ∷ Rel c.args.relation c.args.tuple.now ∷ []) (Rel c.args.relation (set c.args.tuple.now c.args.place y)) ∷ [] in
-    let e : get_or c.counts.result.now c.args.sort.0 0 ≡ get_or (term_counts c.args.terms.now) c.args.sort.0 0 = ap (λ ns. get_or ns c.args.sort.0 0) c.counts.ensures in
-    let end : c.loop-term.term ≡ get_or (term_counts c.args.terms.now) c.args.sort.0 0 = omega (arith, c.loop-term.auto.term-end, c.loop-term-test.false, e) in
+    let f : ℕ → List Tree =
+    λ (y : ℕ). clause (Eq c.args.sort (get_or c.args.tuple.now c.args.place 0) y
+    ∷ Rel c.args.relation c.args.tuple.now ∷ []) (Rel c.args.relation (set c.args.tuple.now c.args.place y))
+    ∷ [] in
+    let e : get_or c.counts.result.now c.args.sort.0 0 ≡ get_or (term_counts c.args.terms.now) c.args.sort.0 0 =
+    ap (λ ns. get_or ns c.args.sort.0 0) c.counts.ensures in
+    let end : c.loop-term.term ≡ get_or (term_counts c.args.terms.now) c.args.sort.0 0 =
+    omega (arith, c.loop-term.auto.term-end, c.loop-term-test.false, e) in
     subst (λ m. TakesAll P Q (calls_of_each (join_below m f))) end c.loop-term.invariant

@@ -6,4 +6,9 @@ use Rattle.equality_axioms.specs.Axioms.{clause}
 use Rattle.equality_axioms.proofs.tuples.hand_relation.Given as goal
 
 abbrev pub invariant-loop-term : goal.invariant-loop-term
-invariant-loop-term g l = TakesAll (g.S.GroundSink.stands l.fn.sink) (g.S.GroundSink.stands l.sink) (calls_of_each (join_below l.term (λ y. clause (Eq l.sort (get_or l.tuple l.place 0) y ∷ Rel l.relation l.tuple ∷ []) (Rel l.relation (set l.tuple l.place y)) ∷ [])))
+invariant-loop-term g l =
+    TakesAll (g.S.GroundSink.stands l.fn.sink) (g.S.GroundSink.stands l.sink)
+    (calls_of_each
+    (join_below l.term
+    (λ y. clause (Eq l.sort (get_or l.tuple l.place 0) y ∷ Rel l.relation l.tuple ∷ [])
+    (Rel l.relation (set l.tuple l.place y)) ∷ [])))

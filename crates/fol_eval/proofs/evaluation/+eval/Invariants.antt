@@ -9,13 +9,15 @@ use Rattle.fol_eval.proofs.evaluation.+eval.Given as goal
 abbrev pub invariant-are_all_true-loop-p : goal.invariant-are_all_true-loop-p
 invariant-are_all_true-loop-p l = record {
   safe : SafeForms l.structure (forms (drop l.p-index l.formulas)) (elements l.env);
-  same : all_true (reading l.structure) (forms (drop l.p-index l.formulas)) (elements l.env) ≡ all_true (reading l.structure) (forms l.formulas) (elements l.env);
+  same : all_true (reading l.structure) (forms (drop l.p-index l.formulas)) (elements l.env)
+      ≡ all_true (reading l.structure) (forms l.formulas) (elements l.env);
 }
 
 abbrev pub invariant-is_any_true-loop-p : goal.invariant-is_any_true-loop-p
 invariant-is_any_true-loop-p l = record {
   safe : SafeForms l.structure (forms (drop l.p-index l.formulas)) (elements l.env);
-  same : any_true (reading l.structure) (forms (drop l.p-index l.formulas)) (elements l.env) ≡ any_true (reading l.structure) (forms l.formulas) (elements l.env);
+  same : any_true (reading l.structure) (forms (drop l.p-index l.formulas)) (elements l.env)
+      ≡ any_true (reading l.structure) (forms l.formulas) (elements l.env);
 }
 
 abbrev pub invariant-is_true_of_all-loop-element : goal.invariant-is_true_of_all-loop-element
@@ -30,5 +32,6 @@ abbrev pub invariant-evaluate_all-loop-i : goal.invariant-evaluate_all-loop-i
 invariant-evaluate_all-loop-i l = record {
   room : length l.tuple ≡ 8;
   safe : SafeTerms l.structure (terms (drop l.i l.terms)) (elements l.env);
-  same : take l.i l.tuple ++ values (reading l.structure) (terms (drop l.i l.terms)) (elements l.env) ≡ values (reading l.structure) (terms l.terms) (elements l.env);
+  same : take l.i l.tuple ++ values (reading l.structure) (terms (drop l.i l.terms)) (elements l.env)
+      ≡ values (reading l.structure) (terms l.terms) (elements l.env);
 }

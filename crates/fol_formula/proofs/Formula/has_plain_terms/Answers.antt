@@ -5,4 +5,6 @@ use Rattle.fol_formula.proofs.Deciding.{plain-decides}
 use Rattle.fol_formula.proofs.Formula.has_plain_terms.Goals as goal
 
 pub returns : goal.returns
-returns c = Decides-at c.is_plain.result (has_plain_terms (form c.args.self.now)) c.is_plain.ensures (plain-decides (form c.args.self.now))
+returns c =
+    Decides-at c.is_plain.result (has_plain_terms (form c.args.self.now)) c.is_plain.ensures
+    (plain-decides (form c.args.self.now))

@@ -1,4 +1,5 @@
-use Rattle.fol_formula.proofs.NormalForms.{universal_by_normal_form, exists_forall_by_normal_form, normal_form_keeps_truth, normal_form_stays}
+use Rattle.fol_formula.proofs.NormalForms.{universal_by_normal_form, exists_forall_by_normal_form}
+use Rattle.fol_formula.proofs.NormalForms.{normal_form_keeps_truth, normal_form_stays}
 use Rattle.fol_formula.proofs.laws.classification.Goals as goal
 
 pub returns-clause-universal : goal.returns-clause-universal

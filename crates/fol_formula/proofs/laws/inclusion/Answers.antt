@@ -1,4 +1,6 @@
-use Rattle.fol_formula.proofs.Inclusions.{negation_exchanges, universal_is_exists_forall, universal_is_ea, universal_is_ae, normal_is_ea, normal_has_plain_terms, quantifier_free_is_universal}
+use Rattle.fol_formula.proofs.Inclusions.{negation_exchanges, universal_is_exists_forall, universal_is_ea}
+use Rattle.fol_formula.proofs.Inclusions.{universal_is_ae, normal_is_ea, normal_has_plain_terms}
+use Rattle.fol_formula.proofs.Inclusions.{quantifier_free_is_universal}
 use Rattle.fol_formula.proofs.laws.inclusion.Goals as goal
 
 pub returns-clause-negation : goal.returns-clause-negation

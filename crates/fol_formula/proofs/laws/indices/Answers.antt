@@ -1,4 +1,5 @@
-use Rattle.fol_formula.proofs.Closed.{fits_is_bound, fits_is_bound_term, truth_reads_no_more, value_reads_no_more, fits_under_more, fits_under_more_term}
+use Rattle.fol_formula.proofs.Closed.{fits_is_bound, fits_is_bound_term, truth_reads_no_more, value_reads_no_more}
+use Rattle.fol_formula.proofs.Closed.{fits_under_more, fits_under_more_term}
 use Rattle.fol_formula.proofs.laws.indices.Goals as goal
 
 pub returns-clause-bound : goal.returns-clause-bound

@@ -1,4 +1,5 @@
-use Rattle.fol_formula.proofs.Witnessed.{witnessed_is_true, without_existentials, universal_needs_no_witness, universal_normal_needs_no_witness}
+use Rattle.fol_formula.proofs.Witnessed.{witnessed_is_true, without_existentials, universal_needs_no_witness}
+use Rattle.fol_formula.proofs.Witnessed.{universal_normal_needs_no_witness}
 use Rattle.fol_formula.proofs.WitnessesExist.{witnesses_exist}
 use Rattle.fol_formula.proofs.laws.witnesses.Goals as goal
 

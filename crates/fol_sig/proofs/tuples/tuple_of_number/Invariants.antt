@@ -7,6 +7,7 @@ abbrev pub invariant-loop-sort : goal.invariant-loop-sort
 invariant-loop-sort l = record {
   counted : l.rest ≡ tuple_count l.sizes (numbers (drop l.sort-index l.sorts));
   less : l.left < l.rest;
-  so_far : l.tuple ++ tuple_at l.sizes (numbers (drop l.sort-index l.sorts)) l.left ≡ tuple_at l.sizes (numbers l.sorts) l.number;
+  so_far : l.tuple ++ tuple_at l.sizes (numbers (drop l.sort-index l.sorts)) l.left
+      ≡ tuple_at l.sizes (numbers l.sorts) l.number;
   long : length l.tuple ≡ l.sort-index;
 }

@@ -10,7 +10,8 @@ invariant-copy_formulas-loop-p g l =
     let rules = of_indices (g.R.Indices.becomes l.rule) in
     record {
       room : RoomForms l.depth (forms_by rules l.depth (forms (drop l.p-index l.ps)));
-      made : forms_then (map form l.all.items) (forms_by rules l.depth (forms (drop l.p-index l.ps))) ≡ forms_by rules l.depth (forms l.ps);
+      made : forms_then (map form l.all.items) (forms_by rules l.depth (forms (drop l.p-index l.ps)))
+          ≡ forms_by rules l.depth (forms l.ps);
     }
 
 abbrev pub invariant-copy_terms-loop-t : goal.invariant-copy_terms-loop-t
@@ -18,5 +19,6 @@ invariant-copy_terms-loop-t g l =
     let rules = of_indices (g.R.Indices.becomes l.rule) in
     record {
       room : RoomTerms l.depth (terms_by rules l.depth (terms (drop l.t-index l.ts)));
-      made : terms_then (map term l.all.items) (terms_by rules l.depth (terms (drop l.t-index l.ts))) ≡ terms_by rules l.depth (terms l.ts);
+      made : terms_then (map term l.all.items) (terms_by rules l.depth (terms (drop l.t-index l.ts)))
+          ≡ terms_by rules l.depth (terms l.ts);
     }

@@ -4,7 +4,13 @@ use Rattle.fol_subst.proofs.laws.exactness.Goals as goal
 pub returns : goal.returns
 returns c =
     replacement_keeps_meaning (record {
-      reads = record { all = c.quantified.ensures.all; any = c.quantified.ensures.any; rows = c.lists.ensures.rows; truth = c.indices.ensures.truth; value = c.indices.ensures.values };
+      reads = record {
+        all = c.quantified.ensures.all;
+        any = c.quantified.ensures.any;
+        rows = c.lists.ensures.rows;
+        truth = c.indices.ensures.truth;
+        value = c.indices.ensures.values;
+      };
       updates = record {
         relations = c.update_laws.ensures.relations;
         functions = c.update_laws.ensures.functions;
@@ -15,5 +21,10 @@ returns c =
       };
       bound = c.indices.ensures.bound;
       bound_term = c.indices.ensures.bound_terms;
-      fragments = record { prefix = c.inclusion.ensures.prefix; free = c.inclusion.ensures.quantifier_free; no_witness = c.witnesses.ensures.universal };
+      fragments =
+          record {
+            prefix = c.inclusion.ensures.prefix;
+            free = c.inclusion.ensures.quantifier_free;
+            no_witness = c.witnesses.ensures.universal;
+          };
     })

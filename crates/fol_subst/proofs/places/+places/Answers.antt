@@ -5,7 +5,8 @@ use Rattle.fol_subst.proofs.places.+places.Goals as goal
 
 pub places_inside-returns-clause-places : goal.places_inside-returns-clause-places
 places_inside-returns-clause-places t c =
-    c.places_in_formula.ensures.places ∙ places-next (form c.args.formula.now) c.args.index c.saturating_add.result c.places_in_formula.ensures.indices c.saturating_add.ensures
+    c.places_in_formula.ensures.places ∙ places-next (form c.args.formula.now) c.args.index c.saturating_add.result
+    c.places_in_formula.ensures.indices c.saturating_add.ensures
 
 pub places_in_formulas-loop-p-init : goal.places_in_formulas-loop-p-init
 places_in_formulas-loop-p-init t c = record {

@@ -7,7 +7,8 @@ use Rattle.fol_subst.proofs.places.+places.Given as goal
 abbrev pub invariant-places_in_formulas-loop-p : goal.invariant-places_in_formulas-loop-p
 invariant-places_in_formulas-loop-p l = record {
   small : l.all.count ≤ 1000001;
-  places : beside l.all (places_forms l.index (forms (drop l.p-index l.formulas))) ≡ places_forms l.index (forms l.formulas);
+  places : beside l.all (places_forms l.index (forms (drop l.p-index l.formulas)))
+      ≡ places_forms l.index (forms l.formulas);
   indices : IndicesFitAll (forms (drop l.p-index l.formulas)) → IndicesFitAll (forms l.formulas);
 }
 

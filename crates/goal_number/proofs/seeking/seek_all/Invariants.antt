@@ -11,7 +11,9 @@ use Rattle.goal_number.proofs.seeking.seek_all.Given as goal
 abbrev pub invariant-loop-a : goal.invariant-loop-a
 invariant-loop-a l = record {
   count : l.count ≡ length l.checked.actions;
-  place : seek_on l.sought (flat_map (group_goals l.fn.checked) (flat_map (λ a. stage_groups l.fn.checked (stage.Action a))
-      (count_from l.a (l.count - l.a)) ++ record { stage = stage.Final; about = about.Abort } ∷ [])) ≡ seek l.fn.place (goals_of l.fn.checked);
+  place : seek_on l.sought
+      (flat_map (group_goals l.fn.checked) (flat_map (λ a. stage_groups l.fn.checked (stage.Action a))
+      (count_from l.a (l.count - l.a)) ++ record { stage = stage.Final; about = about.Abort } ∷ []))
+      ≡ seek l.fn.place (goals_of l.fn.checked);
   goal : IfFound (IsGoal l.checked) l.sought;
 }

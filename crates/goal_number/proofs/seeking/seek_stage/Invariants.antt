@@ -10,7 +10,9 @@ use Rattle.goal_number.proofs.seeking.seek_stage.Given as goal
 abbrev pub invariant-loop-k : goal.invariant-loop-k
 invariant-loop-k l = record {
   count : l.count ≡ length l.checked.conjectures;
-  place : seek_on l.sought (flat_map (group_goals l.fn.checked) (map (λ k. record { stage = l.fn.stage; about = about.Conjecture k })
-      (count_from l.k (l.count - l.k)))) ≡ seek_on l.fn.before (flat_map (group_goals l.fn.checked) (stage_groups l.fn.checked l.fn.stage));
+  place : seek_on l.sought
+      (flat_map (group_goals l.fn.checked) (map (λ k. record { stage = l.fn.stage; about = about.Conjecture k })
+      (count_from l.k (l.count - l.k))))
+      ≡ seek_on l.fn.before (flat_map (group_goals l.fn.checked) (stage_groups l.fn.checked l.fn.stage));
   goal : IfFound (IsGoal l.checked) l.fn.before → IfFound (IsGoal l.checked) l.sought;
 }

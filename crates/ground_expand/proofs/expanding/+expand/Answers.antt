@@ -7,7 +7,8 @@ use Rattle.ground_terms.specs.declared.ground.Junction.TheVariants.{And}
 use Rattle.ground_terms.specs.Numberings.{numbering}
 use Rattle.ground_terms.specs.Trees.{node}
 use Rattle.ground_terms.specs.Calls.{Call, a_node, calls_of, calls_of_all}
-use Rattle.ground_terms.specs.Taking.{Takes, TakesAll, TakesSome, calls_of_each, refused, begins, cut, step, stop, each_taken, some_taken}
+use Rattle.ground_terms.specs.Taking.{Takes, TakesAll, TakesSome, calls_of_each, refused, begins, cut, step, stop}
+use Rattle.ground_terms.specs.Taking.{each_taken, some_taken}
 use Rattle.ground_expand.specs.Instance.{instance, instances}
 use Rattle.ground_expand.specs.Scopes.{sorts_in, terms_in}
 use Rattle.ground_expand.specs.Groundable.{AreGroundable}
@@ -22,7 +23,8 @@ expand_parts-returns-in_err-hand_node g t c =
     let names = numbering sig c.args.terms.now in
     let parts = instances sig names (sorts_in c.args.scope.now) (forms c.args.ps.now) (terms_in c.args.scope.now) in
     refused P Q c.from_residual.result (calls_of (node c.args.junction parts)) c.from_residual.ensures.0
-    (subst (λ n. TakesSome P Q (a_node c.args.junction n ∷ calls_of_all parts)) (sym (count-instances sig names (sorts_in c.args.scope.now) c.args.ps.now (terms_in c.args.scope.now)))
+    (subst (λ n. TakesSome P Q (a_node c.args.junction n ∷ calls_of_all parts))
+    (sym (count-instances sig names (sorts_in c.args.scope.now) c.args.ps.now (terms_in c.args.scope.now)))
     (cut P Q (a_node c.args.junction (length c.args.ps.now) ∷ []) (calls_of_all parts) c.in_err-hand_node.ensures))
 
 pub expand_parts-loop-p-init : goal.expand_parts-loop-p-init
@@ -34,8 +36,10 @@ expand_parts-loop-p-init g t c =
     let parts = instances sig names (sorts_in c.args.scope.now) (forms c.args.ps.now) (terms_in c.args.scope.now) in
     record {
       known = c.requires.known;
-      taken = subst (λ n. Takes P Q (a_node c.args.junction n ∷ calls_of_all parts) (calls_of_all parts)) (sym (count-instances sig names (sorts_in c.args.scope.now) c.args.ps.now (terms_in c.args.scope.now)))
-          (begins P Q (a_node c.args.junction (length c.args.ps.now) ∷ []) (calls_of_all parts) c.in_ok-hand_node.ensures);
+      taken = subst (λ n. Takes P Q (a_node c.args.junction n ∷ calls_of_all parts) (calls_of_all parts))
+          (sym (count-instances sig names (sorts_in c.args.scope.now) c.args.ps.now (terms_in c.args.scope.now)))
+          (begins P Q (a_node c.args.junction (length c.args.ps.now) ∷ []) (calls_of_all parts)
+          c.in_ok-hand_node.ensures);
     }
 
 pub expand_parts-loop-p-preserved : goal.expand_parts-loop-p-preserved
@@ -49,11 +53,14 @@ expand_parts-loop-p-preserved g t c =
     let env = terms_in c.args.scope.now in
     let h = c.loop-p.invariant in
     let whole = calls_of (node c.args.junction (instances sig names sorts (forms c.args.ps.now) env)) in
-    let next = c.lists.ensures.forms.left c.args.ps.now c.loop-p.p-index c.p-item.result c.loop-p-test.true c.p-item.is in
+    let next = c.lists.ensures.forms.left c.args.ps.now c.loop-p.p-index c.p-item.result c.loop-p-test.true
+    c.p-item.is in
     record {
       known = (subst (AreGroundable sig sorts) next h.known).1;
-      taken = step P Q R whole (calls_of (instance sig names sorts (form c.p-item.result) env)) (calls_of_all (instances sig names sorts (forms (drop (c.loop-p.p-index + 1) c.args.ps.now)) env))
-          (subst (λ fs. Takes P Q whole (calls_of_all (instances sig names sorts fs env))) next h.taken) c.in_ok-expand.ensures;
+      taken = step P Q R whole (calls_of (instance sig names sorts (form c.p-item.result) env))
+          (calls_of_all (instances sig names sorts (forms (drop (c.loop-p.p-index + 1) c.args.ps.now)) env))
+          (subst (λ fs. Takes P Q whole (calls_of_all (instances sig names sorts fs env))) next h.taken)
+          c.in_ok-expand.ensures;
     }
 
 pub expand_parts-returns-in_err-expand : goal.expand_parts-returns-in_err-expand
@@ -67,10 +74,13 @@ expand_parts-returns-in_err-expand g t c =
     let env = terms_in c.args.scope.now in
     let h = c.loop-p.invariant in
     let whole = calls_of (node c.args.junction (instances sig names sorts (forms c.args.ps.now) env)) in
-    let next = c.lists.ensures.forms.left c.args.ps.now c.loop-p.p-index c.p-item.result c.loop-p-test.true c.p-item.is in
+    let next = c.lists.ensures.forms.left c.args.ps.now c.loop-p.p-index c.p-item.result c.loop-p-test.true
+    c.p-item.is in
     refused P R c.from_residual-in_err-expand.result whole c.from_residual-in_err-expand.ensures.0
-    (stop P Q R whole (calls_of (instance sig names sorts (form c.p-item.result) env)) (calls_of_all (instances sig names sorts (forms (drop (c.loop-p.p-index + 1) c.args.ps.now)) env))
-    (subst (λ fs. Takes P Q whole (calls_of_all (instances sig names sorts fs env))) next h.taken) c.in_err-expand.ensures)
+    (stop P Q R whole (calls_of (instance sig names sorts (form c.p-item.result) env))
+    (calls_of_all (instances sig names sorts (forms (drop (c.loop-p.p-index + 1) c.args.ps.now)) env))
+    (subst (λ fs. Takes P Q whole (calls_of_all (instances sig names sorts fs env))) next h.taken)
+    c.in_err-expand.ensures)
 
 pub expand_each-returns-in_err-hand_node : goal.expand_each-returns-in_err-hand_node
 expand_each-returns-in_err-hand_node g t c =
@@ -85,7 +95,8 @@ expand_each-returns-in_err-hand_node g t c =
     let f = instance_at sig names sorts c.args.sort.0 (form c.args.p.now) env in
     let all = each-calls sig names sorts c.args.sort.0 (form c.args.p.now) env n e in
     refused P Q c.from_residual.result _ c.from_residual.ensures.0
-    (subst (TakesSome P Q) all (cut P Q (a_node And n ∷ []) (calls_of_each (join_below n (λ x. f x ∷ []))) c.in_err-hand_node.ensures))
+    (subst (TakesSome P Q) all
+    (cut P Q (a_node And n ∷ []) (calls_of_each (join_below n (λ x. f x ∷ []))) c.in_err-hand_node.ensures))
 
 pub expand_each-loop-term-preserved : goal.expand_each-loop-term-preserved
 expand_each-loop-term-preserved g t c =
@@ -94,8 +105,10 @@ expand_each-loop-term-preserved g t c =
     let R : List Call → Type 0 = g.S.GroundSink.stands c.expand.new.sink in
     let sig = symbols c.args.signature.now in
     let names = numbering sig c.args.terms.now in
-    let f = instance_at sig names (sorts_in c.args.scope.now) c.args.sort.0 (form c.args.p.now) (terms_in c.args.scope.now) in
-    each_taken P Q R (a_node And (get_or c.counts.result.now c.args.sort.0 0) ∷ []) (λ x. f x ∷ []) c.loop-term.term c.loop-term.invariant
+    let f = instance_at sig names (sorts_in c.args.scope.now) c.args.sort.0 (form c.args.p.now)
+    (terms_in c.args.scope.now) in
+    each_taken P Q R (a_node And (get_or c.counts.result.now c.args.sort.0 0) ∷ []) (λ x. f x ∷ []) c.loop-term.term
+    c.loop-term.invariant
     (subst (TakesAll Q R) (sym (append-nil (calls_of (f c.loop-term.term)))) c.in_ok-expand.ensures)
 
 pub expand_each-returns-in_err-expand : goal.expand_each-returns-in_err-expand
@@ -128,4 +141,5 @@ expand_each-returns g t c =
     let e : n ≡ get_or names.counts c.args.sort.0 0 = ap (λ ns. get_or ns c.args.sort.0 0) c.counts.ensures in
     let f = instance_at sig names sorts c.args.sort.0 (form c.args.p.now) env in
     let end : c.loop-term.term ≡ n = omega (arith, c.loop-term.auto.term-end, c.loop-term-test.false) in
-    subst (TakesAll P Q) (ap (λ m. a_node And n ∷ calls_of_each (join_below m (λ x. f x ∷ []))) end ∙ each-calls sig names sorts c.args.sort.0 (form c.args.p.now) env n e) c.loop-term.invariant
+    subst (TakesAll P Q) (ap (λ m. a_node And n ∷ calls_of_each (join_below m (λ x. f x ∷ []))) end
+    ∙ each-calls sig names sorts c.args.sort.0 (form c.args.p.now) env n e) c.loop-term.invariant

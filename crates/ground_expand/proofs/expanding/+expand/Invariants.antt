@@ -16,11 +16,18 @@ abbrev pub invariant-expand_parts-loop-p : goal.invariant-expand_parts-loop-p
 invariant-expand_parts-loop-p g l = record {
   known : AreGroundable (symbols l.signature) (sorts_in l.scope) (forms (drop l.p-index l.ps));
   taken : Takes (g.S.GroundSink.stands l.fn.sink) (g.S.GroundSink.stands l.sink)
-      (calls_of (node l.fn.junction (instances (symbols l.signature) (numbering (symbols l.signature) l.terms) (sorts_in l.scope) (forms l.ps) (terms_in l.scope))))
-      (calls_of_all (instances (symbols l.signature) (numbering (symbols l.signature) l.terms) (sorts_in l.scope) (forms (drop l.p-index l.ps)) (terms_in l.scope)));
+      (calls_of (node l.fn.junction
+      (instances (symbols l.signature) (numbering (symbols l.signature) l.terms) (sorts_in l.scope) (forms l.ps)
+      (terms_in l.scope))))
+      (calls_of_all (instances (symbols l.signature) (numbering (symbols l.signature) l.terms) (sorts_in l.scope)
+      (forms (drop l.p-index l.ps)) (terms_in l.scope)));
 }
 
 abbrev pub invariant-expand_each-loop-term : goal.invariant-expand_each-loop-term
 invariant-expand_each-loop-term g l =
     TakesAll (g.S.GroundSink.stands l.fn.sink) (g.S.GroundSink.stands l.sink)
-    (a_node And l.count ∷ calls_of_each (join_below l.term (λ x. instance (symbols l.signature) (numbering (symbols l.signature) l.terms) (l.sort.0 ∷ sorts_in l.scope) (form l.p) (x ∷ terms_in l.scope) ∷ [])))
+    (a_node And l.count
+    ∷ calls_of_each
+    (join_below l.term
+    (λ x. instance (symbols l.signature) (numbering (symbols l.signature) l.terms) (l.sort.0 ∷ sorts_in l.scope)
+    (form l.p) (x ∷ terms_in l.scope) ∷ [])))

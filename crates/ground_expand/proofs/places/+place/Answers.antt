@@ -12,6 +12,9 @@ pub application-place-requires-clause-in_range : goal.application-place-requires
 application-place-requires-clause-in_range t c =
     let sig = symbols c.args.signature.now in
     let lists = c.args.terms.now in
-    subst (λ xs. InRange (term_counts lists) (sig.from_of c.args.function.0) xs) (sym (c.as_slice.ensures.value ∙ c.places-arguments.ensures))
-    (places-within c.range_laws.ensures.along sig (numbering sig lists) (places_are_in c.place_laws.ensures.placed sig lists c.sorts-sorts.ensures.sorted c.requires.closed)
-    (terms c.args.arguments.now) (sorts_in c.args.scope.now) (terms_in c.args.scope.now) (sig.from_of c.args.function.0) c.requires.known c.requires.fits c.requires.in_range)
+    subst (λ xs. InRange (term_counts lists) (sig.from_of c.args.function.0) xs)
+    (sym (c.as_slice.ensures.value ∙ c.places-arguments.ensures))
+    (places-within c.range_laws.ensures.along sig (numbering sig lists)
+    (places_are_in c.place_laws.ensures.placed sig lists c.sorts-sorts.ensures.sorted c.requires.closed)
+    (terms c.args.arguments.now) (sorts_in c.args.scope.now) (terms_in c.args.scope.now) (sig.from_of c.args.function.0)
+    c.requires.known c.requires.fits c.requires.in_range)

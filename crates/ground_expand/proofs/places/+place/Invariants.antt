@@ -12,5 +12,6 @@ abbrev pub invariant-places-loop-t : goal.invariant-places-loop-t
 invariant-places-loop-t l = record {
   known : AreGroundableTerms (symbols l.signature) (sorts_in l.scope) (terms (drop l.t-index l.ts));
   few : length l.all + size_of (terms (drop l.t-index l.ts)) ≤ 8;
-  made : l.all ++ places_of_terms (numbering (symbols l.signature) l.terms) (terms (drop l.t-index l.ts)) (terms_in l.scope) ≡ places_of_terms (numbering (symbols l.signature) l.terms) (terms l.ts) (terms_in l.scope);
+  made : l.all ++ places_of_terms (numbering (symbols l.signature) l.terms) (terms (drop l.t-index l.ts))
+      (terms_in l.scope) ≡ places_of_terms (numbering (symbols l.signature) l.terms) (terms l.ts) (terms_in l.scope);
 }

@@ -12,4 +12,5 @@ loop-i-preserved c =
 
 pub returns : goal.returns
 returns c =
-    none_left c.args.piece c.loop-i.i (c.args.from + c.args.count) c.loop-i.out.items _ c.loop-i-test.false c.loop-i.invariant
+    none_left c.args.piece c.loop-i.i (c.args.from + c.args.count) c.loop-i.out.items _ c.loop-i-test.false
+    c.loop-i.invariant

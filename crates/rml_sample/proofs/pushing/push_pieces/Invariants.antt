@@ -5,4 +5,5 @@ use Rattle.rml_sample.proofs.pushing.push_pieces.Given as goal
 
 abbrev pub invariant-loop-i : goal.invariant-loop-i
 invariant-loop-i l =
-    l.out.items ++ pieces_text l.piece l.i (l.fn.from + l.fn.count - l.i) ≡ l.fn.out.items ++ pieces_text l.fn.piece l.fn.from l.fn.count
+    l.out.items ++ pieces_text l.piece l.i (l.fn.from + l.fn.count - l.i) ≡ l.fn.out.items
+    ++ pieces_text l.fn.piece l.fn.from l.fn.count

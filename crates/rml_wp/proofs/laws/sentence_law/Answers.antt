@@ -4,7 +4,12 @@ use Rattle.rml_wp.proofs.laws.sentence_law.Goals as goal
 pub returns-clause-fit : goal.returns-clause-fit
 returns-clause-fit c =
     sentences_fit (record {
-      replaces = record { keeps = c.exactness.ensures; bound = c.indices.ensures.bound; reads = c.indices.ensures.truth; fits = c.indices.ensures.fits };
+      replaces = record {
+        keeps = c.exactness.ensures;
+        bound = c.indices.ensures.bound;
+        reads = c.indices.ensures.truth;
+        fits = c.indices.ensures.fits;
+      };
       goals = c.goal_law.ensures.fit;
       stays = c.fragment_law.ensures;
       universal = c.inclusion.ensures.universal;

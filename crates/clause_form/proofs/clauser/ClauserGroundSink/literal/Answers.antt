@@ -16,15 +16,18 @@ pub returns-in_err-literal-clause-refused : goal.returns-in_err-literal-clause-r
 returns-in_err-literal-clause-refused c =
     let kept : (calls : List Call) → Stands c.args.self.now calls
     → StandsBy c.args.self.now.full (state_of c.literal.new.self) calls =
-    λ calls h. refuses _ c.if-self.false (state_of c.args.self.now.board) (state_of c.settle.new.self) (state_of c.literal.new.self) calls c.in_ok-settle.ensures.ended c.in_err-literal.ensures.kept h in
+    λ calls h. refuses _ c.if-self.false (state_of c.args.self.now.board) (state_of c.settle.new.self)
+    (state_of c.literal.new.self) calls c.in_ok-settle.ensures.ended c.in_err-literal.ensures.kept h in
     on_err _ _ kept
 
 pub returns-then-not-branch-clause-taken : goal.returns-then-not-branch-clause-taken
 returns-then-not-branch-clause-taken c =
     let left = c.in_ok-literal.ensures.left c.if-not-branch.true in
-    λ calls h. too_many_atoms _ c.if-self.false (state_of c.args.self.now.board) (state_of c.settle.new.self) (state_of c.settle.new.self) calls _ _ c.in_ok-settle.ensures.ended left.0 left.1 h
+    λ calls h. too_many_atoms _ c.if-self.false (state_of c.args.self.now.board) (state_of c.settle.new.self)
+    (state_of c.settle.new.self) calls _ _ c.in_ok-settle.ensures.ended left.0 left.1 h
 
 pub returns-else-not-branch-clause-taken : goal.returns-else-not-branch-clause-taken
 returns-else-not-branch-clause-taken c =
-    λ calls h. goes_on _ c.if-self.false (state_of c.args.self.now.board) (state_of c.settle.new.self) (state_of c.literal.new.self) calls _ c.in_ok-settle.ensures.ended
+    λ calls h. goes_on _ c.if-self.false (state_of c.args.self.now.board) (state_of c.settle.new.self)
+    (state_of c.literal.new.self) calls _ c.in_ok-settle.ensures.ended
     (c.in_ok-literal.ensures.taken (ap Ok c.if-not-branch.false)) h

@@ -30,10 +30,15 @@ instance-loop-t-init t c = record {
 pub instance-loop-t-preserved : goal.instance-loop-t-preserved
 instance-loop-t-preserved t c =
     let h = c.loop-t.invariant in
-    let size = args-drop c.lists.ensures.rows c.args.args.now c.loop-t.index c.loop-t.t-index c.t-item.result h.few h.left c.loop-t-test.true in
+    let size = args-drop c.lists.ensures.rows c.args.args.now c.loop-t.index c.loop-t.t-index c.t-item.result h.few
+    h.left c.loop-t-test.true in
     record {
       few = h.few;
       left = omega arith;
-      ready = (turn-ready c.lists.ensures.terms (change_of c.args.change.now) c.args.args.now c.loop-t.t-index c.t-item.result c.loop-t-test.true c.t-item.is h.ready).1;
-      counted = instance-more c.lists.ensures.terms (change_of c.args.change.now) c.args.args.now c.loop-t.t-index (c.loop-t.index - 1) c.t-item.result c.loop-t.all _ c.term.result c.put_in-all.result _ c.loop-t-test.true c.t-item.is size (c.requires.measures.places (c.loop-t.index - 1) _ (omega arith)) c.term.ensures c.put_in-all.ensures h.counted;
+      ready = (turn-ready c.lists.ensures.terms (change_of c.args.change.now) c.args.args.now c.loop-t.t-index
+          c.t-item.result c.loop-t-test.true c.t-item.is h.ready).1;
+      counted = instance-more c.lists.ensures.terms (change_of c.args.change.now) c.args.args.now c.loop-t.t-index
+          (c.loop-t.index - 1) c.t-item.result c.loop-t.all _ c.term.result c.put_in-all.result _ c.loop-t-test.true
+          c.t-item.is size (c.requires.measures.places (c.loop-t.index - 1) _ (omega arith)) c.term.ensures
+          c.put_in-all.ensures h.counted;
     }
