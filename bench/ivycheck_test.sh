@@ -276,10 +276,19 @@ expect 'help is an unknown command' is_usage --help
 expect 'no file' is_usage check
 expect 'two files' is_usage check model model
 expect 'one file for lrat' is_usage lrat model
+expect 'emit without its last word' is_usage emit model 1
+expect 'emit with a word too many' is_usage emit model 1 cnf lrat
+expect 'a sample without its number' is_usage sample
 expect 'a first look at no command line' is_usage --first-look check
 expect 'the usage line is that of the program' grep -qxF "    $(cat "$room/err")" "$here/docs/FORMATS.md"
 run check model --help
 expect 'a word that may be an option is left to the program' wrote '<check> <model> <--help> '
+run check model --terms 40 --conflicts 9
+expect 'options are left to the program' wrote '<check> <model> <--terms> <40> <--conflicts> <9> '
+run emit model 3 lrat
+expect 'so is the goal of emit' wrote '<emit> <model> <3> <lrat> '
+run sample 4
+expect 'and the size of a sample' wrote '<sample> <4> '
 run prove "$(printf '\377')"
 expect 'and so is what may be no text' wrote 'main <prove> '
 
@@ -288,6 +297,8 @@ run --first-look check model /dev/null -x -- -y
 expect 'a first look runs the code by rt try' wrote "<check> <$room/work/model> </dev/null> <-x> <--> <$room/work/-y>"
 expect 'a first look says that nothing is proved' said_once 'nothing of it is proved'
 expect 'a first look ends with the status' ended 4
+run --first-look check model --terms 40
+expect 'a first look hands options on' wrote "<check> <$room/work/model> <--terms> <40>"
 expect 'a first look builds nothing' builds 0
 
 echo "$passed passed, $failed failed"
