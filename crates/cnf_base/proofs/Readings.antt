@@ -6,6 +6,7 @@ use Rattle.std.proofs.lemmas.Bool.{ltb-false, eqb-false}
 use Rattle.base.specs.declared.refused.Refused.{Refused}
 use Rattle.base.specs.declared.refused.Refused.TheVariants.{For, NoMemory}
 use Rattle.cnf_base.specs.Answers.{Fails}
+use Rattle.cnf_base.specs.declared.fault_code.CnfFaultCode.TheVariants.{BadHeader, WrongClauseCount}
 use Rattle.cnf_base.specs.declared.cnf.Entry.{Entry}
 use Rattle.cnf_base.specs.declared.text.Stage.{Stage}
 use Rattle.cnf_base.specs.declared.text.Stage.TheVariants.{Problem, Format, Variables, Clauses, Body}
@@ -48,7 +49,7 @@ fine_cond false x y p q = q refl
 
 fine_header : (o : Option Numeral) (go : ℕ → State) (at : ℕ) → ((n : ℕ) → Fine (go n)) → FineResult (header_number o go at)
 fine_header None go at h = tt
-fine_header (Some n) go at h = fine_cond n.negative (fault 1 at) (Ok (go n.value)) (λ _. tt) (λ _. h n.value)
+fine_header (Some n) go at h = fine_cond n.negative (fault BadHeader at) (Ok (go n.value)) (λ _. tt) (λ _. h n.value)
 
 nothing_in : (m : ℕ) (es : List Entry) → es ≡ [] → AreEntries m es
 nothing_in m es e = subst (AreEntries m) (sym e) tt
@@ -83,7 +84,7 @@ said_cond false x f g h = cc h
 
 fine_lits : (s : State) (ls : List ℕ) (end : ℕ) (f : Formula) → AreEntries s.variables s.entries → ended_body s ls end ≡ Ok f → IsFormula f
 fine_lits s (l ∷ ls) end f es h = cc h
-fine_lits s [] end f es h = subst IsFormula (said_cond (length s.entries == s.count) (record { variables = s.variables; clauses = s.entries }) f (record { code = 4; at = end }) h) es
+fine_lits s [] end f es h = subst IsFormula (said_cond (length s.entries == s.count) (record { variables = s.variables; clauses = s.entries }) f (record { code = WrongClauseCount; at = end }) h) es
 
 fine_end : (x : Stage) (s : State) (end : ℕ) (f : Formula) → FineAt x s → ended_at x s end ≡ Ok f → IsFormula f
 fine_end Problem s end f p h = cc h

@@ -5,6 +5,7 @@ pub mod Words
 pub mod Starts
 pub mod Fronts
 pub mod Numerals
+pub mod FaultCodes
 pub mod Answers
 pub mod Places
 pub mod Reading

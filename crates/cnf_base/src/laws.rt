@@ -12,6 +12,8 @@ ghost use Rattle.cnf_base.specs.Places.{BeginBy};
 ghost use Rattle.cnf_base.specs.Starts.{IsBetween};
 ghost use Rattle.cnf_base.specs.Numerals.{number_of};
 ghost use Rattle.cnf_base.specs.Reading.{read_of};
+ghost use Rattle.cnf_base.specs.declared.fault_code.CnfFaultCode.{CnfFaultCode};
+ghost use Rattle.cnf_base.specs.FaultCodes as fault_codes;
 ghost use Rattle.cnf_base.specs.Writing.{literal_text, text_of, CanWrite};
 
 /// A literal and its opposite.
@@ -29,6 +31,11 @@ pub fn entry_laws()
     ensures entry { (n : ℕ) (ls : List ℕ) → AreLiterals n ls → IsEntry n (entry_of [] ls) }
     ensures truth { (value : ℕ → Bool) (ls : List ℕ) → SatisfiesEntry value (entry_of [] ls) ↔ SatisfiesClause value ls }
     ensures clause { (ls : List ℕ) → IsClause ls → entry_of [] ls ≡ Clause ls }
+{}
+
+/// Codes of the same number are the same.
+pub fn code_law()
+    ensures { (a b : CnfFaultCode) → fault_codes.number_of a ≡ fault_codes.number_of b → a ≡ b }
 {}
 
 /// What is written is read again.

@@ -2,15 +2,14 @@
 use crate::table::Table;
 use base::{Mem, Refused, Row};
 use cnf_base::{Cnf, Entry, Lit};
-use lrat_log::{Line, Outcome, Sink, growth_laws, soundness};
+use lrat_log::{Line, Outcome, RefusalCode, Sink, growth_laws, soundness};
 use std::alloc::{AllocError, Global};
 use std::marker::Model;
 
-/// A line was refused: 1 unknown id, 2 hint is neither unit nor false, 3 no conflict. The id is the
-/// line's.
+/// Why a line was refused, and the line's id.
 #[derive(Clone, Copy, PartialEq, Eq, Debug)]
 pub struct Refusal {
-    pub code: u8,
+    pub code: RefusalCode,
     pub id: u64,
 }
 

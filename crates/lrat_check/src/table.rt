@@ -4,7 +4,7 @@ use crate::marks::next_epoch;
 use crate::spans::{Span, find};
 use base::Mem;
 use cnf_base::{Lit, LitSet};
-use lrat_log::Outcome;
+use lrat_log::{Outcome, RefusalCode};
 use std::alloc::Global;
 use std::marker::Model;
 
@@ -52,10 +52,10 @@ fn check_ids(spans: &[Span], marks: &mut [u32], epoch: u32, ids: &[u64]) -> Outc
 {
     for id in ids {
         match find(spans, *id) {
-            None => return Outcome::Refused(1),
+            None => return Outcome::Refused(RefusalCode::UnknownId),
             Some(place) => {
                 if !spans[place].is_held || marks[place] == epoch {
-                    return Outcome::Refused(1);
+                    return Outcome::Refused(RefusalCode::UnknownId);
                 }
                 marks[place] = epoch;
             }

@@ -11,6 +11,7 @@ use Rattle.cnf_base.specs.Answers.{Answers}
 use Rattle.cnf_base.specs.Words.{Word, words_of}
 use Rattle.cnf_base.specs.Numerals.{number_of}
 use Rattle.cnf_base.specs.Places.{BeginBy}
+use Rattle.lrat_log.specs.declared.fault_code.LogFaultCode.TheVariants.{Unended, IdNotAbove}
 use Rattle.lrat_log.specs.declared.line.Line.{Line}
 use Rattle.lrat_log.specs.declared.text.Stage.{Stage}
 use Rattle.lrat_log.specs.declared.text.Stage.TheVariants.{Id, Second, Literals, Hints, Deleted}
@@ -65,7 +66,7 @@ module _ (n : ℕ) where
 
   end_stands : (x : Stage) (s : State) (end : ℕ) → s.place ≤ n → end ≤ n → Fails (ended_at x s end)
   end_stands Id s end p h = tt
-  end_stands Second s end p h = one_of (nat_le s.id s.last) (record { code = 4; at = s.place }) (record { code = 3; at = end }) p h
+  end_stands Second s end p h = one_of (nat_le s.id s.last) (record { code = IdNotAbove; at = s.place }) (record { code = Unended; at = end }) p h
   end_stands Literals s end p h = h
   end_stands Hints s end p h = h
   end_stands Deleted s end p h = h

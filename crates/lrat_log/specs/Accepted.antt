@@ -5,6 +5,7 @@ use Rattle.cnf_base.specs.declared.cnf.Entry.TheVariants.{Clause, True}
 use Rattle.cnf_base.specs.Literals.{member, opposite, AreLiterals}
 use Rattle.cnf_base.specs.Clauses.{has_opposites}
 use Rattle.cnf_base.specs.Formulas.{Formula}
+use Rattle.lrat_log.specs.declared.refusal_code.RefusalCode.TheVariants.{UnknownId, HintNotUnit, NoConflict}
 use Rattle.lrat_log.specs.declared.line.Line.{Line}
 use Rattle.lrat_log.specs.declared.line.Line.TheVariants.{Add, Delete}
 use Rattle.lrat_log.specs.declared.outcome.Effect.{Effect}
@@ -41,16 +42,16 @@ effect_of_entry set None = Unknown
 effect_of_entry set (Some True) = Useless
 effect_of_entry set (Some (Clause ls)) = effect_of_clause set ls
 
--- A refusal has a code: 1 unknown id, 2 hint is neither unit nor false, 3 no conflict.
+-- A hint that is not held refuses the line, and so does one that is neither unit nor false.
 abbrev pub by_effect : Effect → (ℕ → Outcome) → Outcome
-by_effect Unknown next = Refused 1
+by_effect Unknown next = Refused UnknownId
 by_effect Falsified next = Accepted
 by_effect (Sets l) next = next l
-by_effect Useless next = Refused 2
+by_effect Useless next = Refused HintNotUnit
 
 -- the hints, each in turn, from the literals that are set
 abbrev pub outcome_of_hints : Held → List ℕ → (ℕ → Bool) → Outcome
-outcome_of_hints held [] set = Refused 3
+outcome_of_hints held [] set = Refused NoConflict
 outcome_of_hints held (h ∷ hs) set = by_effect (effect_of_entry set (held h)) (λ l. outcome_of_hints held hs (also set l))
 
 -- an addition with opposite literals is accepted at once
@@ -60,7 +61,7 @@ outcome_of_addition held ls hints = if has_opposites ls then Accepted else outco
 -- each id in turn is still held
 abbrev pub outcome_of_deletion : Held → List ℕ → Outcome
 outcome_of_deletion held [] = Accepted
-outcome_of_deletion held (k ∷ ks) = cond (is_some (held k)) (outcome_of_deletion (without held (k ∷ [])) ks) (Refused 1)
+outcome_of_deletion held (k ∷ ks) = cond (is_some (held k)) (outcome_of_deletion (without held (k ∷ [])) ks) (Refused UnknownId)
 
 abbrev pub outcome_of : Held → Line → Outcome
 outcome_of held (Add id ls hints) = outcome_of_addition held ls hints

@@ -1,3 +1,5 @@
+pub mod FaultCodes
+pub mod RefusalCodes
 pub mod Held
 pub mod Accepted
 pub mod Logs

@@ -5,6 +5,8 @@ use Rattle.cnf_base.specs.declared.text.Numeral.{Numeral}
 use Rattle.cnf_base.specs.Literals.{literal_of}
 use Rattle.cnf_base.specs.Words.{Word, words_of}
 use Rattle.cnf_base.specs.Numerals.{number_of}
+use Rattle.lrat_log.specs.declared.fault_code.LogFaultCode.{LogFaultCode}
+use Rattle.lrat_log.specs.declared.fault_code.LogFaultCode.TheVariants.{BadNumber, RatHint, Unended, IdNotAbove, VariableOutOfRange}
 use Rattle.lrat_log.specs.declared.line.Line.{Line}
 use Rattle.lrat_log.specs.declared.line.Line.TheVariants.{Add, Delete}
 use Rattle.lrat_log.specs.declared.text.Stage.{Stage}
@@ -35,22 +37,22 @@ at_start variables clauses = record {
   ids = [];
 }
 
-abbrev pub fault : {A : Type 0} → ℕ → ℕ → Result A LogFault
+abbrev pub fault : {A : Type 0} → LogFaultCode → ℕ → Result A LogFault
 fault code at = Err (record { code = code; at = at })
 
 -- the id of a line
 abbrev pub take_id : State → Option Numeral → ℕ → Result State LogFault
-take_id s None at = fault 1 at
+take_id s None at = fault BadNumber at
 take_id s (Some n) at =
-    if n.negative then fault 1 at
-    else if n.value == 0 then fault 1 at
+    if n.negative then fault BadNumber at
+    else if n.value == 0 then fault BadNumber at
     else Ok (record s { stage = Second; id = n.value; place = at })
 
 -- a literal of an addition, or the 0 behind the literals
 abbrev pub take_literal : State → Option Numeral → ℕ → Result State LogFault
-take_literal s None at = fault 1 at
+take_literal s None at = fault BadNumber at
 take_literal s (Some n) at =
-    if nat_lt s.variables n.value then fault 5 at
+    if nat_lt s.variables n.value then fault VariableOutOfRange at
     else if n.value == 0 then Ok (record s { stage = Hints })
     else Ok (record s { stage = Literals; lits = s.lits ++ literal_of (not n.negative) n.value ∷ [] })
 
@@ -58,7 +60,7 @@ take_literal s (Some n) at =
 abbrev pub take_second : State → Word → Result State LogFault
 take_second s w =
     if bytes_eq w.text (codes "d") then Ok (record s { stage = Deleted })
-    else if nat_le s.id s.last then fault 4 s.place
+    else if nat_le s.id s.last then fault IdNotAbove s.place
     else take_literal s (number_of w.text) w.at
 
 abbrev pub with_addition : State → State
@@ -69,17 +71,17 @@ with_deletion s = record s { stage = Id; lines = s.lines ++ Delete s.id s.ids �
 
 -- a hint, or the 0 behind the hints
 abbrev pub take_hint : State → Option Numeral → ℕ → Result State LogFault
-take_hint s None at = fault 1 at
+take_hint s None at = fault BadNumber at
 take_hint s (Some n) at =
-    if n.negative then fault 2 at
+    if n.negative then fault RatHint at
     else if n.value == 0 then Ok (with_addition s)
     else Ok (record s { ids = s.ids ++ n.value ∷ [] })
 
 -- an id to delete, or the 0 behind them
 abbrev pub take_deleted : State → Option Numeral → ℕ → Result State LogFault
-take_deleted s None at = fault 1 at
+take_deleted s None at = fault BadNumber at
 take_deleted s (Some n) at =
-    if n.negative then fault 1 at
+    if n.negative then fault BadNumber at
     else if n.value == 0 then Ok (with_deletion s)
     else Ok (record s { ids = s.ids ++ n.value ∷ [] })
 
@@ -96,10 +98,10 @@ take_word s w = take_at s.stage s w
 -- at the end of the text; a line that ends behind its id is an addition
 abbrev pub ended_at : Stage → State → ℕ → Result (List Line) LogFault
 ended_at Id s end = Ok s.lines
-ended_at Second s end = if nat_le s.id s.last then fault 4 s.place else fault 3 end
-ended_at Literals s end = fault 3 end
-ended_at Hints s end = fault 3 end
-ended_at Deleted s end = fault 3 end
+ended_at Second s end = if nat_le s.id s.last then fault IdNotAbove s.place else fault Unended end
+ended_at Literals s end = fault Unended end
+ended_at Hints s end = fault Unended end
+ended_at Deleted s end = fault Unended end
 
 abbrev pub ended : State → ℕ → Result (List Line) LogFault
 ended s end = ended_at s.stage s end

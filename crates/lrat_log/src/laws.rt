@@ -10,6 +10,10 @@ ghost use Rattle.lrat_log.specs.declared.outcome.Outcome.TheVariants.{Accepted};
 ghost use Rattle.lrat_log.specs.declared.line.Line.TheVariants.{Add, Delete};
 ghost use Rattle.lrat_log.specs.Logs.{IsLog, IsLineOver, IsLogOver};
 ghost use Rattle.lrat_log.specs.Reading.{read_of};
+ghost use Rattle.lrat_log.specs.declared.fault_code.LogFaultCode.{LogFaultCode};
+ghost use Rattle.lrat_log.specs.declared.refusal_code.RefusalCode.{RefusalCode};
+ghost use Rattle.lrat_log.specs.FaultCodes as fault_codes;
+ghost use Rattle.lrat_log.specs.RefusalCodes as refusal_codes;
 ghost use Rattle.lrat_log.specs.Writing.{text_of};
 
 use cnf_base::{opposite_laws, word_laws};
@@ -22,6 +26,12 @@ pub fn soundness()
 {
     opposite_laws();
 }
+
+/// Codes of the same number are the same.
+pub fn code_laws()
+    ensures fault { (a b : LogFaultCode) → fault_codes.number_of a ≡ fault_codes.number_of b → a ≡ b }
+    ensures refusal { (a b : RefusalCode) → refusal_codes.number_of a ≡ refusal_codes.number_of b → a ≡ b }
+{}
 
 /// Learnt additions are accepted.
 pub fn learnt_laws()

@@ -11,6 +11,7 @@ ghost use Rattle.base.specs.Because.{Because};
 ghost use Rattle.base.specs.declared.refused.Refused.{Refused};
 ghost use Rattle.base.specs.declared.refused.Refused.TheVariants.{For};
 
+use crate::fault_code::LogFaultCode;
 use crate::line::{Line, Log};
 use crate::text::{LogFault, Stage};
 use base::{Mem, Refused, Row};
@@ -30,7 +31,7 @@ struct Reading {
     ids: Vec<u64>,
 }
 
-fn fault(code: u8, at: u64) -> Refused<LogFault>
+fn fault(code: LogFaultCode, at: u64) -> Refused<LogFault>
     ensures { result ≡ For (record { code = code; at = at }) }
 {
     Refused::For(LogFault { code, at })
@@ -56,13 +57,13 @@ impl Reading {
         ensures { StepsTo (take_id (state_of self.old) number at) self.new result }
     {
         let Some(number) = number else {
-            return Err(fault(1, at));
+            return Err(fault(LogFaultCode::BadNumber, at));
         };
         if number.negative {
-            return Err(fault(1, at));
+            return Err(fault(LogFaultCode::BadNumber, at));
         }
         if number.value == 0 {
-            return Err(fault(1, at));
+            return Err(fault(LogFaultCode::BadNumber, at));
         }
         self.stage = Stage::Second;
         self.id = number.value as u64;
@@ -75,10 +76,10 @@ impl Reading {
         ensures { StepsTo (take_literal (state_of self.old) number at) self.new result }
     {
         let Some(number) = number else {
-            return Err(fault(1, at));
+            return Err(fault(LogFaultCode::BadNumber, at));
         };
         if number.value as u64 > self.variables {
-            return Err(fault(5, at));
+            return Err(fault(LogFaultCode::VariableOutOfRange, at));
         }
         if number.value == 0 {
             self.stage = Stage::Hints;
@@ -101,7 +102,7 @@ impl Reading {
             return Ok(());
         }
         if self.id <= self.last {
-            return Err(fault(4, self.place));
+            return Err(fault(LogFaultCode::IdNotAbove, self.place));
         }
         self.take_literal(number_of(word), at)
     }
@@ -115,10 +116,10 @@ impl Reading {
         ensures { StepsTo (take_hint (state_of self.old) number at) self.new result }
     {
         let Some(number) = number else {
-            return Err(fault(1, at));
+            return Err(fault(LogFaultCode::BadNumber, at));
         };
         if number.negative {
-            return Err(fault(2, at));
+            return Err(fault(LogFaultCode::RatHint, at));
         }
         if number.value == 0 {
             match self.end_addition(alloc) {
@@ -138,10 +139,10 @@ impl Reading {
         ensures { StepsTo (take_deleted (state_of self.old) number at) self.new result }
     {
         let Some(number) = number else {
-            return Err(fault(1, at));
+            return Err(fault(LogFaultCode::BadNumber, at));
         };
         if number.negative {
-            return Err(fault(1, at));
+            return Err(fault(LogFaultCode::BadNumber, at));
         }
         if number.value == 0 {
             match self.end_deletion(alloc) {
@@ -204,7 +205,7 @@ impl Reading {
         match self.stage {
             Stage::Id => self.take_id(Some(number), at),
             Stage::Second => if self.id <= self.last {
-                Err(fault(4, self.place))
+                Err(fault(LogFaultCode::IdNotAbove, self.place))
             } else {
                 self.take_literal(Some(number), at)
             },
@@ -323,10 +324,10 @@ fn finish(reading: Reading, at: u64) -> Result<Log, Refused<LogFault>>
     match reading.stage {
         Stage::Id => Ok(Log::new(reading.lines)),
         Stage::Second => if reading.id <= reading.last {
-            Err(fault(4, reading.place))
+            Err(fault(LogFaultCode::IdNotAbove, reading.place))
         } else {
-            Err(fault(3, at))
+            Err(fault(LogFaultCode::Unended, at))
         },
-        Stage::Literals | Stage::Hints | Stage::Deleted => Err(fault(3, at)),
+        Stage::Literals | Stage::Hints | Stage::Deleted => Err(fault(LogFaultCode::Unended, at)),
     }
 }
