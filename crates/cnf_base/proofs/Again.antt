@@ -13,11 +13,15 @@ use Rattle.cnf_base.specs.declared.text.Stage.TheVariants.{Variables, Clauses, B
 use Rattle.cnf_base.specs.Literals.{literal_of, opposite, variable_of, is_positive, IsLiteral, AreLiterals}
 use Rattle.cnf_base.specs.Clauses.{entry_of}
 use Rattle.cnf_base.specs.Formulas.{Formula, AreEntries}
-use Rattle.cnf_base.specs.Words.{words_from}
+use Rattle.cnf_base.specs.Words.{Word}
+use Rattle.cnf_base.specs.Modes.{words_from}
 use Rattle.cnf_base.specs.Starts.{IsBetween}
-use Rattle.cnf_base.specs.Reading.{State, at_start, fault, header_number, body_number, and_then, read_words, read_of}
+use Rattle.cnf_base.specs.WordByWord.{State, at_start, fault, header_number, body_number, and_then, read_words}
+use Rattle.cnf_base.specs.Reading.{read_of}
 use Rattle.cnf_base.specs.Writing.{literal_text, literals_text, entries_text, text_of, CanWrite}
 use Rattle.cnf_base.proofs.Literals.{literal_of-variable_of}
+use Rattle.cnf_base.proofs.Lines.{words_are}
+use Rattle.cnf_base.proofs.Grammar.{by_words}
 use Rattle.cnf_base.proofs.Entries.{entry_kept}
 use Rattle.cnf_base.proofs.Numbers.{decimal_word, digits_word, literal_word, number_of-decimal, number_of-literal}
 
@@ -108,8 +112,8 @@ wants stage v = record { stage = stage; variables = v; count = 0; entries = []; 
 header_again : (t : List ℕ) (end : ℕ) → read_words at_start (words_from LineStart 0 (codes "p cnf " ++ t)) end ≡ read_words (wants Variables 0) (words_from InLine 6 t) end
 header_again t end = refl
 
-pub read_again : (f : Formula) → CanWrite f → read_of (text_of f) ≡ Ok f
-read_again f h =
+written_again : (f : Formula) → CanWrite f → read_words at_start (words_from LineStart 0 (text_of f)) (length (text_of f)) ≡ Ok f
+written_again f h =
     let v : ℕ = f.variables in
     let c : ℕ = length f.clauses in
     let end : ℕ = length (text_of f) in
@@ -122,3 +126,8 @@ read_again f h =
     ∙ ap (λ ws. read_words (wants Clauses v) ws end) (decimal_word InLine c lines 10 next tt h.clauses refl)
     ∙ ap (λ o. and_then (header_number o (λ n. body v n [] []) next) (λ s. read_words s (words_from LineStart (next + length (decimal c) + 1) lines) end)) (number_of-decimal c h.clauses)
     ∙ entries_again f.clauses v c (next + length (decimal c) + 1) end [] h.variables h.formula (omega arith)
+
+pub read_again : (f : Formula) → CanWrite f → read_of (text_of f) ≡ Ok f
+read_again f h =
+    let text : List ℕ = text_of f in
+    sym (by_words text) ∙ ap (λ (ws : List Word). read_words at_start ws (length text)) (sym (words_are text)) ∙ written_again f h

@@ -17,7 +17,7 @@ use Rattle.cnf_base.specs.Clauses.{IsEntry, entry_of}
 use Rattle.cnf_base.specs.Formulas.{Formula, AreEntries, IsFormula}
 use Rattle.cnf_base.specs.Words.{Word, words_of}
 use Rattle.cnf_base.specs.Numerals.{number_of}
-use Rattle.cnf_base.specs.Reading.{State, at_start, fault, header_number, body_number, take_at, take_word, ended, ended_at, ended_body, and_then, read_words, read_of}
+use Rattle.cnf_base.specs.WordByWord.{State, at_start, fault, header_number, body_number, take_at, take_word, ended, ended_at, ended_body, and_then, read_words, read_by_words}
 use Rattle.cnf_base.proofs.Entries.{entry_in, push_literal}
 use Rattle.cnf_base.proofs.Literals.{variable_of-literal_of}
 
@@ -102,12 +102,12 @@ fine_read : (ws : List Word) (s : State) (end : ℕ) (f : Formula) → Fine s �
 fine_read [] s end f p h = fine_end s.stage s end f p h
 fine_read (w ∷ ws) s end f p h = fine_then (take_word s w) (λ s. read_words s ws end) f (fine_word s.stage s w refl p) (λ s q. fine_read ws s end f q) h
 
-pub read_is_formula : (text : List ℕ) (f : Formula) → read_of text ≡ Ok f → IsFormula f
+pub read_is_formula : (text : List ℕ) (f : Formula) → read_by_words text ≡ Ok f → IsFormula f
 read_is_formula text f h = fine_read (words_of text) at_start (length text) f (refl, refl) h
 
 -- where no words are left
 pub end_is_formula : (text : List ℕ) (ws : List Word) (s : State) (f : Formula) → ws ≡ []
-    → read_words s ws (length text) ≡ read_of text → ended s (length text) ≡ Ok f → IsFormula f
+    → read_words s ws (length text) ≡ read_by_words text → ended s (length text) ≡ Ok f → IsFormula f
 end_is_formula text ws s f e same h =
     read_is_formula text f (sym same ∙ ap (λ (xs : List Word). read_words s xs (length text)) e ∙ h)
 

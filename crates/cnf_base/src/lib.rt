@@ -17,7 +17,7 @@ mod writer;
 pub use clause::{Clause, entry};
 pub use cnf::{Cnf, Entry, Values};
 pub use fault_code::CnfFaultCode;
-pub use laws::{code_law, entry_laws, opposite_laws, round_trip, word_laws};
+pub use laws::{code_law, entry_laws, opposite_laws, piece_law, round_trip, word_laws};
 pub use lit::Lit;
 pub use lit_set::LitSet;
 pub use number::{literal_of, number_of};

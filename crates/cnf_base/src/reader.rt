@@ -2,7 +2,8 @@
 ghost use Rattle.std.specs.Prelude.{◌≡◌, ◌<◌, ◌≤◌, ◌^◌, ℕ, List, [], ◌∷◌, ◌++◌, Ok, length, OnOk, IfErr, IfSome};
 ghost use Rattle.cnf_base.specs.Clauses.{entry_of};
 ghost use Rattle.cnf_base.specs.Formulas.{Formula, IsFormula};
-ghost use Rattle.cnf_base.specs.Reading.{at_start, body_number, take_word, ended, read_of};
+ghost use Rattle.cnf_base.specs.Reading.{read_of};
+ghost use Rattle.cnf_base.specs.WordByWord.{at_start, body_number, take_word, ended, read_by_words};
 ghost use Rattle.cnf_base.specs.Answers.{Answers};
 ghost use Rattle.cnf_base.specs.Places.{StandsBy};
 ghost use Rattle.cnf_base.specs.ReaderState.{state_of, is_literal, StepsTo, ReadsOn};
@@ -80,7 +81,10 @@ impl Reading {
 
     // Ends a clause.
     fn end_clause(&mut self, alloc: Global) -> Mem<()>
-        ensures { OnOk result (state_of self.new ≡ record (state_of self.old) { entries = self.old.entries ++ entry_of [] self.old.lits.items ∷ []; lits = [] }) }
+        ensures { OnOk result (state_of self.new ≡ record (state_of self.old) {
+          entries = self.old.entries ++ entry_of [] self.old.lits.items ∷ [];
+          lits = [];
+        }) }
     {
         let made = entry(alloc, self.lits.as_slice())?;
         self.entries.push(made)?;
@@ -187,7 +191,7 @@ pub fn read_cnf(alloc: Global, text: &[u8]) -> Result<Cnf, Refused<CnfFault>>
 
 // Reads the words one after another.
 fn read_text(alloc: Global, text: &[u8]) -> Result<Cnf, Refused<CnfFault>>
-    ensures { Answers (read_of text.now) result }
+    ensures { Answers (read_by_words text.now) result }
 {
     let mut reading = Reading::new(alloc);
     let mut words = Words::of(text);

@@ -9,7 +9,10 @@ use Rattle.cnf_base.specs.declared.text.LineMode.{LineMode}
 use Rattle.cnf_base.specs.declared.text.LineMode.TheVariants.{LineStart, InLine}
 use Rattle.cnf_base.specs.declared.text.Numeral.{Numeral}
 use Rattle.cnf_base.specs.Literals.{literal_of, variable_of, is_positive, IsLiteral, AreLiterals}
-use Rattle.cnf_base.specs.Words.{Word, is_blank, behind, words_from}
+use Rattle.cnf_base.specs.Words.{Word, is_blank, words_of}
+use Rattle.cnf_base.specs.Pieces.{pieces_of}
+use Rattle.cnf_base.specs.Cuts.{AreCut}
+use Rattle.cnf_base.specs.Modes.{behind, words_from}
 use Rattle.cnf_base.specs.Starts.{IsBetween}
 use Rattle.cnf_base.specs.Numerals.{number_of}
 use Rattle.cnf_base.specs.Writing.{literal_text, literals_text}
@@ -19,8 +22,10 @@ use Rattle.lrat_log.specs.declared.line.Line.TheVariants.{Add, Delete}
 use Rattle.lrat_log.specs.declared.text.Stage.{Stage}
 use Rattle.lrat_log.specs.declared.text.Stage.TheVariants.{Id, Second, Literals, Hints, Deleted}
 use Rattle.lrat_log.specs.Logs.{IsId, AreIds, IsLogOver, IsLog}
-use Rattle.lrat_log.specs.Reading.{State, fault, take_id, take_literal, take_hint, take_deleted, take_word, with_addition, with_deletion, and_then, read_words, read_of}
+use Rattle.lrat_log.specs.WordByWord.{State, fault, take_id, take_literal, take_hint, take_deleted, take_word, with_addition, with_deletion, and_then, read_words}
+use Rattle.lrat_log.specs.Reading.{read_of}
 use Rattle.lrat_log.specs.Writing.{ids_text, text_of}
+use Rattle.lrat_log.proofs.Grammar.{by_words}
 
 -- what is known of words, from the crate of the words
 pub record AreWords : Type 0 where
@@ -225,5 +230,11 @@ module _ (words : AreWords) (v : ℕ) where
       ∙ id_again id last done id0 place (100 ∷ 32 ∷ ids_tail) at end p.0.0
       ∙ b.1 ∙ c ∙ ap Ok (append_assoc done (Delete id ids ∷ []) lines)
 
-pub read_again : (words : AreWords) (v clauses : ℕ) (lines : List Line) → IsLog lines → IsLogOver v clauses lines → read_of v clauses (text_of lines) ≡ Ok lines
-read_again words v clauses lines q p = lines_again words v lines 0 clauses [] 0 0 0 (length (text_of lines)) q p
+-- what is known of the words of a text, and of their pieces
+module _ (words : AreWords) (same : (text : List ℕ) → words_from LineStart 0 text ≡ words_of text) (cut : (ws : List Word) → AreCut (pieces_of ws) ws) where
+  pub read_again : (v clauses : ℕ) (lines : List Line) → IsLog lines → IsLogOver v clauses lines → read_of v clauses (text_of lines) ≡ Ok lines
+  read_again v clauses lines q p =
+      let text : List ℕ = text_of lines in
+      sym (by_words cut v clauses text)
+      ∙ ap (λ (ws : List Word). read_words (a_state Id v clauses [] 0 0 [] []) ws (length text)) (sym (same text))
+      ∙ lines_again words v lines 0 clauses [] 0 0 0 (length text) q p

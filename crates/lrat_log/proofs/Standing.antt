@@ -17,7 +17,7 @@ use Rattle.lrat_log.specs.declared.text.Stage.{Stage}
 use Rattle.lrat_log.specs.declared.text.Stage.TheVariants.{Id, Second, Literals, Hints, Deleted}
 use Rattle.lrat_log.specs.declared.text.LogFault.{LogFault}
 use Rattle.lrat_log.specs.Places.{StandsBy}
-use Rattle.lrat_log.specs.Reading.{State, at_start, take_id, take_literal, take_second, take_hint, take_deleted, take_at, take_word, ended_at, and_then, read_words, read_of}
+use Rattle.lrat_log.specs.WordByWord.{State, at_start, take_id, take_literal, take_second, take_hint, take_deleted, take_at, take_word, ended_at, and_then, read_words, read_by_words}
 
 module _ (n : ℕ) where
   abbrev Fails : {A : Type 0} → Result A LogFault → Type 0
@@ -82,13 +82,13 @@ module _ (n : ℕ) where
 
 -- where each word of a text begins in it
 module _ (begin : (text : List ℕ) → BeginBy (length text) (words_of text)) where
-  text_stands : (variables clauses : ℕ) (text : List ℕ) → Fails (length text) (read_of variables clauses text)
+  text_stands : (variables clauses : ℕ) (text : List ℕ) → Fails (length text) (read_by_words variables clauses text)
   text_stands variables clauses text =
       let start : 0 ≤ length text = omega arith in
       let end : length text ≤ length text = omega arith in
       words_stand (length text) (words_of text) (at_start variables clauses) (length text) start end (begin text)
 
-  pub answer_stands : (variables clauses : ℕ) (text : List ℕ) (r : Result (List Line) (Refused LogFault)) → Answers (read_of variables clauses text) r
+  pub answer_stands : (variables clauses : ℕ) (text : List ℕ) (r : Result (List Line) (Refused LogFault)) → Answers (read_by_words variables clauses text) r
       → IfErr r (Because (StandsBy (length text)))
   answer_stands variables clauses text (Ok lines) a = tt
   answer_stands variables clauses text (Err (For f)) a = subst (Fails (length text)) a (text_stands variables clauses text)

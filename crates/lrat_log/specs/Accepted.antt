@@ -1,5 +1,6 @@
 -- When a line of a log is accepted: LRAT without RAT steps.
-use Rattle.std.specs.Prelude.{ℕ, ◌<◌, ◌≡◌, ◌||◌, ◌&&◌, eqb, Bool, true, false, cond, if◌then◌else◌, List, [], ◌∷◌, length, Option, Some, None, is_some}
+use Rattle.std.specs.Prelude.{ℕ, ◌<◌, ◌≡◌, ◌||◌, ◌&&◌, eqb, Bool, true, false, cond, if◌then◌else◌, List, [], ◌∷◌}
+use Rattle.std.specs.Prelude.{length, Option, Some, None, is_some}
 use Rattle.cnf_base.specs.declared.cnf.Entry.{Entry}
 use Rattle.cnf_base.specs.declared.cnf.Entry.TheVariants.{Clause, True}
 use Rattle.cnf_base.specs.Literals.{member, opposite, AreLiterals}
@@ -52,7 +53,8 @@ by_effect Useless next = Refused HintNotUnit
 -- the hints, each in turn, from the literals that are set
 abbrev pub outcome_of_hints : Held → List ℕ → (ℕ → Bool) → Outcome
 outcome_of_hints held [] set = Refused NoConflict
-outcome_of_hints held (h ∷ hs) set = by_effect (effect_of_entry set (held h)) (λ l. outcome_of_hints held hs (also set l))
+outcome_of_hints held (h ∷ hs) set =
+    by_effect (effect_of_entry set (held h)) (λ l. outcome_of_hints held hs (also set l))
 
 -- an addition with opposite literals is accepted at once
 abbrev pub outcome_of_addition : Held → List ℕ → List ℕ → Outcome
@@ -61,7 +63,8 @@ outcome_of_addition held ls hints = if has_opposites ls then Accepted else outco
 -- each id in turn is still held
 abbrev pub outcome_of_deletion : Held → List ℕ → Outcome
 outcome_of_deletion held [] = Accepted
-outcome_of_deletion held (k ∷ ks) = cond (is_some (held k)) (outcome_of_deletion (without held (k ∷ [])) ks) (Refused UnknownId)
+outcome_of_deletion held (k ∷ ks) =
+    cond (is_some (held k)) (outcome_of_deletion (without held (k ∷ [])) ks) (Refused UnknownId)
 
 abbrev pub outcome_of : Held → Line → Outcome
 outcome_of held (Add id ls hints) = outcome_of_addition held ls hints

@@ -7,5 +7,6 @@ pub mod Places
 pub mod Learnt
 pub mod Refutations
 pub mod Reading
+pub mod WordByWord
 pub mod ReaderState
 pub mod Writing

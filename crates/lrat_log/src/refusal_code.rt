@@ -1,5 +1,5 @@
-// The codes of refusals. An enum, so that no number can be one that has no words, and the words stand beside the numbers
-// in one place.
+// The codes of refusals. An enum, so that no number can be one that has no words, and the words stand beside the
+// numbers in one place.
 ghost use Rattle.std.specs.Prelude.{◌≡◌, ℕ, codes};
 ghost use Rattle.lrat_log.specs.RefusalCodes.{number_of, text_of};
 
