@@ -3,6 +3,7 @@ use Rattle.std.proofs.Common.{◌≡◌, ℕ, ◌+◌, ◌<◌, ◌≤◌, Bool,
 use Rattle.std.specs.Prelude.{◌==◌, not, codes, decimal}
 use Rattle.std.proofs.lemmas.Bool.{ne_eqb, le-ltb, eq-eqb}
 use Rattle.std.proofs.lemmas.List.{append-nil}
+use Rattle.cnf_base.specs.declared.fault_code.CnfFaultCode.TheVariants.{VariableOutOfRange, WrongClauseCount}
 use Rattle.cnf_base.specs.declared.cnf.Entry.{Entry}
 use Rattle.cnf_base.specs.declared.cnf.Entry.TheVariants.{Clause, True}
 use Rattle.cnf_base.specs.declared.text.LineMode.{LineMode}
@@ -12,11 +13,15 @@ use Rattle.cnf_base.specs.declared.text.Stage.TheVariants.{Variables, Clauses, B
 use Rattle.cnf_base.specs.Literals.{literal_of, opposite, variable_of, is_positive, IsLiteral, AreLiterals}
 use Rattle.cnf_base.specs.Clauses.{entry_of}
 use Rattle.cnf_base.specs.Formulas.{Formula, AreEntries}
-use Rattle.cnf_base.specs.Words.{words_from}
+use Rattle.cnf_base.specs.Words.{Word}
+use Rattle.cnf_base.specs.Modes.{words_from}
 use Rattle.cnf_base.specs.Starts.{IsBetween}
-use Rattle.cnf_base.specs.Reading.{State, at_start, fault, header_number, body_number, and_then, read_words, read_of}
+use Rattle.cnf_base.specs.WordByWord.{State, at_start, fault, header_number, body_number, and_then, read_words}
+use Rattle.cnf_base.specs.Reading.{read_of}
 use Rattle.cnf_base.specs.Writing.{literal_text, literals_text, entries_text, text_of, CanWrite}
 use Rattle.cnf_base.proofs.Literals.{literal_of-variable_of}
+use Rattle.cnf_base.proofs.Lines.{words_are}
+use Rattle.cnf_base.proofs.Grammar.{by_words}
 use Rattle.cnf_base.proofs.Entries.{entry_kept}
 use Rattle.cnf_base.proofs.Numbers.{decimal_word, digits_word, literal_word, number_of-decimal, number_of-literal}
 
@@ -27,8 +32,8 @@ body v c es ls = record { stage = Body; variables = v; count = c; entries = es; 
 after_lit : (v c : ℕ) (es : List Entry) (ls : List ℕ) (l : ℕ) (at : ℕ) → IsLiteral v l → length es < c
     → body_number (body v c es ls) (Some (record { negative = not (is_positive l); value = variable_of l })) at ≡ Ok (body v c es (ls ++ literal_of (not (not (is_positive l))) (variable_of l) ∷ []))
 after_lit v c es ls l at h lt =
-    ap (λ x. cond x (fault 3 at) (cond (length es == c) (fault 4 at) (cond ((variable_of l) == 0) (Ok (body v c (es ++ entry_of [] ls ∷ []) [])) (Ok (body v c es (ls ++ literal_of (not (not (is_positive l))) (variable_of l) ∷ [])))))) (le-ltb v (variable_of l) h.1)
-    ∙ ap (λ x. cond x (fault 4 at) (cond ((variable_of l) == 0) (Ok (body v c (es ++ entry_of [] ls ∷ []) [])) (Ok (body v c es (ls ++ literal_of (not (not (is_positive l))) (variable_of l) ∷ []))))) (ne_eqb (length es) c (λ e. absurd (omega (arith, lt, e))))
+    ap (λ x. cond x (fault VariableOutOfRange at) (cond (length es == c) (fault WrongClauseCount at) (cond ((variable_of l) == 0) (Ok (body v c (es ++ entry_of [] ls ∷ []) [])) (Ok (body v c es (ls ++ literal_of (not (not (is_positive l))) (variable_of l) ∷ [])))))) (le-ltb v (variable_of l) h.1)
+    ∙ ap (λ x. cond x (fault WrongClauseCount at) (cond ((variable_of l) == 0) (Ok (body v c (es ++ entry_of [] ls ∷ []) [])) (Ok (body v c es (ls ++ literal_of (not (not (is_positive l))) (variable_of l) ∷ []))))) (ne_eqb (length es) c (λ e. absurd (omega (arith, lt, e))))
     ∙ ap (λ x. cond x (Ok (body v c (es ++ entry_of [] ls ∷ []) [])) (Ok (body v c es (ls ++ literal_of (not (not (is_positive l))) (variable_of l) ∷ [])))) (ne_eqb (variable_of l) 0 (λ e. absurd (omega (arith, h.0, e))))
 
 pub twice : (l : ℕ) → literal_of (not (not (is_positive l))) (variable_of l) ≡ l
@@ -41,8 +46,8 @@ twice l = ap (λ b. literal_of b (variable_of l)) (not_not (is_positive l)) ∙ 
 after_zero : (v c : ℕ) (es : List Entry) (ls : List ℕ) (at : ℕ) → length es < c
     → body_number (body v c es ls) (Some (record { negative = false; value = 0 })) at ≡ Ok (body v c (es ++ entry_of [] ls ∷ []) [])
 after_zero v c es ls at lt =
-    ap (λ x. cond x (fault 3 at) (cond (length es == c) (fault 4 at) (Ok (body v c (es ++ entry_of [] ls ∷ []) [])))) (le-ltb v 0 (omega arith))
-    ∙ ap (λ x. cond x (fault 4 at) (Ok (body v c (es ++ entry_of [] ls ∷ []) []))) (ne_eqb (length es) c (λ e. absurd (omega (arith, lt, e))))
+    ap (λ x. cond x (fault VariableOutOfRange at) (cond (length es == c) (fault WrongClauseCount at) (Ok (body v c (es ++ entry_of [] ls ∷ []) [])))) (le-ltb v 0 (omega arith))
+    ∙ ap (λ x. cond x (fault WrongClauseCount at) (Ok (body v c (es ++ entry_of [] ls ∷ []) []))) (ne_eqb (length es) c (λ e. absurd (omega (arith, lt, e))))
 
 -- a line of a clause
 line_again : (ms : List ℕ) (mode : LineMode) (v c at end : ℕ) (es : List Entry) (ls : List ℕ) (rest : List ℕ) → IsBetween mode → v ≤ 2147483647 → AreLiterals v ms → length es < c
@@ -82,7 +87,7 @@ entries_again : (es : List Entry) (v c at end : ℕ) (done : List Entry) → v �
     → read_words (body v c done []) (words_from LineStart at (entries_text es)) end ≡ Ok (record { variables = v; clauses = done ++ es })
 entries_again [] v c at end done small p n =
     let e : length done ≡ c = omega arith in
-    ap (λ b. cond b (Ok (record { variables = v; clauses = done })) (fault 4 end)) (eq-eqb (length done) c e) ∙ ap (λ es. Ok (record { variables = v; clauses = es })) (sym (append-nil done))
+    ap (λ b. cond b (Ok (record { variables = v; clauses = done })) (fault WrongClauseCount end)) (eq-eqb (length done) c e) ∙ ap (λ es. Ok (record { variables = v; clauses = es })) (sym (append-nil done))
 entries_again (Clause ls ∷ es) v c at end done small p n =
     let lt : length done < c = omega arith in
     let l1 : length (done ++ Clause ls ∷ []) + length es ≡ c = let h = length-append done (Clause ls ∷ []) in omega (arith, h, n) in
@@ -107,8 +112,8 @@ wants stage v = record { stage = stage; variables = v; count = 0; entries = []; 
 header_again : (t : List ℕ) (end : ℕ) → read_words at_start (words_from LineStart 0 (codes "p cnf " ++ t)) end ≡ read_words (wants Variables 0) (words_from InLine 6 t) end
 header_again t end = refl
 
-pub read_again : (f : Formula) → CanWrite f → read_of (text_of f) ≡ Ok f
-read_again f h =
+written_again : (f : Formula) → CanWrite f → read_words at_start (words_from LineStart 0 (text_of f)) (length (text_of f)) ≡ Ok f
+written_again f h =
     let v : ℕ = f.variables in
     let c : ℕ = length f.clauses in
     let end : ℕ = length (text_of f) in
@@ -121,3 +126,8 @@ read_again f h =
     ∙ ap (λ ws. read_words (wants Clauses v) ws end) (decimal_word InLine c lines 10 next tt h.clauses refl)
     ∙ ap (λ o. and_then (header_number o (λ n. body v n [] []) next) (λ s. read_words s (words_from LineStart (next + length (decimal c) + 1) lines) end)) (number_of-decimal c h.clauses)
     ∙ entries_again f.clauses v c (next + length (decimal c) + 1) end [] h.variables h.formula (omega arith)
+
+pub read_again : (f : Formula) → CanWrite f → read_of (text_of f) ≡ Ok f
+read_again f h =
+    let text : List ℕ = text_of f in
+    sym (by_words text) ∙ ap (λ (ws : List Word). read_words at_start ws (length text)) (sym (words_are text)) ∙ written_again f h

@@ -2,6 +2,9 @@ pub mod Literals
 pub mod Clauses
 pub mod Sets
 pub mod Scanning
+pub mod Lines
+pub mod Pieces
+pub mod Grammar
 pub mod Entries
 pub mod Readings
 pub mod Standing

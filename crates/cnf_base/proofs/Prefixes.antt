@@ -8,7 +8,8 @@ use Rattle.std.proofs.lemmas.Grind.{common_steps}
 use Rattle.cnf_base.specs.declared.text.LineMode.{LineMode}
 use Rattle.cnf_base.specs.declared.text.LineMode.TheVariants.{LineStart, InLine, InWord}
 use Rattle.cnf_base.specs.declared.text.Numeral.{Numeral}
-use Rattle.cnf_base.specs.Words.{is_blank, behind, begins_word, word_of, words_from}
+use Rattle.cnf_base.specs.Words.{is_blank}
+use Rattle.cnf_base.specs.Modes.{behind, begins_word, word_of, words_from}
 use Rattle.cnf_base.specs.Starts.{IsBetween, IsAtStart}
 use Rattle.cnf_base.specs.Fronts.{word_len}
 use Rattle.cnf_base.specs.Numerals.{is_digit, with_digits, digits_value, signed, number_of}

@@ -6,6 +6,7 @@ use Rattle.std.proofs.lemmas.Bool.{ltb-false, eqb-false}
 use Rattle.base.specs.declared.refused.Refused.{Refused}
 use Rattle.base.specs.declared.refused.Refused.TheVariants.{For, NoMemory}
 use Rattle.cnf_base.specs.Answers.{Fails}
+use Rattle.cnf_base.specs.declared.fault_code.CnfFaultCode.TheVariants.{BadHeader, WrongClauseCount}
 use Rattle.cnf_base.specs.declared.cnf.Entry.{Entry}
 use Rattle.cnf_base.specs.declared.text.Stage.{Stage}
 use Rattle.cnf_base.specs.declared.text.Stage.TheVariants.{Problem, Format, Variables, Clauses, Body}
@@ -16,7 +17,7 @@ use Rattle.cnf_base.specs.Clauses.{IsEntry, entry_of}
 use Rattle.cnf_base.specs.Formulas.{Formula, AreEntries, IsFormula}
 use Rattle.cnf_base.specs.Words.{Word, words_of}
 use Rattle.cnf_base.specs.Numerals.{number_of}
-use Rattle.cnf_base.specs.Reading.{State, at_start, fault, header_number, body_number, take_at, take_word, ended, ended_at, ended_body, and_then, read_words, read_of}
+use Rattle.cnf_base.specs.WordByWord.{State, at_start, fault, header_number, body_number, take_at, take_word, ended, ended_at, ended_body, and_then, read_words, read_by_words}
 use Rattle.cnf_base.proofs.Entries.{entry_in, push_literal}
 use Rattle.cnf_base.proofs.Literals.{variable_of-literal_of}
 
@@ -48,7 +49,7 @@ fine_cond false x y p q = q refl
 
 fine_header : (o : Option Numeral) (go : ℕ → State) (at : ℕ) → ((n : ℕ) → Fine (go n)) → FineResult (header_number o go at)
 fine_header None go at h = tt
-fine_header (Some n) go at h = fine_cond n.negative (fault 1 at) (Ok (go n.value)) (λ _. tt) (λ _. h n.value)
+fine_header (Some n) go at h = fine_cond n.negative (fault BadHeader at) (Ok (go n.value)) (λ _. tt) (λ _. h n.value)
 
 nothing_in : (m : ℕ) (es : List Entry) → es ≡ [] → AreEntries m es
 nothing_in m es e = subst (AreEntries m) (sym e) tt
@@ -83,7 +84,7 @@ said_cond false x f g h = cc h
 
 fine_lits : (s : State) (ls : List ℕ) (end : ℕ) (f : Formula) → AreEntries s.variables s.entries → ended_body s ls end ≡ Ok f → IsFormula f
 fine_lits s (l ∷ ls) end f es h = cc h
-fine_lits s [] end f es h = subst IsFormula (said_cond (length s.entries == s.count) (record { variables = s.variables; clauses = s.entries }) f (record { code = 4; at = end }) h) es
+fine_lits s [] end f es h = subst IsFormula (said_cond (length s.entries == s.count) (record { variables = s.variables; clauses = s.entries }) f (record { code = WrongClauseCount; at = end }) h) es
 
 fine_end : (x : Stage) (s : State) (end : ℕ) (f : Formula) → FineAt x s → ended_at x s end ≡ Ok f → IsFormula f
 fine_end Problem s end f p h = cc h
@@ -101,12 +102,12 @@ fine_read : (ws : List Word) (s : State) (end : ℕ) (f : Formula) → Fine s �
 fine_read [] s end f p h = fine_end s.stage s end f p h
 fine_read (w ∷ ws) s end f p h = fine_then (take_word s w) (λ s. read_words s ws end) f (fine_word s.stage s w refl p) (λ s q. fine_read ws s end f q) h
 
-pub read_is_formula : (text : List ℕ) (f : Formula) → read_of text ≡ Ok f → IsFormula f
+pub read_is_formula : (text : List ℕ) (f : Formula) → read_by_words text ≡ Ok f → IsFormula f
 read_is_formula text f h = fine_read (words_of text) at_start (length text) f (refl, refl) h
 
 -- where no words are left
 pub end_is_formula : (text : List ℕ) (ws : List Word) (s : State) (f : Formula) → ws ≡ []
-    → read_words s ws (length text) ≡ read_of text → ended s (length text) ≡ Ok f → IsFormula f
+    → read_words s ws (length text) ≡ read_by_words text → ended s (length text) ≡ Ok f → IsFormula f
 end_is_formula text ws s f e same h =
     read_is_formula text f (sym same ∙ ap (λ (xs : List Word). read_words s xs (length text)) e ∙ h)
 

@@ -15,10 +15,12 @@ use Rattle.cnf_base.specs.declared.text.Numeral.{Numeral}
 use Rattle.cnf_base.specs.declared.text.CnfFault.{CnfFault}
 use Rattle.cnf_base.specs.Answers.{Answers}
 use Rattle.cnf_base.specs.Formulas.{Formula}
-use Rattle.cnf_base.specs.Words.{Word, next_mode, begins_word, word_of, words_from, words_of}
+use Rattle.cnf_base.specs.Words.{Word, words_of}
+use Rattle.cnf_base.specs.Modes.{next_mode, begins_word, word_of, words_from}
 use Rattle.cnf_base.specs.Numerals.{number_of}
 use Rattle.cnf_base.specs.Places.{BeginBy, StandsBy}
-use Rattle.cnf_base.specs.Reading.{State, at_start, header_number, body_number, take_at, take_word, ended_at, ended_body, and_then, read_words, read_of}
+use Rattle.cnf_base.specs.WordByWord.{State, at_start, header_number, body_number, take_at, take_word, ended_at, ended_body, and_then, read_words, read_by_words}
+use Rattle.cnf_base.proofs.Lines.{words_are}
 
 one_more : (n : ℕ) (b : Bool) (w : Word) (ws : List Word) → w.at ≤ n → BeginBy n ws → BeginBy n (cond b (w ∷ ws) ws)
 one_more n true w ws p q = (p, q)
@@ -33,7 +35,9 @@ words_begin mode at n (b ∷ bytes) h =
     (words_begin (next_mode mode b) (at + 1) n bytes behind)
 
 pub text_words_begin : (text : List ℕ) → BeginBy (length text) (words_of text)
-text_words_begin text = let all : 0 + length text ≤ length text = omega arith in words_begin LineStart 0 (length text) text all
+text_words_begin text =
+    let all : 0 + length text ≤ length text = omega arith in
+    subst (BeginBy (length text)) (words_are text) (words_begin LineStart 0 (length text) text all)
 
 module _ (n : ℕ) where
   abbrev Fails : {A : Type 0} → Result A CnfFault → Type 0
@@ -80,12 +84,12 @@ module _ (n : ℕ) where
   words_stand (w ∷ ws) s end h p =
       then_stands (take_word s w) (λ s. read_words s ws end) (word_stands s.stage s w p.0) (λ s. words_stand ws s end h p.1)
 
-text_stands : (text : List ℕ) → Fails (length text) (read_of text)
+text_stands : (text : List ℕ) → Fails (length text) (read_by_words text)
 text_stands text =
     let end : length text ≤ length text = omega arith in
     words_stand (length text) (words_of text) at_start (length text) end (text_words_begin text)
 
-pub answer_stands : (text : List ℕ) (r : Result Formula (Refused CnfFault)) → Answers (read_of text) r → IfErr r (Because (StandsBy (length text)))
+pub answer_stands : (text : List ℕ) (r : Result Formula (Refused CnfFault)) → Answers (read_by_words text) r → IfErr r (Because (StandsBy (length text)))
 answer_stands text (Ok f) a = tt
 answer_stands text (Err (For f)) a = subst (Fails (length text)) a (text_stands text)
 answer_stands text (Err NoMemory) a = tt

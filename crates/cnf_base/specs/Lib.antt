@@ -2,12 +2,17 @@ pub mod Literals
 pub mod Clauses
 pub mod Formulas
 pub mod Words
+pub mod Modes
+pub mod Pieces
+pub mod Cuts
 pub mod Starts
 pub mod Fronts
 pub mod Numerals
+pub mod FaultCodes
 pub mod Answers
 pub mod Places
 pub mod Reading
+pub mod WordByWord
 pub mod Writing
 pub mod ReaderState
 pub mod LitSetValue

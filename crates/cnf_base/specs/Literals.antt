@@ -1,5 +1,7 @@
--- Literals. Variables have the numbers 1, 2, ..; the literal 2 v says that variable v is true, 2 v + 1 that it is false.
-use Rattle.std.specs.Prelude.{ℕ, ◌+◌, ◌-◌, ◌*◌, ◌/◌, ◌%◌, ◌<◌, ◌≤◌, ◌==◌, ◌||◌, eqb, Bool, false, not, if◌then◌else◌, List, [], ◌∷◌}
+-- Literals. Variables have the numbers 1, 2, ..; the literal 2 v says that variable v is true, 2 v + 1 that it is
+-- false.
+use Rattle.std.specs.Prelude.{ℕ, ◌+◌, ◌-◌, ◌*◌, ◌/◌, ◌%◌, ◌<◌, ◌≤◌, ◌==◌, ◌||◌, eqb, Bool, false, not, if◌then◌else◌}
+use Rattle.std.specs.Prelude.{List, [], ◌∷◌}
 
 abbrev pub variable_of : ℕ → ℕ
 variable_of l = l / 2

@@ -1,5 +1,6 @@
 -- Numbers as they are written: an optional `-` and 1 to 10 digits, at most 2147483647 in size; `-0` is none.
-use Rattle.std.specs.Prelude.{ℕ, ◌+◌, ◌-◌, ◌*◌, Bool, true, false, ◌&&◌, ◌==◌, nat_le, List, [], ◌∷◌, length, Option, Some, None, if◌then◌else◌}
+use Rattle.std.specs.Prelude.{ℕ, ◌+◌, ◌-◌, ◌*◌, Bool, true, false, ◌&&◌, ◌==◌, nat_le, List, [], ◌∷◌, length, Option}
+use Rattle.std.specs.Prelude.{Some, None, if◌then◌else◌}
 use Rattle.cnf_base.specs.declared.text.Numeral.{Numeral}
 
 abbrev pub is_digit : ℕ → Bool
@@ -8,7 +9,8 @@ is_digit b = nat_le 48 b && nat_le b 57
 -- the number that these digits make behind the number n, if it is at most 2147483647
 abbrev pub with_digits : ℕ → List ℕ → Option ℕ
 with_digits n [] = Some n
-with_digits n (d ∷ ds) = if is_digit d && nat_le (n * 10 + (d - 48)) 2147483647 then with_digits (n * 10 + (d - 48)) ds else None
+with_digits n (d ∷ ds) =
+    if is_digit d && nat_le (n * 10 + (d - 48)) 2147483647 then with_digits (n * 10 + (d - 48)) ds else None
 
 abbrev pub digits_value : List ℕ → Option ℕ
 digits_value ds = if nat_le 1 (length ds) && nat_le (length ds) 10 then with_digits 0 ds else None

@@ -5,11 +5,17 @@ use Rattle.cnf_base.specs.declared.text.CnfFault.{CnfFault}
 use Rattle.cnf_base.specs.declared.reader.Reading.{Reading}
 use Rattle.cnf_base.specs.declared.text.Numeral.{Numeral}
 use Rattle.cnf_base.specs.Words.{Word}
-use Rattle.cnf_base.specs.Reading.{State, read_words}
+use Rattle.cnf_base.specs.WordByWord.{State, read_words}
 use Rattle.cnf_base.specs.Answers.{Fails}
 
 abbrev pub state_of : Reading → State
-state_of r = record { stage = r.stage; variables = r.variables; count = r.count; entries = r.entries; lits = r.lits.items }
+state_of r = record {
+  stage = r.stage;
+  variables = r.variables;
+  count = r.count;
+  entries = r.entries;
+  lits = r.lits.items;
+}
 
 abbrev pub StepsTo : Result State CnfFault → Reading → Result (Unit {0}) (Refused CnfFault) → Type 0
 StepsTo said new (Ok u) = said ≡ Ok (state_of new)

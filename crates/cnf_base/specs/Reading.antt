@@ -1,78 +1,91 @@
--- What a text in the format DIMACS CNF says, or its first fault.
-use Rattle.std.specs.Prelude.{ℕ, ◌==◌, not, nat_lt, List, [], ◌∷◌, ◌++◌, length, codes, Option, Some, None, Result, Ok, Err, if◌then◌else◌}
+-- What a text in the format DIMACS CNF says, or its first fault. Its words are a header, which is `p`, `cnf`, the
+-- number of variables and that of clauses, and numbers; each piece of these up to a 0 is a clause.
+use Rattle.std.specs.Prelude.{ℕ, ◌+◌, ◌==◌, Bool, false, not, nat_lt, List, [], ◌∷◌, length, codes, Option, Some}
+use Rattle.std.specs.Prelude.{None, Result, Ok, Err, if◌then◌else◌}
 use Rattle.std.specs.Str.{bytes_eq}
+use Rattle.cnf_base.specs.declared.fault_code.CnfFaultCode.{CnfFaultCode}
+use Rattle.cnf_base.specs.declared.fault_code.CnfFaultCode.TheVariants.{BadHeader, BadNumber, VariableOutOfRange}
+use Rattle.cnf_base.specs.declared.fault_code.CnfFaultCode.TheVariants.{WrongClauseCount, Unended}
 use Rattle.cnf_base.specs.declared.cnf.Entry.{Entry}
 use Rattle.cnf_base.specs.declared.text.Numeral.{Numeral}
-use Rattle.cnf_base.specs.declared.text.Stage.{Stage}
-use Rattle.cnf_base.specs.declared.text.Stage.TheVariants.{Problem, Format, Variables, Clauses, Body}
 use Rattle.cnf_base.specs.declared.text.CnfFault.{CnfFault}
-use Rattle.cnf_base.specs.Literals.{literal_of}
 use Rattle.cnf_base.specs.Clauses.{entry_of}
 use Rattle.cnf_base.specs.Formulas.{Formula}
 use Rattle.cnf_base.specs.Words.{Word, words_of}
 use Rattle.cnf_base.specs.Numerals.{number_of}
+use Rattle.cnf_base.specs.Pieces.{value_in, literals_in, pieces_of, first_fault, unless}
 
--- what was read so far: the header as far as the stage says, the clauses, and the literals of the next
-pub record State : Type 0 where
-  pub stage : Stage
+abbrev pub fault_at : CnfFaultCode → ℕ → CnfFault
+fault_at code at = record { code = code; at = at }
+
+-- a number without a sign
+abbrev pub is_count : Option Numeral → Bool
+is_count None = false
+is_count (Some n) = not n.negative
+
+abbrev pub count_in : Word → ℕ
+count_in w = value_in (number_of w.text)
+
+-- the tests of the four words of a header
+abbrev pub header_words : List (List ℕ → Bool)
+header_words =
+    (λ w. bytes_eq w (codes "p")) ∷ (λ w. bytes_eq w (codes "cnf"))
+    ∷ (λ w. is_count (number_of w)) ∷ (λ w. is_count (number_of w)) ∷ []
+
+-- the first word that is not the one wanted, or the end of the text where it is missing
+abbrev pub header_fault : List (List ℕ → Bool) → List Word → ℕ → Option CnfFault
+header_fault [] ws end = None
+header_fault (is_wanted ∷ wanted) [] end = Some (fault_at BadHeader end)
+header_fault (is_wanted ∷ wanted) (w ∷ ws) end =
+    if is_wanted w.text then header_fault wanted ws end else Some (fault_at BadHeader w.at)
+
+-- how many variables and clauses the header says
+pub record Header : Type 0 where
   pub variables : ℕ
-  pub count : ℕ
-  pub entries : List Entry
-  pub lits : List ℕ
+  pub clauses : ℕ
 
-abbrev pub at_start : State
-at_start = record { stage = Problem; variables = 0; count = 0; entries = []; lits = [] }
+-- what is wrong with a number of a clause, behind so many clauses
+abbrev pub fault_of_number : Header → ℕ → ℕ → Option Numeral → Option CnfFault
+fault_of_number h done at None = Some (fault_at BadNumber at)
+fault_of_number h done at (Some n) =
+    if nat_lt h.variables n.value then Some (fault_at VariableOutOfRange at)
+    else if done == h.clauses then Some (fault_at WrongClauseCount at)
+    else None
 
-abbrev pub fault : {A : Type 0} → ℕ → ℕ → Result A CnfFault
-fault code at = Err (record { code = code; at = at })
+abbrev pub fault_of : Header → ℕ → Word → Option CnfFault
+fault_of h done w = fault_of_number h done w.at (number_of w.text)
 
-abbrev pub header_number : Option Numeral → (ℕ → State) → ℕ → Result State CnfFault
-header_number None go at = fault 1 at
-header_number (Some n) go at = if n.negative then fault 1 at else Ok (go n.value)
+-- behind the last 0 there is nothing, and all clauses have come
+abbrev pub ended : Header → ℕ → List Word → ℕ → Result (List Entry) CnfFault
+ended h done (w ∷ ws) end = Err (fault_at Unended end)
+ended h done [] end = if done == h.clauses then Ok [] else Err (fault_at WrongClauseCount end)
 
--- a literal, or the 0 that ends a clause
-abbrev pub body_number : State → Option Numeral → ℕ → Result State CnfFault
-body_number s None at = fault 2 at
-body_number s (Some n) at =
-    if nat_lt s.variables n.value then fault 3 at
-    else if length s.entries == s.count then fault 4 at
-    else if n.value == 0 then Ok (record s { entries = s.entries ++ entry_of [] s.lits ∷ []; lits = [] })
-    else Ok (record s { lits = s.lits ++ literal_of (not n.negative) n.value ∷ [] })
+abbrev pub with_clause : Entry → Result (List Entry) CnfFault → Result (List Entry) CnfFault
+with_clause e (Ok es) = Ok (e ∷ es)
+with_clause e (Err fault) = Err fault
 
--- the header is `p cnf`, the number of variables and that of clauses
-abbrev pub take_at : Stage → State → Word → Result State CnfFault
-take_at Problem s w = if bytes_eq w.text (codes "p") then Ok (record s { stage = Format }) else fault 1 w.at
-take_at Format s w = if bytes_eq w.text (codes "cnf") then Ok (record s { stage = Variables }) else fault 1 w.at
-take_at Variables s w = header_number (number_of w.text) (λ n. record s { stage = Clauses; variables = n }) w.at
-take_at Clauses s w = header_number (number_of w.text) (λ n. record s { stage = Body; count = n }) w.at
-take_at Body s w = body_number s (number_of w.text) w.at
+-- each piece in turn, behind so many clauses: its first fault, or its clause
+abbrev pub read_clauses : Header → ℕ → List (List Word) → List Word → ℕ → Result (List Entry) CnfFault
+read_clauses h done [] rest end = unless (first_fault (fault_of h done) rest) (ended h done rest end)
+read_clauses h done (piece ∷ pieces) rest end =
+    unless (first_fault (fault_of h done) piece)
+    (with_clause (entry_of [] (literals_in piece)) (read_clauses h (done + 1) pieces rest end))
 
-abbrev pub take_word : State → Word → Result State CnfFault
-take_word s w = take_at s.stage s w
+abbrev pub formula_of : ℕ → Result (List Entry) CnfFault → Result Formula CnfFault
+formula_of variables (Ok es) = Ok (record { variables = variables; clauses = es })
+formula_of variables (Err fault) = Err fault
 
--- at the end of the text
-abbrev pub ended_body : State → List ℕ → ℕ → Result Formula CnfFault
-ended_body s (l ∷ ls) end = fault 5 end
-ended_body s [] end = if length s.entries == s.count then Ok (record { variables = s.variables; clauses = s.entries }) else fault 4 end
+abbrev pub read_body : Header → List Word → ℕ → Result Formula CnfFault
+read_body h ws end = formula_of h.variables (read_clauses h 0 (pieces_of ws).whole (pieces_of ws).rest end)
 
-abbrev pub ended_at : Stage → State → ℕ → Result Formula CnfFault
-ended_at Body s end = ended_body s s.lits end
-ended_at Problem s end = fault 1 end
-ended_at Format s end = fault 1 end
-ended_at Variables s end = fault 1 end
-ended_at Clauses s end = fault 1 end
+-- what the words say whose header is in order
+abbrev pub behind_header : List Word → ℕ → Result Formula CnfFault
+behind_header (p ∷ (cnf ∷ (variables ∷ (clauses ∷ body)))) end =
+    read_body (record { variables = count_in variables; clauses = count_in clauses }) body end
+behind_header _ end = Err (fault_at BadHeader end)
 
-abbrev pub ended : State → ℕ → Result Formula CnfFault
-ended s end = ended_at s.stage s end
+abbrev pub read_text : List Word → ℕ → Result Formula CnfFault
+read_text ws end = unless (header_fault header_words ws end) (behind_header ws end)
 
-abbrev pub and_then : Result State CnfFault → (State → Result Formula CnfFault) → Result Formula CnfFault
-and_then (Ok s) go = go s
-and_then (Err f) go = Err f
-
--- each word in turn; the first that is refused is the fault
-abbrev pub read_words : State → List Word → ℕ → Result Formula CnfFault
-read_words s [] end = ended s end
-read_words s (w ∷ ws) end = and_then (take_word s w) (λ s. read_words s ws end)
-
-abbrev pub read_of : List ℕ → Result Formula CnfFault
-read_of text = read_words at_start (words_of text) (length text)
+unfoldable pub read_of : List ℕ → Result Formula CnfFault
+read_of text = read_text (words_of text) (length text)

@@ -2,7 +2,7 @@
 use Rattle.std.specs.Prelude.{ℕ, ◌≡◌, true, List, [], ◌∷◌}
 use Rattle.cnf_base.specs.declared.text.LineMode.{LineMode}
 use Rattle.cnf_base.specs.declared.text.LineMode.TheVariants.{LineStart, InLine, InWord, Comment}
-use Rattle.cnf_base.specs.Words.{begins_word}
+use Rattle.cnf_base.specs.Modes.{begins_word}
 
 abbrev pub IsAtStart : LineMode → List ℕ → Type 0
 IsAtStart mode [] = Unit {0}

@@ -1,45 +1,49 @@
--- The words of a text. A line whose first byte is `c` is a comment.
-use Rattle.std.specs.Prelude.{ℕ, ◌+◌, Bool, false, ◌||◌, ◌==◌, not, List, [], ◌∷◌, take, if◌then◌else◌}
-use Rattle.std.specs.List.{prefix_len}
-use Rattle.cnf_base.specs.declared.text.LineMode.{LineMode}
-use Rattle.cnf_base.specs.declared.text.LineMode.TheVariants.{LineStart, InLine, InWord, Comment}
+-- The words of a text. Its bytes are cut into lines at each line feed. A line whose first byte is `c` is a comment; the
+-- others are cut into words at each blank.
+use Rattle.std.specs.Prelude.{ℕ, ◌+◌, Bool, false, ◌||◌, ◌==◌, List, [], ◌∷◌, ◌++◌, map, if◌then◌else◌}
 
 -- space, tab, carriage return, line feed
 abbrev pub is_blank : ℕ → Bool
 is_blank b = (b == 32) || (b == 9) || (b == 13) || (b == 10)
 
--- behind a byte that is no part of a comment
-abbrev pub behind : ℕ → LineMode
-behind b = if b == 10 then LineStart else if is_blank b then InLine else InWord
+-- a byte and its place
+pub record Byte : Type 0 where
+  pub at : ℕ
+  pub byte : ℕ
 
-abbrev pub next_mode : LineMode → ℕ → LineMode
-next_mode Comment b = if b == 10 then LineStart else Comment
-next_mode LineStart b = if b == 99 then Comment else behind b
-next_mode InLine b = behind b
-next_mode InWord b = behind b
+-- bytes, the first of which stands at this place
+abbrev pub placed : ℕ → List ℕ → List Byte
+placed at [] = []
+placed at (b ∷ bytes) = record { at = at; byte = b } ∷ placed (at + 1) bytes
 
--- whether a word begins with this byte
-abbrev pub begins_word : LineMode → ℕ → Bool
-begins_word Comment b = false
-begins_word LineStart b = if b == 99 then false else not (is_blank b)
-begins_word InLine b = not (is_blank b)
-begins_word InWord b = false
+-- one more byte in front of the first piece
+abbrev pub onto : Byte → List (List Byte) → List (List Byte)
+onto b [] = (b ∷ []) ∷ []
+onto b (piece ∷ pieces) = (b ∷ piece) ∷ pieces
+
+-- the pieces before, between and behind the bytes of a kind
+abbrev pub cut : (ℕ → Bool) → List Byte → List (List Byte)
+cut is_end [] = [] ∷ []
+cut is_end (b ∷ bytes) = if is_end b.byte then [] ∷ cut is_end bytes else onto b (cut is_end bytes)
 
 -- a word and the place of its first byte
 pub record Word : Type 0 where
   pub at : ℕ
   pub text : List ℕ
 
--- the bytes up to the next blank
-abbrev pub word_of : List ℕ → List ℕ
-word_of bytes = take (prefix_len (λ b. not (is_blank b)) bytes) bytes
+-- a piece is a word, unless it is empty
+abbrev pub as_words : List (List Byte) → List Word
+as_words [] = []
+as_words ([] ∷ pieces) = as_words pieces
+as_words ((b ∷ bytes) ∷ pieces) = record { at = b.at; text = b.byte ∷ map (λ x. x.byte) bytes } ∷ as_words pieces
 
--- the words of these bytes, the first of which stands at this place
-abbrev pub words_from : LineMode → ℕ → List ℕ → List Word
-words_from mode at [] = []
-words_from mode at (b ∷ bytes) =
-    if begins_word mode b then record { at = at; text = word_of (b ∷ bytes) } ∷ words_from (next_mode mode b) (at + 1) bytes
-    else words_from (next_mode mode b) (at + 1) bytes
+abbrev pub is_comment : List Byte → Bool
+is_comment [] = false
+is_comment (b ∷ bytes) = b.byte == 99
 
-abbrev pub words_of : List ℕ → List Word
-words_of text = words_from LineStart 0 text
+abbrev pub words_in : List (List Byte) → List Word
+words_in [] = []
+words_in (line ∷ lines) = (if is_comment line then [] else as_words (cut is_blank line)) ++ words_in lines
+
+unfoldable pub words_of : List ℕ → List Word
+words_of text = words_in (cut (λ b. b == 10) (placed 0 text))

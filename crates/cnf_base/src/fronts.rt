@@ -1,6 +1,6 @@
 // Numbers in front of some bytes, in one pass. What is not found here may still be a number.
 ghost use Rattle.std.specs.Prelude.{◌≡◌, ◌↔◌, ◌<◌, ◌≤◌, ◌+◌, ◌^◌, length, drop, Some, IfSome, IsTrue};
-ghost use Rattle.cnf_base.specs.Words.{word_of};
+ghost use Rattle.cnf_base.specs.Modes.{word_of};
 ghost use Rattle.cnf_base.specs.Fronts.{word_len};
 ghost use Rattle.cnf_base.specs.Numerals.{with_digits, digits_value, number_of};
 

@@ -1,17 +1,24 @@
 // What follows from the definitions alone.
-ghost use Rattle.std.specs.Prelude.{ℕ, ◌+◌, ◌≤◌, Bool, true, false, not, List, [], ◌∷◌, ◌++◌, length, decimal, Some, Ok, ◌≡◌, ◌↔◌};
-ghost use Rattle.cnf_base.specs.Literals.{opposite, variable_of, is_positive, literal_of, is_true, IsLiteral, AreLiterals};
+ghost use Rattle.std.specs.Prelude.{ℕ, ◌+◌, ◌≤◌, Bool, true, false, not, List, [], ◌∷◌, ◌++◌, length, decimal, Some};
+ghost use Rattle.std.specs.Prelude.{Ok, ◌≡◌, ◌↔◌};
+ghost use Rattle.cnf_base.specs.Literals.{opposite, variable_of, is_positive, literal_of, is_true, IsLiteral};
+ghost use Rattle.cnf_base.specs.Literals.{AreLiterals};
 ghost use Rattle.cnf_base.specs.declared.cnf.Entry.TheVariants.{Clause};
 ghost use Rattle.cnf_base.specs.Clauses.{IsClause, IsEntry, entry_of, SatisfiesClause, SatisfiesEntry};
 ghost use Rattle.cnf_base.specs.Formulas.{Formula};
 ghost use Rattle.cnf_base.specs.declared.text.LineMode.{LineMode};
 ghost use Rattle.cnf_base.specs.declared.text.Numeral.{Numeral};
-ghost use Rattle.cnf_base.specs.declared.text.LineMode.TheVariants.{InLine};
-ghost use Rattle.cnf_base.specs.Words.{is_blank, behind, words_from, words_of};
+ghost use Rattle.cnf_base.specs.declared.text.LineMode.TheVariants.{LineStart, InLine};
+ghost use Rattle.cnf_base.specs.Words.{Word, is_blank, words_of};
+ghost use Rattle.cnf_base.specs.Modes.{behind, words_from};
+ghost use Rattle.cnf_base.specs.Pieces.{pieces_of};
+ghost use Rattle.cnf_base.specs.Cuts.{AreCut};
 ghost use Rattle.cnf_base.specs.Places.{BeginBy};
 ghost use Rattle.cnf_base.specs.Starts.{IsBetween};
 ghost use Rattle.cnf_base.specs.Numerals.{number_of};
 ghost use Rattle.cnf_base.specs.Reading.{read_of};
+ghost use Rattle.cnf_base.specs.declared.fault_code.CnfFaultCode.{CnfFaultCode};
+ghost use Rattle.cnf_base.specs.FaultCodes as fault_codes;
 ghost use Rattle.cnf_base.specs.Writing.{literal_text, text_of, CanWrite};
 
 /// A literal and its opposite.
@@ -27,8 +34,14 @@ pub fn opposite_laws()
 /// clause makes itself.
 pub fn entry_laws()
     ensures entry { (n : ℕ) (ls : List ℕ) → AreLiterals n ls → IsEntry n (entry_of [] ls) }
-    ensures truth { (value : ℕ → Bool) (ls : List ℕ) → SatisfiesEntry value (entry_of [] ls) ↔ SatisfiesClause value ls }
+    ensures truth { (value : ℕ → Bool) (ls : List ℕ)
+        → SatisfiesEntry value (entry_of [] ls) ↔ SatisfiesClause value ls }
     ensures clause { (ls : List ℕ) → IsClause ls → entry_of [] ls ≡ Clause ls }
+{}
+
+/// Codes of the same number are the same.
+pub fn code_law()
+    ensures { (a b : CnfFaultCode) → fault_codes.number_of a ≡ fault_codes.number_of b → a ≡ b }
 {}
 
 /// What is written is read again.
@@ -36,16 +49,28 @@ pub fn round_trip()
     ensures { (f : Formula) → CanWrite f → read_of (text_of f) ≡ Ok f }
 {}
 
-/// A number, or a literal, in front of a blank is one word, which says it. Each word begins in the
-/// text.
+/// The pieces of some words are the words again, cut behind each 0.
+pub fn piece_law()
+    ensures { (ws : List Word) → AreCut (pieces_of ws) ws }
+{}
+
+/// A number, or a literal, in front of a blank is one word, which says it. Words that are found byte by
+/// byte are the words of the text, and each begins in it.
 pub fn word_laws()
-    ensures number { (mode : LineMode) (n : ℕ) (rest : List ℕ) (b at : ℕ) → IsBetween mode → n ≤ 2147483647 → is_blank b ≡ true
-        → words_from mode at (decimal n ++ b ∷ rest) ≡ record { at = at; text = decimal n } ∷ words_from (behind b) (at + length (decimal n) + 1) rest }
-    ensures number_value { (n : ℕ) → n ≤ 2147483647 → number_of (decimal n) ≡ Some (record { negative = false; value = n }) }
-    ensures literal { (mode : LineMode) (n l : ℕ) (rest : List ℕ) (at : ℕ) → IsBetween mode → n ≤ 2147483647 → IsLiteral n l
-        → words_from mode at (literal_text l ++ 32 ∷ rest) ≡ record { at = at; text = literal_text l } ∷ words_from InLine (at + length (literal_text l) + 1) rest }
-    ensures literal_value { (n l : ℕ) → n ≤ 2147483647 → IsLiteral n l → number_of (literal_text l) ≡ Some (record { negative = not (is_positive l); value = variable_of l }) }
+    ensures number { (mode : LineMode) (n : ℕ) (rest : List ℕ) (b at : ℕ)
+        → IsBetween mode → n ≤ 2147483647 → is_blank b ≡ true
+        → words_from mode at (decimal n ++ b ∷ rest)
+        ≡ record { at = at; text = decimal n } ∷ words_from (behind b) (at + length (decimal n) + 1) rest }
+    ensures number_value { (n : ℕ)
+        → n ≤ 2147483647 → number_of (decimal n) ≡ Some (record { negative = false; value = n }) }
+    ensures literal { (mode : LineMode) (n l : ℕ) (rest : List ℕ) (at : ℕ)
+        → IsBetween mode → n ≤ 2147483647 → IsLiteral n l
+        → words_from mode at (literal_text l ++ 32 ∷ rest)
+        ≡ record { at = at; text = literal_text l } ∷ words_from InLine (at + length (literal_text l) + 1) rest }
+    ensures literal_value { (n l : ℕ) → n ≤ 2147483647 → IsLiteral n l
+        → number_of (literal_text l) ≡ Some (record { negative = not (is_positive l); value = variable_of l }) }
     ensures small { (text : List ℕ) (n : Numeral) → number_of text ≡ Some n → n.value ≤ 2147483647 }
     ensures same { (l : ℕ) → literal_of (not (not (is_positive l))) (variable_of l) ≡ l }
+    ensures words { (text : List ℕ) → words_from LineStart 0 text ≡ words_of text }
     ensures places { (text : List ℕ) → BeginBy (length text) (words_of text) }
 {}

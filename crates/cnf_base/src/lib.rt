@@ -3,6 +3,7 @@
 
 mod clause;
 mod cnf;
+mod fault_code;
 mod fronts;
 mod laws;
 mod lit;
@@ -15,7 +16,8 @@ mod writer;
 
 pub use clause::{Clause, entry};
 pub use cnf::{Cnf, Entry, Values};
-pub use laws::{entry_laws, opposite_laws, round_trip, word_laws};
+pub use fault_code::CnfFaultCode;
+pub use laws::{code_law, entry_laws, opposite_laws, piece_law, round_trip, word_laws};
 pub use lit::Lit;
 pub use lit_set::LitSet;
 pub use number::{literal_of, number_of};

@@ -2,7 +2,8 @@
 ghost use Rattle.std.specs.Prelude.{◌≡◌, ◌<◌, ◌≤◌, ◌^◌, ℕ, List, [], ◌∷◌, ◌++◌, Ok, length, OnOk, IfErr, IfSome};
 ghost use Rattle.cnf_base.specs.Clauses.{entry_of};
 ghost use Rattle.cnf_base.specs.Formulas.{Formula, IsFormula};
-ghost use Rattle.cnf_base.specs.Reading.{at_start, body_number, take_word, ended, read_of};
+ghost use Rattle.cnf_base.specs.Reading.{read_of};
+ghost use Rattle.cnf_base.specs.WordByWord.{at_start, body_number, take_word, ended, read_by_words};
 ghost use Rattle.cnf_base.specs.Answers.{Answers};
 ghost use Rattle.cnf_base.specs.Places.{StandsBy};
 ghost use Rattle.cnf_base.specs.ReaderState.{state_of, is_literal, StepsTo, ReadsOn};
@@ -10,6 +11,7 @@ ghost use Rattle.base.specs.Because.{Because};
 ghost use Rattle.base.specs.declared.refused.Refused.{Refused};
 ghost use Rattle.base.specs.declared.refused.Refused.TheVariants.{For};
 
+use crate::fault_code::CnfFaultCode;
 use crate::number::{literal_of, number_of};
 use crate::text::{CnfFault, Numeral, Stage};
 use crate::words::Words;
@@ -27,7 +29,7 @@ struct Reading {
     lits: Vec<Lit>,
 }
 
-fn fault(code: u8, at: u64) -> Refused<CnfFault>
+fn fault(code: CnfFaultCode, at: u64) -> Refused<CnfFault>
     ensures { result ≡ For (record { code = code; at = at }) }
 {
     Refused::For(CnfFault { code, at })
@@ -57,13 +59,13 @@ impl Reading {
         ensures { StepsTo (body_number (state_of self.old) number at) self.new result }
     {
         let Some(number) = number else {
-            return Err(fault(2, at));
+            return Err(fault(CnfFaultCode::BadNumber, at));
         };
         if number.value > self.variables {
-            return Err(fault(3, at));
+            return Err(fault(CnfFaultCode::VariableOutOfRange, at));
         }
         if self.entries.len() as u64 == self.count as u64 {
-            return Err(fault(4, at));
+            return Err(fault(CnfFaultCode::WrongClauseCount, at));
         }
         if number.value == 0 {
             match self.end_clause(alloc) {
@@ -79,7 +81,10 @@ impl Reading {
 
     // Ends a clause.
     fn end_clause(&mut self, alloc: Global) -> Mem<()>
-        ensures { OnOk result (state_of self.new ≡ record (state_of self.old) { entries = self.old.entries ++ entry_of [] self.old.lits.items ∷ []; lits = [] }) }
+        ensures { OnOk result (state_of self.new ≡ record (state_of self.old) {
+          entries = self.old.entries ++ entry_of [] self.old.lits.items ∷ [];
+          lits = [];
+        }) }
     {
         let made = entry(alloc, self.lits.as_slice())?;
         self.entries.push(made)?;
@@ -130,14 +135,14 @@ impl Reading {
         match self.stage {
             Stage::Problem => {
                 if word != b"p".as_slice() {
-                    return Err(fault(1, at));
+                    return Err(fault(CnfFaultCode::BadHeader, at));
                 }
                 self.stage = Stage::Format;
                 Ok(())
             }
             Stage::Format => {
                 if word != b"cnf".as_slice() {
-                    return Err(fault(1, at));
+                    return Err(fault(CnfFaultCode::BadHeader, at));
                 }
                 self.stage = Stage::Variables;
                 Ok(())
@@ -153,7 +158,7 @@ impl Reading {
                     self.variables = value;
                     Ok(())
                 }
-                _ => Err(fault(1, at)),
+                _ => Err(fault(CnfFaultCode::BadHeader, at)),
             },
             Stage::Clauses => match number_of(word) {
                 Some(
@@ -166,7 +171,7 @@ impl Reading {
                     self.count = value;
                     Ok(())
                 }
-                _ => Err(fault(1, at)),
+                _ => Err(fault(CnfFaultCode::BadHeader, at)),
             },
             Stage::Body => self.take_number(alloc, number_of(word), at),
         }
@@ -186,7 +191,7 @@ pub fn read_cnf(alloc: Global, text: &[u8]) -> Result<Cnf, Refused<CnfFault>>
 
 // Reads the words one after another.
 fn read_text(alloc: Global, text: &[u8]) -> Result<Cnf, Refused<CnfFault>>
-    ensures { Answers (read_of text.now) result }
+    ensures { Answers (read_by_words text.now) result }
 {
     let mut reading = Reading::new(alloc);
     let mut words = Words::of(text);
@@ -210,13 +215,13 @@ fn finish(reading: Reading, at: u64) -> Result<Cnf, Refused<CnfFault>>
 {
     match reading.stage {
         Stage::Body => {}
-        _ => return Err(fault(1, at)),
+        _ => return Err(fault(CnfFaultCode::BadHeader, at)),
     }
     if reading.lits.len() != 0 {
-        return Err(fault(5, at));
+        return Err(fault(CnfFaultCode::Unended, at));
     }
     if reading.entries.len() as u64 != reading.count as u64 {
-        return Err(fault(4, at));
+        return Err(fault(CnfFaultCode::WrongClauseCount, at));
     }
     Ok(Cnf::new(reading.variables, reading.entries))
 }

@@ -1,4 +1,5 @@
 // What the texts of formulas and logs are made of.
+use crate::fault_code::CnfFaultCode;
 
 /// Where a reader stands before a byte.
 #[derive(Clone, Copy)]
@@ -26,10 +27,9 @@ pub enum Stage {
     Body,
 }
 
-/// What is wrong with the text of a formula, and at which byte: 1 bad header, 2 bad number, 3 variable
-/// out of range, 4 wrong number of clauses, 5 unended.
+/// What is wrong with the text of a formula, and at which byte, from 0 on.
 #[derive(Clone, Copy, PartialEq, Eq, Debug)]
 pub struct CnfFault {
-    pub code: u8,
+    pub code: CnfFaultCode,
     pub at: u64,
 }

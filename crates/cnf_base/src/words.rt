@@ -1,7 +1,9 @@
 // The words of a text.
-ghost use Rattle.std.specs.Prelude.{◌≡◌, ◌≤◌, ◌<◌, ◌+◌, ◌^◌, ℕ, List, [], ◌∷◌, length, false, not, Some, MatchOption, IfSome};
+ghost use Rattle.std.specs.Prelude.{◌≡◌, ◌≤◌, ◌<◌, ◌+◌, ◌^◌, ℕ, List, [], ◌∷◌, length, false, not, Some, MatchOption};
+ghost use Rattle.std.specs.Prelude.{IfSome};
 ghost use Rattle.std.specs.List.{prefix_len};
-ghost use Rattle.cnf_base.specs.Words.{is_blank, behind, next_mode, begins_word, words_from, words_of};
+ghost use Rattle.cnf_base.specs.Words.{is_blank, words_of};
+ghost use Rattle.cnf_base.specs.Modes.{behind, next_mode, begins_word, words_from};
 ghost use Rattle.cnf_base.specs.Starts.{IsAtStart};
 ghost use Rattle.cnf_base.specs.Numerals.{number_of};
 
@@ -27,7 +29,8 @@ pub struct Words<'a> {
 
 impl<'a> Model for Words<'a> {
     ghost use Rattle.std.specs.Prelude.{List, ◌+◌, ◌<◌, ◌^◌, length};
-    ghost use Rattle.cnf_base.specs.Words.{Word, words_from};
+    ghost use Rattle.cnf_base.specs.Words.{Word};
+    ghost use Rattle.cnf_base.specs.Modes.{words_from};
 
     ghost Value = { List Word };
 
@@ -121,6 +124,7 @@ fn at_word<'a>(rest: &'a [u8], at: u64, mode: LineMode) -> (&'a [u8], u64, LineM
 }
 
 impl<'a> Words<'a> {
+    #[tactic(auto, using(crate::proofs::Lines::words_are))]
     pub fn of(text: &'a [u8]) -> Words<'a>
         ensures { result ≡ words_of text.now }
     {
@@ -134,7 +138,8 @@ impl<'a> Words<'a> {
 
     /// Takes the next word.
     pub fn next_word(&mut self) -> Option<Word<'a>>
-        ensures { MatchOption result (self.old ≡ []) (λ w. self.old ≡ record { at = w.at; text = w.text.now } ∷ self.new) }
+        ensures { MatchOption result (self.old ≡ [])
+            (λ w. self.old ≡ record { at = w.at; text = w.text.now } ∷ self.new) }
     {
         let (rest, at, _mode) = at_word(self.rest, self.at, self.mode);
         let len = word_len(rest);
@@ -151,7 +156,8 @@ impl<'a> Words<'a> {
     /// Takes the next word if it is a number behind the blank that ends the last word. Where it takes
     /// nothing the next word may still be a number.
     pub fn next_number(&mut self) -> Option<(u64, Numeral)>
-        ensures word { MatchOption result (self.new ≡ self.old) (λ r. (text : List ℕ) × (self.old ≡ record { at = r.0; text = text } ∷ self.new) × (number_of text ≡ Some r.1)) }
+        ensures word { MatchOption result (self.new ≡ self.old) (λ r. (text : List ℕ)
+            × (self.old ≡ record { at = r.0; text = text } ∷ self.new) × (number_of text ≡ Some r.1)) }
         ensures small { IfSome result (λ r. r.1.value < 2 ^ 31) }
     {
         let [blank, bytes @ ..] = self.rest else {
@@ -176,7 +182,9 @@ impl<'a> Words<'a> {
     /// the last word; 0 where it takes nothing.
     pub fn next_id(&mut self) -> u32
         ensures none { result ≡ 0 → self.new ≡ self.old }
-        ensures word { 0 < result → (at : ℕ) × (text : List ℕ) × (self.old ≡ record { at = at; text = text } ∷ self.new) × (number_of text ≡ Some (record { negative = false; value = result })) }
+        ensures word { 0 < result → (at : ℕ) × (text : List ℕ)
+            × (self.old ≡ record { at = at; text = text } ∷ self.new)
+            × (number_of text ≡ Some (record { negative = false; value = result })) }
         ensures small { result < 2 ^ 31 }
     {
         let [blank, bytes @ ..] = self.rest else {

@@ -3,6 +3,7 @@ use Rattle.std.proofs.Common.{◌≡◌, ℕ, zero, suc, ◌+◌, ◌<◌, ◌||
 use mathlib.Core.Path.{fun_ext}
 use Rattle.std.proofs.lemmas.Grind.{common_steps}
 use Rattle.std.proofs.lemmas.List.{get_or_default, length-set, drop_more}
+use Rattle.lrat_log.specs.declared.refusal_code.RefusalCode.TheVariants.{UnknownId}
 use Rattle.lrat_log.specs.declared.outcome.Outcome.TheVariants.{Refused}
 use Rattle.cnf_base.specs.Literals.{member}
 use Rattle.lrat_log.specs.Held.{Held, without}
@@ -31,15 +32,15 @@ without_more held ids i h = fun_ext (λ k. at k)
 
 pub deletion_step : (held : Held) (ids : List ℕ) (i : ℕ) → i < length ids
     → outcome_of_deletion (without held (take i ids)) (drop i ids)
-    ≡ cond (is_some (without held (take i ids) (get_or ids i 0))) (outcome_of_deletion (without held (take (i + 1) ids)) (drop (i + 1) ids)) (Refused 1)
+    ≡ cond (is_some (without held (take i ids) (get_or ids i 0))) (outcome_of_deletion (without held (take (i + 1) ids)) (drop (i + 1) ids)) (Refused UnknownId)
 deletion_step held ids i h =
     ap (outcome_of_deletion (without held (take i ids))) (drop_more ids i 0 h)
-    ∙ ap (λ (w : Held). cond (is_some (without held (take i ids) (get_or ids i 0))) (outcome_of_deletion w (drop (i + 1) ids)) (Refused 1)) (without_more held ids i h)
+    ∙ ap (λ (w : Held). cond (is_some (without held (take i ids) (get_or ids i 0))) (outcome_of_deletion w (drop (i + 1) ids)) (Refused UnknownId)) (without_more held ids i h)
 
 pub deletion_refused : (held : Held) (ids : List ℕ) (i : ℕ) → i < length ids
     → (is_some (held (get_or ids i 0)) ≡ false) ⊎ (member (get_or ids i 0) (take i ids) ≡ true)
     → outcome_of_deletion held ids ≡ outcome_of_deletion (without held (take i ids)) (drop i ids)
-    → Refused 1 ≡ outcome_of_deletion held ids
+    → Refused UnknownId ≡ outcome_of_deletion held ids
 deletion_refused held ids i h (inl n) e =
     let s = deletion_step held ids i h in
     let none : is_some (without held (take i ids) (get_or ids i 0)) ≡ false = at (member (get_or ids i 0) (take i ids)) n in

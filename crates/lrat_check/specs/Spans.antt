@@ -1,5 +1,6 @@
 -- What the tables of a checker stand for.
-use Rattle.std.specs.Prelude.{ℕ, ◌<◌, ◌≤◌, Bool, cond, eqb, if◌then◌else◌, List, [], ◌∷◌, length, Option, Some, None, slice_range, get_or, All}
+use Rattle.std.specs.Prelude.{ℕ, ◌<◌, ◌≤◌, Bool, cond, eqb, if◌then◌else◌, List, [], ◌∷◌, length, Option, Some, None}
+use Rattle.std.specs.Prelude.{slice_range, get_or, All}
 use Rattle.cnf_base.specs.declared.cnf.Entry.{Entry}
 use Rattle.cnf_base.specs.declared.cnf.Entry.TheVariants.{Clause, True}
 use Rattle.lrat_log.specs.Held.{Held}

@@ -2,15 +2,14 @@
 use crate::table::Table;
 use base::{Mem, Refused, Row};
 use cnf_base::{Cnf, Entry, Lit};
-use lrat_log::{Line, Outcome, Sink, growth_laws, soundness};
+use lrat_log::{Line, Outcome, RefusalCode, Sink, growth_laws, soundness};
 use std::alloc::{AllocError, Global};
 use std::marker::Model;
 
-/// A line was refused: 1 unknown id, 2 hint is neither unit nor false, 3 no conflict. The id is the
-/// line's.
+/// Why a line was refused, and the line's id.
 #[derive(Clone, Copy, PartialEq, Eq, Debug)]
 pub struct Refusal {
-    pub code: u8,
+    pub code: RefusalCode,
     pub id: u64,
 }
 
@@ -35,7 +34,8 @@ impl Model for Checker {
     ghost invariant = { IsChecker };
 }
 
-ghost use Rattle.std.specs.Prelude.{◌≡◌, ℕ, ◌+◌, ◌<◌, ◌≤◌, List, [], ◌∷◌, ◌++◌, length, All, IfOk, OnOk, OnErr, IfErr, IsTrue};
+ghost use Rattle.std.specs.Prelude.{◌≡◌, ℕ, ◌+◌, ◌<◌, ◌≤◌, List, [], ◌∷◌, ◌++◌, length, All, IfOk, OnOk, OnErr};
+ghost use Rattle.std.specs.Prelude.{IfErr, IsTrue};
 ghost use Rattle.base.specs.Because.{Because};
 ghost use Rattle.cnf_base.specs.Formulas.{IsUnsatisfiable};
 ghost use Rattle.lrat_log.specs.declared.line.Line.TheVariants.{Add, Delete};
@@ -83,7 +83,8 @@ impl Checker {
     pub fn step(&mut self, line: &Line) -> Result<(), Refused<Refusal>>
         requires { MayStep self.old line.now }
         ensures accepted { OnOk result (outcome_of (held_now self.old) line.now ≡ Accepted) }
-        ensures kept { OnOk result (self.new ≡ record { formula = self.old.formula; lines = self.old.lines ++ line.now ∷ [] }) }
+        ensures kept { OnOk result (self.new
+            ≡ record { formula = self.old.formula; lines = self.old.lines ++ line.now ∷ [] }) }
         ensures follows { OnOk result (Follows self.old line.now) }
         ensures refused { IfErr result (Because (IsRefusal (outcome_of (held_now self.old) line.now) line.now)) }
         ensures unchanged { OnErr result (self.new ≡ self.old) }
@@ -98,7 +99,8 @@ impl Checker {
     pub fn step_owned(&mut self, line: Line) -> Result<(), Refused<Refusal>>
         requires { MayStep self.old line }
         ensures accepted { OnOk result (outcome_of (held_now self.old) line ≡ Accepted) }
-        ensures kept { OnOk result (self.new ≡ record { formula = self.old.formula; lines = self.old.lines ++ line ∷ [] }) }
+        ensures kept { OnOk result (self.new
+            ≡ record { formula = self.old.formula; lines = self.old.lines ++ line ∷ [] }) }
         ensures follows { OnOk result (Follows self.old line) }
         ensures refused { IfErr result (Because (IsRefusal (outcome_of (held_now self.old) line) line)) }
         ensures unchanged { OnErr result (self.new ≡ self.old) }
@@ -148,8 +150,10 @@ impl Checker {
     ) -> Result<(), Refused<Refusal>>
         requires { MayStep self.old (Add id lits hints) }
         ensures accepted { OnOk result (outcome_of_addition (held_now self.old) lits hints ≡ Accepted) }
-        ensures kept { OnOk result (self.new ≡ record { formula = self.old.formula; lines = self.old.lines ++ Add id lits hints ∷ [] }) }
-        ensures refused { IfErr result (Because (IsRefusal (outcome_of_addition (held_now self.old) lits hints) (Add id lits hints))) }
+        ensures kept { OnOk result (self.new
+            ≡ record { formula = self.old.formula; lines = self.old.lines ++ Add id lits hints ∷ [] }) }
+        ensures refused { IfErr result (Because
+            (IsRefusal (outcome_of_addition (held_now self.old) lits hints) (Add id lits hints))) }
         ensures unchanged { OnErr result (self.new ≡ self.old) }
     {
         growth_laws();
@@ -171,8 +175,10 @@ impl Checker {
 
     fn step_deletion(&mut self, id: u64, ids: Row<u64>) -> Result<(), Refused<Refusal>>
         ensures accepted { OnOk result (outcome_of_deletion (held_now self.old) ids ≡ Accepted) }
-        ensures kept { OnOk result (self.new ≡ record { formula = self.old.formula; lines = self.old.lines ++ Delete id ids ∷ [] }) }
-        ensures refused { IfErr result (Because (IsRefusal (outcome_of_deletion (held_now self.old) ids) (Delete id ids))) }
+        ensures kept { OnOk result (self.new
+            ≡ record { formula = self.old.formula; lines = self.old.lines ++ Delete id ids ∷ [] }) }
+        ensures refused { IfErr result (Because
+            (IsRefusal (outcome_of_deletion (held_now self.old) ids) (Delete id ids))) }
         ensures unchanged { OnErr result (self.new ≡ self.old) }
     {
         growth_laws();
@@ -223,7 +229,8 @@ fn table_of(alloc: Global, cnf: &Cnf) -> Mem<Table>
 
 fn add_entry(table: &mut Table, id: u64, entry: &Entry) -> Mem<()>
     requires { All (λ s. s.id < id) table.old.spans }
-    ensures held { OnOk result ((k : ℕ) → held_by_table table.new k ≡ with_entry (held_by_table table.old) id entry.now k) }
+    ensures held { OnOk result ((k : ℕ) → held_by_table table.new k
+        ≡ with_entry (held_by_table table.old) id entry.now k) }
     ensures spans { OnOk result (All (λ s. s.id ≤ id) table.new.spans) }
 {
     match entry {

@@ -8,7 +8,7 @@ ghost use Rattle.lrat_check.specs.Spans.{AreSorted, held_in, AreWithin};
 use crate::spans::{Span, find};
 use base::Mem;
 use cnf_base::{Lit, LitSet, opposite_laws};
-use lrat_log::{Effect, Outcome};
+use lrat_log::{Effect, Outcome, RefusalCode};
 
 // Whether each literal but one is false.
 #[tactic(auto, using(crate::proofs::Steps::all_but_step))]
@@ -71,13 +71,13 @@ pub fn run_hints(set: &mut LitSet, spans: &[Span], literals: &[Lit], hints: &[u6
 {
     for hint in hints {
         match effect_of_hint(set, spans, literals, *hint) {
-            Effect::Unknown => return Ok(Outcome::Refused(1)),
+            Effect::Unknown => return Ok(Outcome::Refused(RefusalCode::UnknownId)),
             Effect::Falsified => return Ok(Outcome::Accepted),
             Effect::Sets(l) => set.insert(l)?,
-            Effect::Useless => return Ok(Outcome::Refused(2)),
+            Effect::Useless => return Ok(Outcome::Refused(RefusalCode::HintNotUnit)),
         }
     }
-    Ok(Outcome::Refused(3))
+    Ok(Outcome::Refused(RefusalCode::NoConflict))
 }
 
 /// Puts the opposite of each literal into an empty set, until it meets the opposite of a literal behind it.

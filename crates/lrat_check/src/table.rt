@@ -4,7 +4,7 @@ use crate::marks::next_epoch;
 use crate::spans::{Span, find};
 use base::Mem;
 use cnf_base::{Lit, LitSet};
-use lrat_log::Outcome;
+use lrat_log::{Outcome, RefusalCode};
 use std::alloc::Global;
 use std::marker::Model;
 
@@ -30,7 +30,8 @@ impl Model for Table {
     ghost invariant = { IsTable };
 }
 
-ghost use Rattle.std.specs.Prelude.{◌≡◌, ℕ, ◌<◌, ◌≤◌, false, List, [], ◌∷◌, length, All, IfOk, OnOk, OnErr, get_or, slice_set, if◌then◌else◌};
+ghost use Rattle.std.specs.Prelude.{◌≡◌, ℕ, ◌<◌, ◌≤◌, false, List, [], ◌∷◌, length, All, IfOk, OnOk, OnErr, get_or};
+ghost use Rattle.std.specs.Prelude.{slice_set, if◌then◌else◌};
 ghost use Rattle.cnf_base.specs.declared.cnf.Entry.{Entry};
 ghost use Rattle.cnf_base.specs.declared.cnf.Entry.TheVariants.{Clause, True};
 ghost use Rattle.cnf_base.specs.Clauses.{has_opposites};
@@ -52,10 +53,10 @@ fn check_ids(spans: &[Span], marks: &mut [u32], epoch: u32, ids: &[u64]) -> Outc
 {
     for id in ids {
         match find(spans, *id) {
-            None => return Outcome::Refused(1),
+            None => return Outcome::Refused(RefusalCode::UnknownId),
             Some(place) => {
                 if !spans[place].is_held || marks[place] == epoch {
-                    return Outcome::Refused(1);
+                    return Outcome::Refused(RefusalCode::UnknownId);
                 }
                 marks[place] = epoch;
             }
@@ -67,7 +68,8 @@ fn check_ids(spans: &[Span], marks: &mut [u32], epoch: u32, ids: &[u64]) -> Outc
 // The span at a place is no longer held.
 fn release(spans: &mut [Span], place: usize)
     requires { place < length spans.old }
-    ensures { (d : Span) → spans.new ≡ slice_set spans.old place (record (get_or spans.old place d) { is_held = false }) }
+    ensures { (d : Span) → spans.new
+        ≡ slice_set spans.old place (record (get_or spans.old place d) { is_held = false }) }
 {
     let span = spans[place];
     spans[place] = Span {
@@ -81,7 +83,8 @@ fn release(spans: &mut [Span], place: usize)
 
 fn delete_id(spans: &mut [Span], id: u64)
     requires sorted { AreSorted spans.old }
-    ensures held { (literals : List ℕ) (k : ℕ) → held_in literals spans.new k ≡ without (held_in literals spans.old) (id ∷ []) k }
+    ensures held { (literals : List ℕ) (k : ℕ) → held_in literals spans.new k
+        ≡ without (held_in literals spans.old) (id ∷ []) k }
     ensures sorted { AreSorted spans.new }
     ensures within { (n : ℕ) → AreWithin spans.old n → AreWithin spans.new n }
     ensures ids { (k : ℕ) (d : Span) → (get_or spans.new k d).id ≡ (get_or spans.old k d).id }
@@ -93,7 +96,8 @@ fn delete_id(spans: &mut [Span], id: u64)
 
 fn delete_ids(spans: &mut [Span], ids: &[u64])
     requires sorted { AreSorted spans.old }
-    ensures held { (literals : List ℕ) (k : ℕ) → held_in literals spans.new k ≡ without (held_in literals spans.old) ids.now k }
+    ensures held { (literals : List ℕ) (k : ℕ) → held_in literals spans.new k
+        ≡ without (held_in literals spans.old) ids.now k }
     ensures sorted { AreSorted spans.new }
     ensures within { (n : ℕ) → AreWithin spans.old n → AreWithin spans.new n }
     ensures ids { (k : ℕ) (d : Span) → (get_or spans.new k d).id ≡ (get_or spans.old k d).id }
@@ -114,7 +118,8 @@ fn check_clause(
     requires sorted { AreSorted spans.now }
     requires within { AreWithin spans.now (length literals.now) }
     requires empty { (x : ℕ) → set_of set.old x ≡ false }
-    ensures outcome { IfOk result (λ r. r.0 ≡ outcome_of_addition (held_in literals.now spans.now) clause.now hints.now) }
+    ensures outcome { IfOk result (λ r. r.0
+        ≡ outcome_of_addition (held_in literals.now spans.now) clause.now hints.now) }
     ensures opposites { IfOk result (λ r. r.1 ≡ has_opposites clause.now) }
 {
     let is_true = mark_false(set, clause)?;
@@ -180,7 +185,8 @@ impl Table {
     /// Holds a clause under a new id, which is above all others.
     pub fn add(&mut self, id: u64, clause: &[Lit], is_true: bool) -> Mem<()>
         requires { All (λ s. s.id < id) self.old.spans }
-        ensures ok { OnOk result ((k : ℕ) → held_by_table self.new k ≡ with_entry (held_by_table self.old) id (if is_true then True else Clause clause.now) k) }
+        ensures ok { OnOk result ((k : ℕ) → held_by_table self.new k
+            ≡ with_entry (held_by_table self.old) id (if is_true then True else Clause clause.now) k) }
         ensures err { OnErr result ((k : ℕ) → held_by_table self.new k ≡ held_by_table self.old k) }
         ensures spans_ok { OnOk result (All (λ s. s.id ≤ id) self.new.spans) }
         ensures spans_err { OnErr result (self.new.spans ≡ self.old.spans) }

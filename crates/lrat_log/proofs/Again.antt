@@ -9,17 +9,23 @@ use Rattle.cnf_base.specs.declared.text.LineMode.{LineMode}
 use Rattle.cnf_base.specs.declared.text.LineMode.TheVariants.{LineStart, InLine}
 use Rattle.cnf_base.specs.declared.text.Numeral.{Numeral}
 use Rattle.cnf_base.specs.Literals.{literal_of, variable_of, is_positive, IsLiteral, AreLiterals}
-use Rattle.cnf_base.specs.Words.{Word, is_blank, behind, words_from}
+use Rattle.cnf_base.specs.Words.{Word, is_blank, words_of}
+use Rattle.cnf_base.specs.Pieces.{pieces_of}
+use Rattle.cnf_base.specs.Cuts.{AreCut}
+use Rattle.cnf_base.specs.Modes.{behind, words_from}
 use Rattle.cnf_base.specs.Starts.{IsBetween}
 use Rattle.cnf_base.specs.Numerals.{number_of}
 use Rattle.cnf_base.specs.Writing.{literal_text, literals_text}
+use Rattle.lrat_log.specs.declared.fault_code.LogFaultCode.TheVariants.{BadNumber, IdNotAbove, VariableOutOfRange}
 use Rattle.lrat_log.specs.declared.line.Line.{Line}
 use Rattle.lrat_log.specs.declared.line.Line.TheVariants.{Add, Delete}
 use Rattle.lrat_log.specs.declared.text.Stage.{Stage}
 use Rattle.lrat_log.specs.declared.text.Stage.TheVariants.{Id, Second, Literals, Hints, Deleted}
 use Rattle.lrat_log.specs.Logs.{IsId, AreIds, IsLogOver, IsLog}
-use Rattle.lrat_log.specs.Reading.{State, fault, take_id, take_literal, take_hint, take_deleted, take_word, with_addition, with_deletion, and_then, read_words, read_of}
+use Rattle.lrat_log.specs.WordByWord.{State, fault, take_id, take_literal, take_hint, take_deleted, take_word, with_addition, with_deletion, and_then, read_words}
+use Rattle.lrat_log.specs.Reading.{read_of}
 use Rattle.lrat_log.specs.Writing.{ids_text, text_of}
+use Rattle.lrat_log.proofs.Grammar.{by_words}
 
 -- what is known of words, from the crate of the words
 pub record AreWords : Type 0 where
@@ -80,7 +86,7 @@ module _ (words : AreWords) (v : ℕ) where
   id_step : (last : ℕ) (done : List Line) (id id0 place : ℕ) (ls ns : List ℕ) (at : ℕ) → IsId id
       → take_id (a_state Id v last done id0 place ls ns) (Some (number false id)) at ≡ Ok (a_state Second v last done id at ls ns)
   id_step last done id id0 place ls ns at h =
-      ap (λ b. cond b (fault 1 at) (Ok (a_state Second v last done id at ls ns))) (ne_eqb id 0 (λ e. absurd (omega (arith, h.0, e))))
+      ap (λ b. cond b (fault BadNumber at) (Ok (a_state Second v last done id at ls ns))) (ne_eqb id 0 (λ e. absurd (omega (arith, h.0, e))))
 
   -- where literals are read: behind the id and behind a literal
   abbrev TakesLiterals : Stage → ℕ → ℕ → Type 0
@@ -98,8 +104,8 @@ module _ (words : AreWords) (v : ℕ) where
   takes_literal Literals last done id place ls ns w n t e = ap (λ o. take_literal (a_state Literals v last done id place ls ns) o w.at) e
   takes_literal Second last done id place ls ns w n t e =
       let s : State = a_state Second v last done id place ls ns in
-      ap (λ b. cond b (Ok (a_state Deleted v last done id place ls ns)) (cond (nat_le id last) (fault 4 place) (take_literal s (number_of w.text) w.at))) (no_d w.text n e)
-      ∙ ap (λ b. cond b (fault 4 place) (take_literal s (number_of w.text) w.at)) (lt-leb id last t)
+      ap (λ b. cond b (Ok (a_state Deleted v last done id place ls ns)) (cond (nat_le id last) (fault IdNotAbove place) (take_literal s (number_of w.text) w.at))) (no_d w.text n e)
+      ∙ ap (λ b. cond b (fault IdNotAbove place) (take_literal s (number_of w.text) w.at)) (lt-leb id last t)
       ∙ ap (λ o. take_literal s o w.at) e
 
   literal_step : (x : Stage) (last : ℕ) (done : List Line) (id place : ℕ) (ls ns : List ℕ) (l at : ℕ) → IsLiteral v l
@@ -108,13 +114,13 @@ module _ (words : AreWords) (v : ℕ) where
   literal_step x last done id place ls ns l at h =
       let made : State = a_state Literals v last done id place (ls ++ literal_of (not (not (is_positive l))) (variable_of l) ∷ []) ns in
       let zero : State = a_state Hints v last done id place ls ns in
-      ap (λ b. cond b (fault 5 at) (cond (variable_of l == 0) (Ok zero) (Ok made))) (le-ltb v (variable_of l) h.1)
+      ap (λ b. cond b (fault VariableOutOfRange at) (cond (variable_of l == 0) (Ok zero) (Ok made))) (le-ltb v (variable_of l) h.1)
       ∙ ap (λ b. cond b (Ok zero) (Ok made)) (ne_eqb (variable_of l) 0 (λ e. absurd (omega (arith, h.0, e))))
       ∙ ap (λ (k : ℕ). Ok (a_state Literals v last done id place (ls ++ k ∷ []) ns)) (words.same l)
 
   zero_step : (x : Stage) (last : ℕ) (done : List Line) (id place : ℕ) (ls ns : List ℕ) (at : ℕ)
       → take_literal (a_state x v last done id place ls ns) (Some (number false 0)) at ≡ Ok (a_state Hints v last done id place ls ns)
-  zero_step x last done id place ls ns at = ap (λ b. cond b (fault 5 at) (Ok (a_state Hints v last done id place ls ns))) (le-ltb v 0 (omega arith))
+  zero_step x last done id place ls ns at = ap (λ b. cond b (fault VariableOutOfRange at) (Ok (a_state Hints v last done id place ls ns))) (le-ltb v 0 (omega arith))
 
   literals_again : (ms : List ℕ) (x : Stage) (last : ℕ) (done : List Line) (id place : ℕ) (ls : List ℕ) (rest : List ℕ) → AreLiterals 2147483647 ms → AreLiterals v ms → TakesLiterals x last id
       → Leads (a_state x v last done id place ls []) (literals_text ms ++ 48 ∷ 32 ∷ rest) (a_state Hints v last done id place (ls ++ ms) []) rest
@@ -224,5 +230,11 @@ module _ (words : AreWords) (v : ℕ) where
       ∙ id_again id last done id0 place (100 ∷ 32 ∷ ids_tail) at end p.0.0
       ∙ b.1 ∙ c ∙ ap Ok (append_assoc done (Delete id ids ∷ []) lines)
 
-pub read_again : (words : AreWords) (v clauses : ℕ) (lines : List Line) → IsLog lines → IsLogOver v clauses lines → read_of v clauses (text_of lines) ≡ Ok lines
-read_again words v clauses lines q p = lines_again words v lines 0 clauses [] 0 0 0 (length (text_of lines)) q p
+-- what is known of the words of a text, and of their pieces
+module _ (words : AreWords) (same : (text : List ℕ) → words_from LineStart 0 text ≡ words_of text) (cut : (ws : List Word) → AreCut (pieces_of ws) ws) where
+  pub read_again : (v clauses : ℕ) (lines : List Line) → IsLog lines → IsLogOver v clauses lines → read_of v clauses (text_of lines) ≡ Ok lines
+  read_again v clauses lines q p =
+      let text : List ℕ = text_of lines in
+      sym (by_words cut v clauses text)
+      ∙ ap (λ (ws : List Word). read_words (a_state Id v clauses [] 0 0 [] []) ws (length text)) (sym (same text))
+      ∙ lines_again words v lines 0 clauses [] 0 0 0 (length text) q p

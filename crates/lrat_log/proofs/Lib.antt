@@ -4,4 +4,5 @@ pub mod Ranges
 pub mod Resolvent
 pub mod Readings
 pub mod Standing
+pub mod Grammar
 pub mod Again

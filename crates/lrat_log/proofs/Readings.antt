@@ -18,7 +18,7 @@ use Rattle.lrat_log.specs.declared.text.Stage.TheVariants.{Id, Second, Literals,
 use Rattle.lrat_log.specs.declared.text.LogFault.{LogFault}
 use Rattle.lrat_log.specs.Accepted.{last_id}
 use Rattle.lrat_log.specs.Logs.{IsId, AreIds, IsLineOver, IsLogOver}
-use Rattle.lrat_log.specs.Reading.{State, at_start, take_id, take_literal, take_second, take_hint, take_deleted, take_at, take_word, with_addition, with_deletion, ended, ended_at, and_then, read_words, read_of}
+use Rattle.lrat_log.specs.WordByWord.{State, at_start, take_id, take_literal, take_second, take_hint, take_deleted, take_at, take_word, with_addition, with_deletion, ended, ended_at, and_then, read_words, read_by_words}
 use Rattle.lrat_log.proofs.Growth.{last_id-push}
 
 -- each number that is read is at most 2147483647
@@ -185,14 +185,14 @@ module _ (variables m first : ℕ) (bound : (n : ℕ) → n ≤ variables → n 
   fine_read (w ∷ ws) s end lines h p e =
       fine_then (take_word s w) (λ s. read_words s ws end) lines (fine_word s.stage s w h refl p.0 p.1) (λ s q. fine_read ws s end lines h q) e
 
-  pub read_is_over : (clauses : ℕ) (text : List ℕ) (lines : List Line) → AreSmall → first ≤ clauses → read_of variables clauses text ≡ Ok lines → IsLogOver m first lines
+  pub read_is_over : (clauses : ℕ) (text : List ℕ) (lines : List Line) → AreSmall → first ≤ clauses → read_by_words variables clauses text ≡ Ok lines → IsLogOver m first lines
   read_is_over clauses text lines h l e =
       fine_read (words_of text) (at_start variables clauses) (length text) lines h
       (record { same = refl; log = tt; past = l; lits = tt; ids = tt }, tt) e
 
 -- where no words are left
 pub end_is_read : (variables clauses : ℕ) (text : List ℕ) (ws : List Word) (s : State) (lines : List Line) → ws ≡ []
-    → read_words s ws (length text) ≡ read_of variables clauses text → ended s (length text) ≡ Ok lines → read_of variables clauses text ≡ Ok lines
+    → read_words s ws (length text) ≡ read_by_words variables clauses text → ended s (length text) ≡ Ok lines → read_by_words variables clauses text ≡ Ok lines
 end_is_read variables clauses text ws s lines e same h =
     sym same ∙ ap (λ (xs : List Word). read_words s xs (length text)) e ∙ h
 

@@ -11,12 +11,13 @@ use Rattle.cnf_base.specs.Answers.{Answers}
 use Rattle.cnf_base.specs.Words.{Word, words_of}
 use Rattle.cnf_base.specs.Numerals.{number_of}
 use Rattle.cnf_base.specs.Places.{BeginBy}
+use Rattle.lrat_log.specs.declared.fault_code.LogFaultCode.TheVariants.{Unended, IdNotAbove}
 use Rattle.lrat_log.specs.declared.line.Line.{Line}
 use Rattle.lrat_log.specs.declared.text.Stage.{Stage}
 use Rattle.lrat_log.specs.declared.text.Stage.TheVariants.{Id, Second, Literals, Hints, Deleted}
 use Rattle.lrat_log.specs.declared.text.LogFault.{LogFault}
 use Rattle.lrat_log.specs.Places.{StandsBy}
-use Rattle.lrat_log.specs.Reading.{State, at_start, take_id, take_literal, take_second, take_hint, take_deleted, take_at, take_word, ended_at, and_then, read_words, read_of}
+use Rattle.lrat_log.specs.WordByWord.{State, at_start, take_id, take_literal, take_second, take_hint, take_deleted, take_at, take_word, ended_at, and_then, read_words, read_by_words}
 
 module _ (n : ℕ) where
   abbrev Fails : {A : Type 0} → Result A LogFault → Type 0
@@ -65,7 +66,7 @@ module _ (n : ℕ) where
 
   end_stands : (x : Stage) (s : State) (end : ℕ) → s.place ≤ n → end ≤ n → Fails (ended_at x s end)
   end_stands Id s end p h = tt
-  end_stands Second s end p h = one_of (nat_le s.id s.last) (record { code = 4; at = s.place }) (record { code = 3; at = end }) p h
+  end_stands Second s end p h = one_of (nat_le s.id s.last) (record { code = IdNotAbove; at = s.place }) (record { code = Unended; at = end }) p h
   end_stands Literals s end p h = h
   end_stands Hints s end p h = h
   end_stands Deleted s end p h = h
@@ -81,13 +82,13 @@ module _ (n : ℕ) where
 
 -- where each word of a text begins in it
 module _ (begin : (text : List ℕ) → BeginBy (length text) (words_of text)) where
-  text_stands : (variables clauses : ℕ) (text : List ℕ) → Fails (length text) (read_of variables clauses text)
+  text_stands : (variables clauses : ℕ) (text : List ℕ) → Fails (length text) (read_by_words variables clauses text)
   text_stands variables clauses text =
       let start : 0 ≤ length text = omega arith in
       let end : length text ≤ length text = omega arith in
       words_stand (length text) (words_of text) (at_start variables clauses) (length text) start end (begin text)
 
-  pub answer_stands : (variables clauses : ℕ) (text : List ℕ) (r : Result (List Line) (Refused LogFault)) → Answers (read_of variables clauses text) r
+  pub answer_stands : (variables clauses : ℕ) (text : List ℕ) (r : Result (List Line) (Refused LogFault)) → Answers (read_by_words variables clauses text) r
       → IfErr r (Because (StandsBy (length text)))
   answer_stands variables clauses text (Ok lines) a = tt
   answer_stands variables clauses text (Err (For f)) a = subst (Fails (length text)) a (text_stands variables clauses text)

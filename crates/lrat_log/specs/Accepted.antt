@@ -1,10 +1,12 @@
 -- When a line of a log is accepted: LRAT without RAT steps.
-use Rattle.std.specs.Prelude.{ℕ, ◌<◌, ◌≡◌, ◌||◌, ◌&&◌, eqb, Bool, true, false, cond, if◌then◌else◌, List, [], ◌∷◌, length, Option, Some, None, is_some}
+use Rattle.std.specs.Prelude.{ℕ, ◌<◌, ◌≡◌, ◌||◌, ◌&&◌, eqb, Bool, true, false, cond, if◌then◌else◌, List, [], ◌∷◌}
+use Rattle.std.specs.Prelude.{length, Option, Some, None, is_some}
 use Rattle.cnf_base.specs.declared.cnf.Entry.{Entry}
 use Rattle.cnf_base.specs.declared.cnf.Entry.TheVariants.{Clause, True}
 use Rattle.cnf_base.specs.Literals.{member, opposite, AreLiterals}
 use Rattle.cnf_base.specs.Clauses.{has_opposites}
 use Rattle.cnf_base.specs.Formulas.{Formula}
+use Rattle.lrat_log.specs.declared.refusal_code.RefusalCode.TheVariants.{UnknownId, HintNotUnit, NoConflict}
 use Rattle.lrat_log.specs.declared.line.Line.{Line}
 use Rattle.lrat_log.specs.declared.line.Line.TheVariants.{Add, Delete}
 use Rattle.lrat_log.specs.declared.outcome.Effect.{Effect}
@@ -41,17 +43,18 @@ effect_of_entry set None = Unknown
 effect_of_entry set (Some True) = Useless
 effect_of_entry set (Some (Clause ls)) = effect_of_clause set ls
 
--- A refusal has a code: 1 unknown id, 2 hint is neither unit nor false, 3 no conflict.
+-- A hint that is not held refuses the line, and so does one that is neither unit nor false.
 abbrev pub by_effect : Effect → (ℕ → Outcome) → Outcome
-by_effect Unknown next = Refused 1
+by_effect Unknown next = Refused UnknownId
 by_effect Falsified next = Accepted
 by_effect (Sets l) next = next l
-by_effect Useless next = Refused 2
+by_effect Useless next = Refused HintNotUnit
 
 -- the hints, each in turn, from the literals that are set
 abbrev pub outcome_of_hints : Held → List ℕ → (ℕ → Bool) → Outcome
-outcome_of_hints held [] set = Refused 3
-outcome_of_hints held (h ∷ hs) set = by_effect (effect_of_entry set (held h)) (λ l. outcome_of_hints held hs (also set l))
+outcome_of_hints held [] set = Refused NoConflict
+outcome_of_hints held (h ∷ hs) set =
+    by_effect (effect_of_entry set (held h)) (λ l. outcome_of_hints held hs (also set l))
 
 -- an addition with opposite literals is accepted at once
 abbrev pub outcome_of_addition : Held → List ℕ → List ℕ → Outcome
@@ -60,7 +63,8 @@ outcome_of_addition held ls hints = if has_opposites ls then Accepted else outco
 -- each id in turn is still held
 abbrev pub outcome_of_deletion : Held → List ℕ → Outcome
 outcome_of_deletion held [] = Accepted
-outcome_of_deletion held (k ∷ ks) = cond (is_some (held k)) (outcome_of_deletion (without held (k ∷ [])) ks) (Refused 1)
+outcome_of_deletion held (k ∷ ks) =
+    cond (is_some (held k)) (outcome_of_deletion (without held (k ∷ [])) ks) (Refused UnknownId)
 
 abbrev pub outcome_of : Held → Line → Outcome
 outcome_of held (Add id ls hints) = outcome_of_addition held ls hints

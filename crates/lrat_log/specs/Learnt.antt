@@ -33,13 +33,15 @@ IsQuiet held set =
 abbrev pub IsPropagationConsistent : Held → Type 0
 IsPropagationConsistent held = (set : ℕ → Bool) × IsConsistent set × IsQuiet held set
 
--- new to unit propagation, which the field calls 1-empowering: truth values of some variables make the clause unit, where no held clause is false or unit
+-- new to unit propagation, which the field calls 1-empowering: truth values of some variables make the clause unit,
+-- where no held clause is false or unit
 abbrev pub IsNew : Held → List ℕ → Type 0
 IsNew held ls = (set : ℕ → Bool) × IsConsistent set × ((l : ℕ) × IsUnit set ls l) × IsQuiet held set
 
 -- a literal stands in the clause of a hint
 abbrev pub StandsInHint : Held → List ℕ → ℕ → Type 0
-StandsInHint held hints l = (h : ℕ) × (c : List ℕ) × (member h hints ≡ true) × (held h ≡ Some (Clause c)) × (member l c ≡ true)
+StandsInHint held hints l =
+    (h : ℕ) × (c : List ℕ) × (member h hints ≡ true) × (held h ≡ Some (Clause c)) × (member l c ≡ true)
 
 -- Each hint but the last sets a literal whose opposite stands in the clause of a later hint, and the last is false.
 abbrev pub IsChain : Held → List ℕ → (ℕ → Bool) → Type 0
@@ -64,7 +66,8 @@ pub record IsLearnt (held : Held) (ls hints : List ℕ) : Type 0 where
 abbrev pub AreLearntFrom : ℕ → Held → ℕ → List Line → Type 0
 AreLearntFrom variables held last [] = Unit {0}
 AreLearntFrom variables held last (Add id ls hints ∷ lines) =
-    IsFit variables last (Add id ls hints) × IsLearnt held ls hints × AreLearntFrom variables (after_line held (Add id ls hints)) id lines
+    IsFit variables last (Add id ls hints) × IsLearnt held ls hints
+    × AreLearntFrom variables (after_line held (Add id ls hints)) id lines
 AreLearntFrom variables held last (Delete id ids ∷ lines) = ⊥
 
 abbrev pub AreLearnt : Formula → List Line → Type 0

@@ -1,3 +1,5 @@
+pub mod FaultCodes
+pub mod RefusalCodes
 pub mod Held
 pub mod Accepted
 pub mod Logs
@@ -5,5 +7,6 @@ pub mod Places
 pub mod Learnt
 pub mod Refutations
 pub mod Reading
+pub mod WordByWord
 pub mod ReaderState
 pub mod Writing

@@ -19,7 +19,8 @@ IsLineOver variables last (Delete id ids) = IsId id × AreIds ids
 
 abbrev pub IsLogOver : ℕ → ℕ → List Line → Type 0
 IsLogOver variables last [] = Unit {0}
-IsLogOver variables last (line ∷ lines) = IsLineOver variables last line × IsLogOver variables (last_id last (line ∷ [])) lines
+IsLogOver variables last (line ∷ lines) =
+    IsLineOver variables last line × IsLogOver variables (last_id last (line ∷ [])) lines
 
 abbrev pub IsLog : List Line → Type 0
 IsLog lines = IsLogOver 2147483647 0 lines

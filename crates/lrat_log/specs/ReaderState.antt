@@ -7,7 +7,7 @@ use Rattle.lrat_log.specs.declared.text.LogFault.{LogFault}
 use Rattle.lrat_log.specs.declared.text.Stage.{Stage}
 use Rattle.lrat_log.specs.declared.text.Stage.TheVariants.{Id, Second, Literals, Hints, Deleted}
 use Rattle.lrat_log.specs.declared.reader.Reading.{Reading}
-use Rattle.lrat_log.specs.Reading.{State, read_words}
+use Rattle.lrat_log.specs.WordByWord.{State, read_words}
 
 abbrev pub state_of : Reading → State
 state_of r = record {

@@ -1,118 +1,108 @@
--- What the text of a log says, or its first fault.
-use Rattle.std.specs.Prelude.{ℕ, ◌==◌, not, nat_lt, nat_le, List, [], ◌∷◌, ◌++◌, length, codes, Option, Some, None, Result, Ok, Err, if◌then◌else◌}
+-- What the text of a log says, or its first fault. Its words are cut behind each 0. An addition is two pieces, its id
+-- with its literals and its hints; a deletion is one, its id, a `d` and the ids to delete.
+use Rattle.std.specs.Prelude.{ℕ, ◌==◌, Bool, false, nat_lt, nat_le, List, [], ◌∷◌, length, codes, Option, Some, None}
+use Rattle.std.specs.Prelude.{Result, Ok, Err, if◌then◌else◌}
 use Rattle.std.specs.Str.{bytes_eq}
 use Rattle.cnf_base.specs.declared.text.Numeral.{Numeral}
-use Rattle.cnf_base.specs.Literals.{literal_of}
 use Rattle.cnf_base.specs.Words.{Word, words_of}
 use Rattle.cnf_base.specs.Numerals.{number_of}
+use Rattle.cnf_base.specs.Pieces.{value_in, numbers_in, literals_in, pieces_of, or_else, first_fault, unless}
+use Rattle.lrat_log.specs.declared.fault_code.LogFaultCode.{LogFaultCode}
+use Rattle.lrat_log.specs.declared.fault_code.LogFaultCode.TheVariants.{BadNumber, RatHint, Unended, IdNotAbove}
+use Rattle.lrat_log.specs.declared.fault_code.LogFaultCode.TheVariants.{VariableOutOfRange}
 use Rattle.lrat_log.specs.declared.line.Line.{Line}
 use Rattle.lrat_log.specs.declared.line.Line.TheVariants.{Add, Delete}
-use Rattle.lrat_log.specs.declared.text.Stage.{Stage}
-use Rattle.lrat_log.specs.declared.text.Stage.TheVariants.{Id, Second, Literals, Hints, Deleted}
 use Rattle.lrat_log.specs.declared.text.LogFault.{LogFault}
 
--- what was read so far: the whole lines with the greatest id, and of the next line its id with the id's place, its
--- literals, and its hints or the ids that it deletes
-pub record State : Type 0 where
-  pub stage : Stage
-  pub variables : ℕ
-  pub last : ℕ
-  pub lines : List Line
-  pub id : ℕ
-  pub place : ℕ
-  pub lits : List ℕ
-  pub ids : List ℕ
+abbrev pub fault_at : LogFaultCode → ℕ → LogFault
+fault_at code at = record { code = code; at = at }
 
-abbrev pub at_start : ℕ → ℕ → State
-at_start variables clauses = record {
-  stage = Id;
-  variables = variables;
-  last = clauses;
-  lines = [];
-  id = 0;
-  place = 0;
-  lits = [];
-  ids = [];
-}
+-- the id of a line is a number from 1 on
+abbrev pub id_fault : ℕ → Option Numeral → Option LogFault
+id_fault at None = Some (fault_at BadNumber at)
+id_fault at (Some n) =
+    if n.negative then Some (fault_at BadNumber at)
+    else if n.value == 0 then Some (fault_at BadNumber at)
+    else None
 
-abbrev pub fault : {A : Type 0} → ℕ → ℕ → Result A LogFault
-fault code at = Err (record { code = code; at = at })
+-- a literal is a number, of one of so many variables
+abbrev pub literal_fault : ℕ → ℕ → Option Numeral → Option LogFault
+literal_fault variables at None = Some (fault_at BadNumber at)
+literal_fault variables at (Some n) = if nat_lt variables n.value then Some (fault_at VariableOutOfRange at) else None
 
--- the id of a line
-abbrev pub take_id : State → Option Numeral → ℕ → Result State LogFault
-take_id s None at = fault 1 at
-take_id s (Some n) at =
-    if n.negative then fault 1 at
-    else if n.value == 0 then fault 1 at
-    else Ok (record s { stage = Second; id = n.value; place = at })
+-- a hint is a number without a sign
+abbrev pub hint_fault : ℕ → Option Numeral → Option LogFault
+hint_fault at None = Some (fault_at BadNumber at)
+hint_fault at (Some n) = if n.negative then Some (fault_at RatHint at) else None
 
--- a literal of an addition, or the 0 behind the literals
-abbrev pub take_literal : State → Option Numeral → ℕ → Result State LogFault
-take_literal s None at = fault 1 at
-take_literal s (Some n) at =
-    if nat_lt s.variables n.value then fault 5 at
-    else if n.value == 0 then Ok (record s { stage = Hints })
-    else Ok (record s { stage = Literals; lits = s.lits ++ literal_of (not n.negative) n.value ∷ [] })
+-- and so is an id to delete
+abbrev pub deleted_fault : ℕ → Option Numeral → Option LogFault
+deleted_fault at None = Some (fault_at BadNumber at)
+deleted_fault at (Some n) = if n.negative then Some (fault_at BadNumber at) else None
 
--- the second word tells a deletion from an addition, whose id has to be above the last
-abbrev pub take_second : State → Word → Result State LogFault
-take_second s w =
-    if bytes_eq w.text (codes "d") then Ok (record s { stage = Deleted })
-    else if nat_le s.id s.last then fault 4 s.place
-    else take_literal s (number_of w.text) w.at
+abbrev pub literals_fault : ℕ → List Word → Option LogFault
+literals_fault variables ws = first_fault (λ w. literal_fault variables w.at (number_of w.text)) ws
 
-abbrev pub with_addition : State → State
-with_addition s = record s { stage = Id; last = s.id; lines = s.lines ++ Add s.id s.lits s.ids ∷ []; lits = []; ids = [] }
+abbrev pub hints_fault : List Word → Option LogFault
+hints_fault ws = first_fault (λ w. hint_fault w.at (number_of w.text)) ws
 
-abbrev pub with_deletion : State → State
-with_deletion s = record s { stage = Id; lines = s.lines ++ Delete s.id s.ids ∷ []; ids = [] }
+abbrev pub deleted_ids_fault : List Word → Option LogFault
+deleted_ids_fault ws = first_fault (λ w. deleted_fault w.at (number_of w.text)) ws
 
--- a hint, or the 0 behind the hints
-abbrev pub take_hint : State → Option Numeral → ℕ → Result State LogFault
-take_hint s None at = fault 1 at
-take_hint s (Some n) at =
-    if n.negative then fault 2 at
-    else if n.value == 0 then Ok (with_addition s)
-    else Ok (record s { ids = s.ids ++ n.value ∷ [] })
+-- behind the id of a deletion stands a `d`
+abbrev pub is_deletion : List Word → Bool
+is_deletion [] = false
+is_deletion (d ∷ ws) = bytes_eq d.text (codes "d")
 
--- an id to delete, or the 0 behind them
-abbrev pub take_deleted : State → Option Numeral → ℕ → Result State LogFault
-take_deleted s None at = fault 1 at
-take_deleted s (Some n) at =
-    if n.negative then fault 1 at
-    else if n.value == 0 then Ok (with_deletion s)
-    else Ok (record s { ids = s.ids ++ n.value ∷ [] })
+abbrev pub behind_d : List Word → List Word
+behind_d [] = []
+behind_d (d ∷ ws) = ws
 
-abbrev pub take_at : Stage → State → Word → Result State LogFault
-take_at Id s w = take_id s (number_of w.text) w.at
-take_at Second s w = take_second s w
-take_at Literals s w = take_literal s (number_of w.text) w.at
-take_at Hints s w = take_hint s (number_of w.text) w.at
-take_at Deleted s w = take_deleted s (number_of w.text) w.at
+-- an addition's id is above the last
+abbrev pub order_fault : ℕ → ℕ → ℕ → Option LogFault
+order_fault last id at = if nat_le id last then Some (fault_at IdNotAbove at) else None
 
-abbrev pub take_word : State → Word → Result State LogFault
-take_word s w = take_at s.stage s w
+abbrev pub id_of : Word → ℕ
+id_of w = value_in (number_of w.text)
 
--- at the end of the text; a line that ends behind its id is an addition
-abbrev pub ended_at : Stage → State → ℕ → Result (List Line) LogFault
-ended_at Id s end = Ok s.lines
-ended_at Second s end = if nat_le s.id s.last then fault 4 s.place else fault 3 end
-ended_at Literals s end = fault 3 end
-ended_at Hints s end = fault 3 end
-ended_at Deleted s end = fault 3 end
+-- the first fault of a line whose id is this word, in the words behind it
+abbrev pub line_fault : ℕ → ℕ → Word → List Word → Option LogFault
+line_fault variables last id ws =
+    or_else (id_fault id.at (number_of id.text))
+    (if is_deletion ws then deleted_ids_fault (behind_d ws)
+    else or_else (order_fault last (id_of id) id.at) (literals_fault variables ws))
 
-abbrev pub ended : State → ℕ → Result (List Line) LogFault
-ended s end = ended_at s.stage s end
+abbrev pub with_line : Line → Result (List Line) LogFault → Result (List Line) LogFault
+with_line line (Ok lines) = Ok (line ∷ lines)
+with_line line (Err fault) = Err fault
 
-abbrev pub and_then : Result State LogFault → (State → Result (List Line) LogFault) → Result (List Line) LogFault
-and_then (Ok s) go = go s
-and_then (Err f) go = Err f
+-- behind the last 0 there is nothing
+abbrev pub open_line : ℕ → ℕ → List Word → ℕ → Result (List Line) LogFault
+open_line variables last [] end = Ok []
+open_line variables last (id ∷ ws) end = unless (line_fault variables last id ws) (Err (fault_at Unended end))
 
--- each word in turn; the first that is refused is the fault
-abbrev pub read_words : State → List Word → ℕ → Result (List Line) LogFault
-read_words s [] end = ended s end
-read_words s (w ∷ ws) end = and_then (take_word s w) (λ s. read_words s ws end)
+abbrev pub deletion : Word → List Word → Line
+deletion id ws = Delete (id_of id) (numbers_in (behind_d ws))
+
+abbrev pub addition : Word → List Word → List Word → Line
+addition id ws hints = Add (id_of id) (literals_in ws) (numbers_in hints)
+
+-- What these pieces say, behind lines whose greatest id is the last: the first fault of each line in turn, or the
+-- lines. No piece is empty, since its 0 stands in it.
+abbrev pub read_lines : ℕ → ℕ → List (List Word) → List Word → ℕ → Result (List Line) LogFault
+read_lines variables last [] rest end = open_line variables last rest end
+read_lines variables last ([] ∷ pieces) rest end = read_lines variables last pieces rest end
+read_lines variables last ((id ∷ ws) ∷ []) rest end =
+    unless (line_fault variables last id ws)
+    (if is_deletion ws then with_line (deletion id ws) (open_line variables last rest end)
+    else unless (hints_fault rest) (Err (fault_at Unended end)))
+read_lines variables last ((id ∷ ws) ∷ (hints ∷ pieces)) rest end =
+    unless (line_fault variables last id ws)
+    (if is_deletion ws then with_line (deletion id ws) (read_lines variables last (hints ∷ pieces) rest end)
+    else unless (hints_fault hints)
+    (with_line (addition id ws hints) (read_lines variables (id_of id) pieces rest end)))
 
 -- the lines of a text, for a formula of so many variables and clauses
-abbrev pub read_of : ℕ → ℕ → List ℕ → Result (List Line) LogFault
-read_of variables clauses text = read_words (at_start variables clauses) (words_of text) (length text)
+unfoldable pub read_of : ℕ → ℕ → List ℕ → Result (List Line) LogFault
+read_of variables clauses text =
+    read_lines variables clauses (pieces_of (words_of text)).whole (pieces_of (words_of text)).rest (length text)

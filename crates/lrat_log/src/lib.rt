@@ -4,19 +4,23 @@
 #![tactic(auto)]
 
 mod answer;
+mod fault_code;
 mod laws;
 mod line;
 mod outcome;
 mod reader;
+mod refusal_code;
 mod sink;
 mod text;
 mod writer;
 
 pub use answer::{Limits, Spent};
-pub use laws::{growth_laws, learnt_laws, range_laws, round_trip, soundness};
+pub use fault_code::LogFaultCode;
+pub use laws::{code_laws, growth_laws, learnt_laws, range_laws, round_trip, soundness};
 pub use line::{Line, Log};
 pub use outcome::{Effect, Outcome};
 pub use reader::read_log;
+pub use refusal_code::RefusalCode;
 pub use sink::Sink;
 pub use text::{LogFault, Stage};
-pub use writer::write_log;
+pub use writer::{write_lines, write_log};

@@ -1,4 +1,5 @@
 // What becomes of a line.
+use crate::refusal_code::RefusalCode;
 use cnf_base::Lit;
 
 /// What a hint does under the literals that are set.
@@ -14,10 +15,9 @@ pub enum Effect {
     Useless,
 }
 
-/// Whether a line is accepted, or the code of its refusal: 1 unknown id, 2 hint is neither unit nor
-/// false, 3 no conflict.
+/// Whether a line is accepted, or why it is refused.
 #[derive(Clone, Copy, PartialEq, Eq, Debug)]
 pub enum Outcome {
     Accepted,
-    Refused(u8),
+    Refused(RefusalCode),
 }

@@ -1,20 +1,25 @@
 // Reads the text of a log.
-ghost use Rattle.std.specs.Prelude.{◌≡◌, ◌<◌, ◌≤◌, ◌^◌, ℕ, List, [], ◌∷◌, ◌++◌, Ok, Some, length, OnOk, IfOk, IfErr, IfSome};
+ghost use Rattle.std.specs.Prelude.{◌≡◌, ◌<◌, ◌≤◌, ◌^◌, ℕ, List, [], ◌∷◌, ◌++◌, Ok, Some, length, OnOk, IfOk, IfErr};
+ghost use Rattle.std.specs.Prelude.{IfSome};
 ghost use Rattle.cnf_base.specs.Answers.{Answers};
 ghost use Rattle.cnf_base.specs.Numerals.{number_of};
 ghost use Rattle.lrat_log.specs.declared.line.Line.{Line};
 ghost use Rattle.lrat_log.specs.Logs.{IsLog, IsLogOver};
 ghost use Rattle.lrat_log.specs.Places.{StandsBy};
-ghost use Rattle.lrat_log.specs.Reading.{at_start, take_id, take_literal, take_second, take_hint, take_deleted, take_word, with_addition, with_deletion, ended, read_words, read_of};
+ghost use Rattle.lrat_log.specs.Reading.{read_of};
+ghost use Rattle.lrat_log.specs.WordByWord.{at_start, take_id, take_literal, take_second, take_hint, take_deleted};
+ghost use Rattle.lrat_log.specs.WordByWord.{take_word, with_addition, with_deletion, ended, read_words};
+ghost use Rattle.lrat_log.specs.WordByWord.{read_by_words};
 ghost use Rattle.lrat_log.specs.ReaderState.{state_of, is_for_ids, StepsTo, ReadsOn};
 ghost use Rattle.base.specs.Because.{Because};
 ghost use Rattle.base.specs.declared.refused.Refused.{Refused};
 ghost use Rattle.base.specs.declared.refused.Refused.TheVariants.{For};
 
+use crate::fault_code::LogFaultCode;
 use crate::line::{Line, Log};
 use crate::text::{LogFault, Stage};
 use base::{Mem, Refused, Row};
-use cnf_base::{Lit, Numeral, Words, literal_of, number_of, word_laws};
+use cnf_base::{Lit, Numeral, Words, literal_of, number_of, piece_law, word_laws};
 use std::alloc::{AllocError, Global};
 
 // What was read so far.
@@ -30,7 +35,7 @@ struct Reading {
     ids: Vec<u64>,
 }
 
-fn fault(code: u8, at: u64) -> Refused<LogFault>
+fn fault(code: LogFaultCode, at: u64) -> Refused<LogFault>
     ensures { result ≡ For (record { code = code; at = at }) }
 {
     Refused::For(LogFault { code, at })
@@ -56,13 +61,13 @@ impl Reading {
         ensures { StepsTo (take_id (state_of self.old) number at) self.new result }
     {
         let Some(number) = number else {
-            return Err(fault(1, at));
+            return Err(fault(LogFaultCode::BadNumber, at));
         };
         if number.negative {
-            return Err(fault(1, at));
+            return Err(fault(LogFaultCode::BadNumber, at));
         }
         if number.value == 0 {
-            return Err(fault(1, at));
+            return Err(fault(LogFaultCode::BadNumber, at));
         }
         self.stage = Stage::Second;
         self.id = number.value as u64;
@@ -75,10 +80,10 @@ impl Reading {
         ensures { StepsTo (take_literal (state_of self.old) number at) self.new result }
     {
         let Some(number) = number else {
-            return Err(fault(1, at));
+            return Err(fault(LogFaultCode::BadNumber, at));
         };
         if number.value as u64 > self.variables {
-            return Err(fault(5, at));
+            return Err(fault(LogFaultCode::VariableOutOfRange, at));
         }
         if number.value == 0 {
             self.stage = Stage::Hints;
@@ -101,7 +106,7 @@ impl Reading {
             return Ok(());
         }
         if self.id <= self.last {
-            return Err(fault(4, self.place));
+            return Err(fault(LogFaultCode::IdNotAbove, self.place));
         }
         self.take_literal(number_of(word), at)
     }
@@ -115,10 +120,10 @@ impl Reading {
         ensures { StepsTo (take_hint (state_of self.old) number at) self.new result }
     {
         let Some(number) = number else {
-            return Err(fault(1, at));
+            return Err(fault(LogFaultCode::BadNumber, at));
         };
         if number.negative {
-            return Err(fault(2, at));
+            return Err(fault(LogFaultCode::RatHint, at));
         }
         if number.value == 0 {
             match self.end_addition(alloc) {
@@ -138,10 +143,10 @@ impl Reading {
         ensures { StepsTo (take_deleted (state_of self.old) number at) self.new result }
     {
         let Some(number) = number else {
-            return Err(fault(1, at));
+            return Err(fault(LogFaultCode::BadNumber, at));
         };
         if number.negative {
-            return Err(fault(1, at));
+            return Err(fault(LogFaultCode::BadNumber, at));
         }
         if number.value == 0 {
             match self.end_deletion(alloc) {
@@ -199,12 +204,13 @@ impl Reading {
         at: u64,
     ) -> Result<(), Refused<LogFault>>
         requires { number.value < 2 ^ 31 }
-        ensures { (text : List ℕ) → number_of text ≡ Some number → StepsTo (take_word (state_of self.old) (record { at = at; text = text })) self.new result }
+        ensures { (text : List ℕ) → number_of text ≡ Some number
+            → StepsTo (take_word (state_of self.old) (record { at = at; text = text })) self.new result }
     {
         match self.stage {
             Stage::Id => self.take_id(Some(number), at),
             Stage::Second => if self.id <= self.last {
-                Err(fault(4, self.place))
+                Err(fault(LogFaultCode::IdNotAbove, self.place))
             } else {
                 self.take_literal(Some(number), at)
             },
@@ -222,7 +228,8 @@ impl Reading {
 
     // Takes the ids that stand next, as long as they are found at once.
     fn take_ids(&mut self, words: &mut Words<'_>) -> Mem<()>
-        ensures taken { OnOk result ((end : ℕ) → read_words (state_of self.new) words.new end ≡ read_words (state_of self.old) words.old end) }
+        ensures taken { OnOk result ((end : ℕ)
+            → read_words (state_of self.new) words.new end ≡ read_words (state_of self.old) words.old end) }
         ensures shorter { length words.new ≤ length words.old }
     {
         while self.takes_ids() {
@@ -285,6 +292,7 @@ pub fn read_log(
     ensures place { IfErr result (Because (StandsBy (length text.now))) }
 {
     word_laws();
+    piece_law();
     let read = read_text(alloc, text, variables, clauses);
     read
 }
@@ -296,7 +304,7 @@ fn read_text(
     variables: u64,
     clauses: u64,
 ) -> Result<Log, Refused<LogFault>>
-    ensures log { Answers (read_of variables clauses text.now) result }
+    ensures log { Answers (read_by_words variables clauses text.now) result }
     ensures over { IfOk result (λ lines. IsLogOver variables clauses lines) }
 {
     word_laws();
@@ -323,10 +331,10 @@ fn finish(reading: Reading, at: u64) -> Result<Log, Refused<LogFault>>
     match reading.stage {
         Stage::Id => Ok(Log::new(reading.lines)),
         Stage::Second => if reading.id <= reading.last {
-            Err(fault(4, reading.place))
+            Err(fault(LogFaultCode::IdNotAbove, reading.place))
         } else {
-            Err(fault(3, at))
+            Err(fault(LogFaultCode::Unended, at))
         },
-        Stage::Literals | Stage::Hints | Stage::Deleted => Err(fault(3, at)),
+        Stage::Literals | Stage::Hints | Stage::Deleted => Err(fault(LogFaultCode::Unended, at)),
     }
 }

@@ -26,7 +26,8 @@ pub trait Sink {
     /// Takes one more line. It is in range, and accepted behind the lines before it, so want of memory is
     /// all that can keep it out; the lines are then as they were.
     fn take(&mut self, line: Line) -> Mem<()>
-        requires range { let f = formula self.old in IsLineOver f.variables (last_id (length f.clauses) (lines self.old)) line }
+        requires range { let f = formula self.old in
+            IsLineOver f.variables (last_id (length f.clauses) (lines self.old)) line }
         requires accepted { outcome_of (after_lines (held_of (formula self.old)) (lines self.old)) line ≡ Accepted }
         ensures formula { formula self.new ≡ formula self.old }
         ensures taken { OnOk result (lines self.new ≡ lines self.old ++ line ∷ []) }

@@ -1,4 +1,5 @@
 // What the text of a log is made of.
+use crate::fault_code::LogFaultCode;
 
 /// Which word of a line is wanted next.
 #[derive(Clone, Copy)]
@@ -10,10 +11,9 @@ pub enum Stage {
     Deleted,
 }
 
-/// What is wrong with the text of a log, and at which byte: 1 bad number, 2 RAT hint, 3 unended, 4 id
-/// not above the last, 5 variable out of range.
+/// What is wrong with the text of a log, and at which byte, from 0 on.
 #[derive(Clone, Copy, PartialEq, Eq, Debug)]
 pub struct LogFault {
-    pub code: u8,
+    pub code: LogFaultCode,
     pub at: u64,
 }

@@ -56,12 +56,20 @@ fn push_lines(out: &mut Vec<u8>, lines: &[Line]) -> Mem<()>
     Ok(())
 }
 
-/// The text of a log, a line for each addition and deletion. It is read again as the same log, for a
-/// formula whose variables it keeps to and whose clauses have smaller ids.
+/// The text of some lines, one line of text for each addition and deletion.
+pub fn write_lines(alloc: Global, lines: &[Line]) -> Mem<Vec<u8>>
+    ensures { IfOk result (λ text. text.items ≡ text_of lines.now) }
+{
+    let mut out = Vec::new(alloc);
+    push_lines(&mut out, lines)?;
+    Ok(out)
+}
+
+/// The text of a log. It is read again as the same log, for a formula whose variables it keeps to and
+/// whose clauses have smaller ids.
 pub fn write_log(alloc: Global, log: &Log) -> Mem<Vec<u8>>
     ensures { IfOk result (λ text. text.items ≡ text_of log.now) }
 {
-    let mut out = Vec::new(alloc);
-    push_lines(&mut out, log.lines())?;
-    Ok(out)
+    let text = write_lines(alloc, log.lines())?;
+    Ok(text)
 }

@@ -23,7 +23,7 @@ fn verdict_of(alloc: Global, cnf: &Cnf, log: &Log) -> Mem<String>
             format!(in alloc; "{verdict} by {count} lines")
         }
         Err(Refused::For(refusal)) => {
-            let (code, id) = (refusal.code, refusal.id);
+            let (code, id) = (refusal.code.number(), refusal.id);
             format!(in alloc; "C{code} at id {id}")
         }
         Err(Refused::NoMemory) => Err(AllocError),

@@ -22,7 +22,7 @@ impl Call for Formulas {
         match read_cnf(alloc, text) {
             Ok(cnf) => told(alloc, &cnf),
             Err(Refused::For(fault)) => {
-                let (code, at) = (fault.code, fault.at);
+                let (code, at) = (fault.code.number(), fault.at);
                 format!(in alloc; "N{code} at byte {at}")
             }
             Err(Refused::NoMemory) => Err(AllocError),

@@ -22,7 +22,7 @@ impl Call for Logs {
         match read_log(alloc, text, 2, 4) {
             Ok(log) => told(alloc, &log),
             Err(Refused::For(fault)) => {
-                let (code, at) = (fault.code, fault.at);
+                let (code, at) = (fault.code.number(), fault.at);
                 format!(in alloc; "L{code} at byte {at}")
             }
             Err(Refused::NoMemory) => Err(AllocError),

@@ -1,5 +1,5 @@
 use Rattle.std.proofs.Common.{◌≡◌, ◌+◌, ◌≤◌, length, drop}
-use Rattle.cnf_base.specs.Words.{word_of}
+use Rattle.cnf_base.specs.Modes.{word_of}
 use Rattle.cnf_base.specs.Fronts.{word_len}
 use Rattle.cnf_base.specs.Numerals.{with_digits}
 use Rattle.cnf_base.proofs.fronts.front_digits.Given as goal

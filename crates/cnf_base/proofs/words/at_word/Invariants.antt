@@ -1,5 +1,5 @@
 use Rattle.std.proofs.Common.{◌≡◌, ◌+◌, length}
-use Rattle.cnf_base.specs.Words.{words_from}
+use Rattle.cnf_base.specs.Modes.{words_from}
 use Rattle.cnf_base.proofs.words.at_word.Given as goal
 
 abbrev pub invariant-loop-rest : goal.invariant-loop-rest

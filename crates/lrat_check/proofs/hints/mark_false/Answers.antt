@@ -2,7 +2,7 @@ use Rattle.std.proofs.Common.{◌≡◌, ◌-◌, ◌<◌, arith, get_or, sym, l
 use Rattle.std.proofs.lemmas.List.{get_or_default}
 use Rattle.cnf_base.specs.Literals.{opposite}
 use Rattle.cnf_base.specs.LitSetValue.{set_of}
-use Rattle.lrat_check.proofs.Falsified.{mark_found, mark_clear, mark_more, none_false}
+use Rattle.lrat_check.proofs.Falsified.{mark_found, mark_clear, mark_more}
 use Rattle.lrat_check.proofs.hints.mark_false.Goals as goal
 
 pub loop-i-preserved : goal.loop-i-preserved

@@ -10,4 +10,4 @@ returns c =
       literal_value = c.word_laws.ensures.literal_value;
       same = c.word_laws.ensures.same;
     } in
-    read_again words
+    read_again words c.word_laws.ensures.words c.piece_law.ensures

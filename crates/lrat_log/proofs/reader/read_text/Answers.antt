@@ -1,14 +1,14 @@
 use Rattle.std.proofs.Common.{◌≡◌, arith, length}
 use Rattle.std.proofs.lemmas.Grind.{common_steps}
 use Rattle.lrat_log.specs.Logs.{IsLogOver}
-use Rattle.lrat_log.specs.Reading.{ended, read_words, read_of}
+use Rattle.lrat_log.specs.WordByWord.{ended, read_words, read_by_words}
 use Rattle.lrat_log.specs.ReaderState.{state_of}
 use Rattle.lrat_log.proofs.Readings.{read_is_over, end_is_read, answered, fails_as}
 use Rattle.lrat_log.proofs.reader.read_text.Goals as goal
 
 pub returns-in-Err-take_numbers-clause-log : goal.returns-in-Err-take_numbers-clause-log
 returns-in-Err-take_numbers-clause-log c =
-    let same : read_words (state_of c.take_word.new.self) c.next_word.new.self (length c.args.text.now) ≡ read_of c.args.variables c.args.clauses c.args.text.now =
+    let same : read_words (state_of c.take_word.new.self) c.next_word.new.self (length c.args.text.now) ≡ read_by_words c.args.variables c.args.clauses c.args.text.now =
     grind (arith, common_steps, c.loop-word.invariant, c.in-Some.ensures, c.in-Ok.ensures) in
     fails_as _ _ c.in-Err-take_numbers.e same (c.in-Err-take_numbers.ensures.taken (length c.args.text.now))
 

@@ -1,5 +1,5 @@
 use Rattle.std.proofs.Common.{◌≡◌, ◌≤◌, ℕ, length}
-use Rattle.cnf_base.specs.Reading.{read_words}
+use Rattle.cnf_base.specs.WordByWord.{read_words}
 use Rattle.cnf_base.specs.ReaderState.{state_of}
 use Rattle.cnf_base.proofs.reader.Reading.take_numbers.Given as goal
 

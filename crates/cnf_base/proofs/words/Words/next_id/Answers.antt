@@ -1,6 +1,6 @@
 use Rattle.std.proofs.Common.{◌-◌, ◌+◌, length, take, drop, sym, ◌∙◌, arith}
 use Rattle.std.proofs.lemmas.Grind.{common_steps}
-use Rattle.cnf_base.specs.Words.{word_of}
+use Rattle.cnf_base.specs.Modes.{word_of}
 use Rattle.cnf_base.proofs.Prefixes.{id_behind}
 use Rattle.cnf_base.proofs.words.Words.next_id.Goals as goal
 

@@ -1,5 +1,5 @@
 use Rattle.std.proofs.Common.{◌+◌, ◌<◌, ◌∷◌, sym, ◌∙◌, ap, take, drop, arith}
-use Rattle.cnf_base.specs.Words.{words_from}
+use Rattle.cnf_base.specs.Modes.{words_from}
 use Rattle.cnf_base.specs.declared.text.LineMode.TheVariants.{InWord}
 use Rattle.cnf_base.proofs.Scanning.{first_word}
 use Rattle.cnf_base.proofs.words.Words.next_word.Goals as goal

@@ -1,4 +1,4 @@
-use Rattle.std.proofs.Common.{◌≡◌, ℕ, ◌+◌, ◌<◌, ◌++◌, length, ◌∙◌, ap, arith, length-append}
+use Rattle.std.proofs.Common.{◌≡◌, ◌+◌, ◌++◌, length, ◌∙◌, ap, arith, length-append}
 use Rattle.lrat_check.proofs.Growth.{on_err_holds, grown, add_row, sorted_push, within_push, within_more, up_to_push}
 use Rattle.lrat_check.proofs.table.Table.add.Goals as goal
 

@@ -1,5 +1,5 @@
 use Rattle.std.proofs.Common.{◌≡◌, ◌≤◌, ℕ, length}
-use Rattle.lrat_log.specs.Reading.{read_words}
+use Rattle.lrat_log.specs.WordByWord.{read_words}
 use Rattle.lrat_log.specs.ReaderState.{state_of}
 use Rattle.lrat_log.proofs.reader.Reading.take_numbers.Given as goal
 
