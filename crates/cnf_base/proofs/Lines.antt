@@ -1,5 +1,6 @@
 -- The words that are found byte by byte are the words of the lines.
-use Rattle.std.proofs.Common.{◌≡◌, ℕ, ◌+◌, Bool, true, false, not, List, [], ◌∷◌, ◌++◌, take, refl, sym, ◌∙◌, ap, cond, subst, arith}
+use Rattle.std.proofs.Common.{◌≡◌, ℕ, ◌+◌, Bool, true, false, not, List, [], ◌∷◌, ◌++◌, take, refl, sym, ◌∙◌, ap}
+use Rattle.std.proofs.Common.{cond, subst, arith}
 use Rattle.std.specs.Prelude.{◌==◌, map}
 use Rattle.std.specs.List.{prefix_len}
 use Rattle.std.proofs.lemmas.Bool.{eqb-true}
@@ -26,11 +27,15 @@ cut_is : (is_end : ℕ → Bool) (bs : List Byte) → cut is_end bs ≡ head_of 
 cut_is is_end [] = refl
 cut_is is_end (b ∷ bs) = by (is_end b.byte)
   where
-    by : (c : Bool) → cond c ([] ∷ cut is_end bs) (onto b (cut is_end bs)) ≡ head_of (cond c ([] ∷ cut is_end bs) (onto b (cut is_end bs))) ∷ tail_of (cond c ([] ∷ cut is_end bs) (onto b (cut is_end bs)))
+    by : (c : Bool) → cond c ([] ∷ cut is_end bs) (onto b (cut is_end bs))
+        ≡ head_of (cond c ([] ∷ cut is_end bs) (onto b (cut is_end bs))) ∷ tail_of
+        (cond c ([] ∷ cut is_end bs) (onto b (cut is_end bs)))
     by true = refl
-    by false = onto_is b (cut is_end bs) ∙ (λ i. head_of (sym (onto_is b (cut is_end bs)) i) ∷ tail_of (sym (onto_is b (cut is_end bs)) i))
+    by false = onto_is b (cut is_end bs)
+        ∙ (λ i. head_of (sym (onto_is b (cut is_end bs)) i) ∷ tail_of (sym (onto_is b (cut is_end bs)) i))
 
-cut_on : (is_end : ℕ → Bool) (b : Byte) (bs : List Byte) → is_end b.byte ≡ false → cut is_end (b ∷ bs) ≡ (b ∷ head_of (cut is_end bs)) ∷ tail_of (cut is_end bs)
+cut_on : (is_end : ℕ → Bool) (b : Byte) (bs : List Byte) → is_end b.byte ≡ false
+    → cut is_end (b ∷ bs) ≡ (b ∷ head_of (cut is_end bs)) ∷ tail_of (cut is_end bs)
 cut_on is_end b bs e = ap (λ c. cond c ([] ∷ cut is_end bs) (onto b (cut is_end bs))) e ∙ onto_is b (cut is_end bs)
 
 abbrev is_feed : ℕ → Bool
@@ -48,7 +53,8 @@ texts bs = map (λ (x : Byte). x.byte) bs
 -- what each mode finds in the bytes of a text, by its lines
 record Found (at : ℕ) (bytes : List ℕ) : Type 0 where
   front : word_of bytes ≡ texts (head_of (first_words at bytes))
-  in_word : words_from InWord at bytes ≡ as_words (tail_of (first_words at bytes)) ++ words_in (tail_of (lines_at at bytes))
+  in_word : words_from InWord at bytes ≡ as_words (tail_of (first_words at bytes)) ++ words_in (tail_of
+      (lines_at at bytes))
   in_line : words_from InLine at bytes ≡ as_words (first_words at bytes) ++ words_in (tail_of (lines_at at bytes))
   comment : words_from Comment at bytes ≡ words_in (tail_of (lines_at at bytes))
   start : words_from LineStart at bytes ≡ words_in (lines_at at bytes)
@@ -57,7 +63,8 @@ found_none : (at : ℕ) → Found at []
 found_none at = record { front = refl; in_word = refl; in_line = refl; comment = refl; start = refl }
 
 found_feed : (at : ℕ) (bytes : List ℕ) → Found (at + 1) bytes → Found at (10 ∷ bytes)
-found_feed at bytes f = record { front = refl; in_word = f.start; in_line = f.start; comment = f.start; start = f.start }
+found_feed at bytes f = record
+    { front = refl; in_word = f.start; in_line = f.start; comment = f.start; start = f.start }
 
 -- a byte that ends no line
 module _ (at b : ℕ) (bytes : List ℕ) (stays : is_feed b ≡ false) where
@@ -74,38 +81,48 @@ module _ (at b : ℕ) (bytes : List ℕ) (stays : is_feed b ≡ false) where
   pieces_on = ap (λ ls. cut is_blank (head_of ls)) lines_on
 
   comment_on : Found (at + 1) bytes → words_from Comment at (b ∷ bytes) ≡ words_in (tail_of (lines_at at (b ∷ bytes)))
-  comment_on f = ap (λ c. words_from (cond c LineStart Comment) (at + 1) bytes) stays ∙ f.comment ∙ ap words_in (sym others_on)
+  comment_on f = ap (λ c. words_from (cond c LineStart Comment) (at + 1) bytes) stays ∙ f.comment
+      ∙ ap words_in (sym others_on)
 
   abbrev starts : Bool → List Word
-  starts c = cond c [] (as_words (cut is_blank (here ∷ head_of (lines_at (at + 1) bytes)))) ++ words_in (tail_of (lines_at (at + 1) bytes))
+  starts c = cond c [] (as_words (cut is_blank (here ∷ head_of (lines_at (at + 1) bytes)))) ++ words_in
+      (tail_of (lines_at (at + 1) bytes))
 
-  start_on : (b == 99) ≡ false → words_from InLine at (b ∷ bytes) ≡ as_words (first_words at (b ∷ bytes)) ++ words_in (tail_of (lines_at at (b ∷ bytes)))
+  start_on : (b == 99) ≡ false → words_from InLine at (b ∷ bytes)
+      ≡ as_words (first_words at (b ∷ bytes)) ++ words_in (tail_of (lines_at at (b ∷ bytes)))
       → words_from LineStart at (b ∷ bytes) ≡ words_in (lines_at at (b ∷ bytes))
   start_on other f =
       ap (λ c. cond (cond c false (not (is_blank b)))
-      (record { at = at; text = word_of (b ∷ bytes) } ∷ words_from (cond c Comment (behind b)) (at + 1) bytes) (words_from (cond c Comment (behind b)) (at + 1) bytes)) other
+      (record { at = at; text = word_of (b ∷ bytes) } ∷ words_from (cond c Comment (behind b)) (at + 1) bytes)
+      (words_from (cond c Comment (behind b)) (at + 1) bytes)) other
       ∙ f ∙ (λ i. as_words (pieces_on i) ++ words_in (others_on i)) ∙ ap starts (sym other) ∙ ap words_in (sym lines_on)
 
   -- a byte of a word
   module _ (solid : is_blank b ≡ false) where
-    rest_pieces : cut is_blank (here ∷ head_of (lines_at (at + 1) bytes)) ≡ (here ∷ head_of (first_words (at + 1) bytes)) ∷ tail_of (first_words (at + 1) bytes)
+    rest_pieces : cut is_blank (here ∷ head_of (lines_at (at + 1) bytes))
+        ≡ (here ∷ head_of (first_words (at + 1) bytes)) ∷ tail_of (first_words (at + 1) bytes)
     rest_pieces = cut_on is_blank here (head_of (lines_at (at + 1) bytes)) solid
 
-    words_on : first_words at (b ∷ bytes) ≡ (here ∷ head_of (first_words (at + 1) bytes)) ∷ tail_of (first_words (at + 1) bytes)
+    words_on : first_words at (b ∷ bytes)
+        ≡ (here ∷ head_of (first_words (at + 1) bytes)) ∷ tail_of (first_words (at + 1) bytes)
     words_on = pieces_on ∙ rest_pieces
 
-    front_on : word_of bytes ≡ texts (head_of (first_words (at + 1) bytes)) → word_of (b ∷ bytes) ≡ b ∷ texts (head_of (first_words (at + 1) bytes))
+    front_on : word_of bytes ≡ texts (head_of (first_words (at + 1) bytes))
+        → word_of (b ∷ bytes) ≡ b ∷ texts (head_of (first_words (at + 1) bytes))
     front_on e =
         let longer : word_of (b ∷ bytes) ≡ b ∷ word_of bytes =
-        ap (λ c. take (cond (not c) (1 + prefix_len (λ x. not (is_blank x)) bytes) 0) (b ∷ bytes)) solid ∙ grind (arith, common_steps) in
+        ap (λ c. take (cond (not c) (1 + prefix_len (λ x. not (is_blank x)) bytes) 0) (b ∷ bytes)) solid
+        ∙ grind (arith, common_steps) in
         longer ∙ ap (λ (t : List ℕ). b ∷ t) e
 
-    in_word_on : Found (at + 1) bytes → words_from InWord at (b ∷ bytes) ≡ as_words (tail_of (first_words at (b ∷ bytes))) ++ words_in (tail_of (lines_at at (b ∷ bytes)))
+    in_word_on : Found (at + 1) bytes → words_from InWord at (b ∷ bytes)
+        ≡ as_words (tail_of (first_words at (b ∷ bytes))) ++ words_in (tail_of (lines_at at (b ∷ bytes)))
     in_word_on f =
         ap (λ m. words_from m (at + 1) bytes) (inside b solid) ∙ f.in_word
         ∙ (λ i. as_words (tail_of (sym words_on i)) ++ words_in (sym others_on i))
 
-    in_line_on : Found (at + 1) bytes → words_from InLine at (b ∷ bytes) ≡ as_words (first_words at (b ∷ bytes)) ++ words_in (tail_of (lines_at at (b ∷ bytes)))
+    in_line_on : Found (at + 1) bytes → words_from InLine at (b ∷ bytes)
+        ≡ as_words (first_words at (b ∷ bytes)) ++ words_in (tail_of (lines_at at (b ∷ bytes)))
     in_line_on f =
         let w : Word = record { at = at; text = word_of (b ∷ bytes) } in
         ap (λ c. cond (not c) (w ∷ words_from (behind b) (at + 1) bytes) (words_from (behind b) (at + 1) bytes)) solid
@@ -125,12 +142,14 @@ module _ (at b : ℕ) (bytes : List ℕ) (stays : is_feed b ≡ false) where
   -- a blank
   module _ (blank : is_blank b ≡ true) where
     apart : first_words at (b ∷ bytes) ≡ [] ∷ first_words (at + 1) bytes
-    apart = pieces_on ∙ ap (λ c. cond c ([] ∷ first_words (at + 1) bytes) (onto here (first_words (at + 1) bytes))) blank
+    apart = pieces_on ∙ ap (λ c. cond c ([] ∷ first_words (at + 1) bytes)
+        (onto here (first_words (at + 1) bytes))) blank
 
     between : behind b ≡ InLine
     between = ap (λ c. cond c LineStart (cond (is_blank b) InLine InWord)) stays ∙ ap (λ c. cond c InLine InWord) blank
 
-    in_line_apart : Found (at + 1) bytes → words_from InLine at (b ∷ bytes) ≡ as_words (first_words at (b ∷ bytes)) ++ words_in (tail_of (lines_at at (b ∷ bytes)))
+    in_line_apart : Found (at + 1) bytes → words_from InLine at (b ∷ bytes)
+        ≡ as_words (first_words at (b ∷ bytes)) ++ words_in (tail_of (lines_at at (b ∷ bytes)))
     in_line_apart f =
         let w : Word = record { at = at; text = word_of (b ∷ bytes) } in
         ap (λ c. cond (not c) (w ∷ words_from (behind b) (at + 1) bytes) (words_from (behind b) (at + 1) bytes)) blank
@@ -139,8 +158,10 @@ module _ (at b : ℕ) (bytes : List ℕ) (stays : is_feed b ≡ false) where
 
     found_blank : (b == 99) ≡ false → Found (at + 1) bytes → Found at (b ∷ bytes)
     found_blank other f = record {
-      front = ap (λ c. take (cond (not c) (1 + prefix_len (λ x. not (is_blank x)) bytes) 0) (b ∷ bytes)) blank ∙ ap (λ ps. texts (head_of ps)) (sym apart);
-      in_word = ap (λ m. words_from m (at + 1) bytes) between ∙ f.in_line ∙ (λ i. as_words (tail_of (sym apart i)) ++ words_in (sym others_on i));
+      front = ap (λ c. take (cond (not c) (1 + prefix_len (λ x. not (is_blank x)) bytes) 0) (b ∷ bytes)) blank
+          ∙ ap (λ ps. texts (head_of ps)) (sym apart);
+      in_word = ap (λ m. words_from m (at + 1) bytes) between ∙ f.in_line
+          ∙ (λ i. as_words (tail_of (sym apart i)) ++ words_in (sym others_on i));
       in_line = in_line_apart f;
       comment = comment_on f;
       start = start_on other (in_line_apart f);

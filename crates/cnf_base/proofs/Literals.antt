@@ -1,5 +1,6 @@
 -- Laws of opposite literals and of membership.
-use Rattle.std.proofs.Common.{◌≡◌, ℕ, ◌*◌, ◌<◌, ◌||◌, eqb, Bool, true, false, not, List, [], ◌∷◌, ◌++◌, refl, arith, ap, sym, ◌∙◌}
+use Rattle.std.proofs.Common.{◌≡◌, ℕ, ◌*◌, ◌<◌, ◌||◌, eqb, Bool, true, false, not, List, [], ◌∷◌, ◌++◌, refl, arith}
+use Rattle.std.proofs.Common.{ap, sym, ◌∙◌}
 use Rattle.std.proofs.lemmas.Bool.{eqb-true, eq-eqb}
 use Rattle.std.proofs.lemmas.Grind.{common_steps}
 use Rattle.cnf_base.specs.Literals.{opposite, is_true, member, variable_of, is_positive, literal_of}
@@ -48,7 +49,8 @@ or_assoc false b c = refl
 
 pub member-append : (x : ℕ) (xs ys : List ℕ) → member x (xs ++ ys) ≡ (member x xs || member x ys)
 member-append x [] ys = refl
-member-append x (y ∷ xs) ys = ap (λ b. eqb x y || b) (member-append x xs ys) ∙ sym (or_assoc (eqb x y) (member x xs) (member x ys))
+member-append x (y ∷ xs) ys = ap (λ b. eqb x y || b) (member-append x xs ys)
+    ∙ sym (or_assoc (eqb x y) (member x xs) (member x ys))
 
 pub member-push : (x : ℕ) (xs : List ℕ) (y : ℕ) → member x (xs ++ y ∷ []) ≡ (member x xs || eqb x y)
 member-push x xs y = member-append x xs (y ∷ []) ∙ ap (λ b. member x xs || b) (or_nothing (eqb x y))

@@ -17,5 +17,6 @@ keys_have (k ∷ ks) l = ap (λ b. eqb l k || b) (keys_have ks l)
 pub keys_wider : (ks : List ℕ) (l : ℕ) → insert_key equal ks l ≡ with_literal ks l
 keys_wider ks l = ap (λ b. cond b ks (ks ++ l ∷ [])) (keys_have ks l)
 
-pub entry_goes_on : (kept : List ℕ) (l : ℕ) → member (opposite l) kept ≡ false → (ls : List ℕ) → entry_of kept (l ∷ ls) ≡ entry_of (with_literal kept l) ls
+pub entry_goes_on : (kept : List ℕ) (l : ℕ) → member (opposite l) kept ≡ false → (ls : List ℕ)
+    → entry_of kept (l ∷ ls) ≡ entry_of (with_literal kept l) ls
 entry_goes_on kept l h ls = ap (λ b. cond b True (entry_of (with_literal kept l) ls)) h

@@ -1,5 +1,6 @@
 -- Words and faults stand in the text.
-use Rattle.std.proofs.Common.{ℕ, ◌+◌, ◌≤◌, Bool, true, false, List, [], ◌∷◌, Option, Some, None, Result, Ok, Err, length, cond, subst, arith}
+use Rattle.std.proofs.Common.{ℕ, ◌+◌, ◌≤◌, Bool, true, false, List, [], ◌∷◌, Option, Some, None, Result, Ok, Err}
+use Rattle.std.proofs.Common.{length, cond, subst, arith}
 use Rattle.std.specs.Prelude.{◌==◌, nat_lt, codes}
 use Rattle.std.specs.Str.{bytes_eq}
 use Rattle.std.specs.Result.{IfErr}
@@ -19,19 +20,22 @@ use Rattle.cnf_base.specs.Words.{Word, words_of}
 use Rattle.cnf_base.specs.Modes.{next_mode, begins_word, word_of, words_from}
 use Rattle.cnf_base.specs.Numerals.{number_of}
 use Rattle.cnf_base.specs.Places.{BeginBy, StandsBy}
-use Rattle.cnf_base.specs.WordByWord.{State, at_start, header_number, body_number, take_at, take_word, ended_at, ended_body, and_then, read_words, read_by_words}
+use Rattle.cnf_base.specs.WordByWord.{State, at_start, header_number, body_number, take_at, take_word, ended_at}
+use Rattle.cnf_base.specs.WordByWord.{ended_body, and_then, read_words, read_by_words}
 use Rattle.cnf_base.proofs.Lines.{words_are}
 
 one_more : (n : ℕ) (b : Bool) (w : Word) (ws : List Word) → w.at ≤ n → BeginBy n ws → BeginBy n (cond b (w ∷ ws) ws)
 one_more n true w ws p q = (p, q)
 one_more n false w ws p q = q
 
-pub words_begin : (mode : LineMode) (at n : ℕ) (bytes : List ℕ) → at + length bytes ≤ n → BeginBy n (words_from mode at bytes)
+pub words_begin : (mode : LineMode) (at n : ℕ) (bytes : List ℕ) → at + length bytes ≤ n
+    → BeginBy n (words_from mode at bytes)
 words_begin mode at n [] h = tt
 words_begin mode at n (b ∷ bytes) h =
     let here : at ≤ n = omega arith in
     let behind : at + 1 + length bytes ≤ n = grind (arith, common_steps) in
-    one_more n (begins_word mode b) (record { at = at; text = word_of (b ∷ bytes) }) (words_from (next_mode mode b) (at + 1) bytes) here
+    one_more n (begins_word mode b) (record { at = at; text = word_of (b ∷ bytes) })
+    (words_from (next_mode mode b) (at + 1) bytes) here
     (words_begin (next_mode mode b) (at + 1) n bytes behind)
 
 pub text_words_begin : (text : List ℕ) → BeginBy (length text) (words_of text)
@@ -55,7 +59,8 @@ module _ (n : ℕ) where
   body_stands : (s : State) (o : Option Numeral) (at : ℕ) → at ≤ n → Fails (body_number s o at)
   body_stands s None at h = h
   body_stands s (Some m) at h =
-      either (nat_lt s.variables m.value) _ _ h (either (length s.entries == s.count) _ _ h (either (m.value == 0) _ _ tt tt))
+      either (nat_lt s.variables m.value) _ _ h
+      (either (length s.entries == s.count) _ _ h (either (m.value == 0) _ _ tt tt))
 
   word_stands : (x : Stage) (s : State) (w : Word) → w.at ≤ n → Fails (take_at x s w)
   word_stands Problem s w h = either (bytes_eq w.text (codes "p")) _ _ tt h
@@ -75,21 +80,24 @@ module _ (n : ℕ) where
   end_stands Clauses s end h = h
   end_stands Body s end h = body_end_stands s s.lits end h
 
-  then_stands : (r : Result State CnfFault) (go : State → Result Formula CnfFault) → Fails r → ((s : State) → Fails (go s)) → Fails (and_then r go)
+  then_stands : (r : Result State CnfFault) (go : State → Result Formula CnfFault) → Fails r
+      → ((s : State) → Fails (go s)) → Fails (and_then r go)
   then_stands (Ok s) go p k = k s
   then_stands (Err f) go p k = p
 
   words_stand : (ws : List Word) (s : State) (end : ℕ) → end ≤ n → BeginBy n ws → Fails (read_words s ws end)
   words_stand [] s end h p = end_stands s.stage s end h
   words_stand (w ∷ ws) s end h p =
-      then_stands (take_word s w) (λ s. read_words s ws end) (word_stands s.stage s w p.0) (λ s. words_stand ws s end h p.1)
+      then_stands (take_word s w) (λ s. read_words s ws end) (word_stands s.stage s w p.0)
+      (λ s. words_stand ws s end h p.1)
 
 text_stands : (text : List ℕ) → Fails (length text) (read_by_words text)
 text_stands text =
     let end : length text ≤ length text = omega arith in
     words_stand (length text) (words_of text) at_start (length text) end (text_words_begin text)
 
-pub answer_stands : (text : List ℕ) (r : Result Formula (Refused CnfFault)) → Answers (read_by_words text) r → IfErr r (Because (StandsBy (length text)))
+pub answer_stands : (text : List ℕ) (r : Result Formula (Refused CnfFault)) → Answers (read_by_words text) r
+    → IfErr r (Because (StandsBy (length text)))
 answer_stands text (Ok f) a = tt
 answer_stands text (Err (For f)) a = subst (Fails (length text)) a (text_stands text)
 answer_stands text (Err NoMemory) a = tt

@@ -1,4 +1,5 @@
-// Clauses.
+// Clauses: a list of literals is made into one, so that nothing above has to think of repeated or opposite literals. A
+// short list is scanned, and a long one looked up in a table, so that time is linear.
 ghost use Rattle.std.specs.Prelude.{◌≡◌, ℕ, List, IfOk, OnOk, ◌∷◌, true, if◌then◌else◌, []};
 ghost use Rattle.cnf_base.specs.Literals.{member};
 ghost use Rattle.cnf_base.specs.Clauses.{IsClause, with_literal, entry_of};
@@ -33,6 +34,7 @@ impl Model for Clause {
 }
 
 impl Clause {
+    /// The literals, in the order in which they came.
     pub fn as_slice(&self) -> &[Lit]
         ensures value { result.now ≡ self.now }
         ensures clause { IsClause self.now }
@@ -40,6 +42,7 @@ impl Clause {
         self.lits.as_slice()
     }
 
+    /// A copy; want of memory is all that can keep it out.
     pub fn copy(&self, alloc: Global) -> Mem<Clause>
         ensures { IfOk result (λ copy. copy ≡ self.now) }
     {
@@ -93,6 +96,7 @@ fn short_entry(alloc: Global, lits: &[Lit]) -> Mem<Entry>
     Ok(Entry::Clause(Clause { lits: kept }))
 }
 
+/// Whether a literal is in a table.
 #[tactic(auto, using(crate::proofs::Sets::keys_have))]
 pub fn holds(kept: &IndexSet<Lit>, lit: &Lit) -> bool
     ensures { result ≡ member lit.now kept.now.keys }
@@ -100,6 +104,7 @@ pub fn holds(kept: &IndexSet<Lit>, lit: &Lit) -> bool
     kept.contains(lit)
 }
 
+/// Puts a literal into a table, where it is not in it.
 #[tactic(auto, using(crate::proofs::Sets::keys_wider))]
 pub fn keep(kept: &mut IndexSet<Lit>, lit: Lit) -> Mem<()>
     ensures { OnOk result (kept.new.keys ≡ with_literal kept.old.keys lit) }

@@ -1,4 +1,4 @@
-// Formulas in conjunctive normal form.
+// Formulas in conjunctive normal form. A clause that is always true keeps its place, since its id is that place.
 ghost use Rattle.std.specs.Prelude.{◌≡◌, IfOk};
 
 use crate::Clause;
@@ -14,6 +14,7 @@ pub enum Entry {
 }
 
 impl Entry {
+    /// A copy; want of memory is all that can keep it out.
     pub fn copy(&self, alloc: Global) -> Mem<Entry>
         ensures { IfOk result (λ copy. copy ≡ self.now) }
     {
@@ -47,6 +48,7 @@ impl Model for Cnf {
 impl Cnf {
     ghost use Rattle.cnf_base.specs.Formulas.{IsFormula};
 
+    /// The formula of these clauses, over the variables 1 to `variables`. The clauses are moved.
     pub fn new(variables: u32, clauses: Row<Entry>) -> Cnf
         requires { IsFormula (record { variables = variables; clauses = clauses }) }
         ensures { result ≡ record { variables = variables; clauses = clauses } }
@@ -54,6 +56,7 @@ impl Cnf {
         Cnf { variables, clauses }
     }
 
+    /// How many variables there are.
     pub fn variables(&self) -> u32
         ensures value { result ≡ self.now.variables }
         ensures formula { IsFormula self.now }
@@ -61,6 +64,7 @@ impl Cnf {
         self.variables
     }
 
+    /// The clauses; the one at place k has the id k + 1.
     pub fn clauses(&self) -> &[Entry]
         ensures value { result.now ≡ self.now.clauses }
         ensures formula { IsFormula self.now }
@@ -68,6 +72,7 @@ impl Cnf {
         self.clauses.as_slice()
     }
 
+    /// A copy; want of memory is all that can keep it out.
     pub fn copy(&self, alloc: Global) -> Mem<Cnf>
         ensures { IfOk result (λ copy. copy ≡ self.now) }
     {
@@ -107,18 +112,21 @@ impl Values {
     ghost use Rattle.std.specs.Prelude.{◌<◌, ◌≤◌, length};
     ghost use Rattle.cnf_base.specs.Formulas.{value_of};
 
+    /// The values of the variables 1, 2, .. in this order. They are moved.
     pub fn from_vec(values: Vec<bool>) -> Values
         ensures { result ≡ values.items }
     {
         Values { values }
     }
 
+    /// The values of the variables 1, 2, .. in this order.
     pub fn as_slice(&self) -> &[bool]
         ensures { result.now ≡ self.now }
     {
         &self.values
     }
 
+    /// The value of a variable, whose numbers go from 1 to how many values there are.
     pub fn value(&self, variable: u32) -> bool
         requires { (0 < variable) × (variable ≤ length self.now) }
         ensures { result ≡ value_of self.now variable }

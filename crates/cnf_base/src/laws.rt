@@ -1,4 +1,4 @@
-// What follows from the definitions alone.
+// What follows from the definitions alone. Crates above call these, since no proof of one crate names one of another.
 ghost use Rattle.std.specs.Prelude.{ℕ, ◌+◌, ◌≤◌, Bool, true, false, not, List, [], ◌∷◌, ◌++◌, length, decimal, Some};
 ghost use Rattle.std.specs.Prelude.{Ok, ◌≡◌, ◌↔◌};
 ghost use Rattle.cnf_base.specs.Literals.{opposite, variable_of, is_positive, literal_of, is_true, IsLiteral};

@@ -1,4 +1,5 @@
-// Literals.
+// Literals: a variable with a sign in one number of four bytes, so that an opposite is the neighbouring number and a
+// table over literals is indexed by the number.
 ghost use Rattle.std.specs.Prelude.{◌≡◌, ◌<◌, ◌≤◌, ◌^◌, IsTrue, true, false};
 ghost use Rattle.cnf_base.specs.Literals.{variable_of, is_positive, literal_of, opposite};
 
@@ -31,6 +32,7 @@ impl Default for Lit {
 }
 
 impl Lit {
+    /// The literal that says that this variable is true.
     pub fn positive(variable: u32) -> Lit
         requires { (0 < variable) × (variable < 2 ^ 31) }
         ensures { result ≡ literal_of true variable }
@@ -38,6 +40,7 @@ impl Lit {
         Lit { code: 2 * variable }
     }
 
+    /// The literal that says that this variable is false.
     pub fn negative(variable: u32) -> Lit
         requires { (0 < variable) × (variable < 2 ^ 31) }
         ensures { result ≡ literal_of false variable }
@@ -47,6 +50,7 @@ impl Lit {
         }
     }
 
+    /// The number of its variable, from 1 on.
     pub fn variable(self) -> u32
         ensures variable { result ≡ variable_of self }
         ensures range { (0 < result) × (result < 2 ^ 31) }
@@ -54,12 +58,14 @@ impl Lit {
         self.code / 2
     }
 
+    /// Whether it says that its variable is true.
     pub fn is_positive(self) -> bool
         ensures { result ≡ is_positive self }
     {
         self.code % 2 == 0
     }
 
+    /// The literal of the same variable that says the contrary.
     #[tactic(auto, unfolding(crate::specs::Literals::opposite))]
     pub fn opposite(self) -> Lit
         ensures { result ≡ opposite self }

@@ -76,6 +76,7 @@ impl LitSet {
         self.room = self.room.saturating_add(literals.saturating_mul(4));
     }
 
+    /// Whether a literal is in the set.
     pub fn has(&self, lit: Lit) -> bool
         ensures { result ≡ set_of self.now lit }
     {
@@ -89,6 +90,7 @@ impl LitSet {
         holds(&self.far, &lit)
     }
 
+    /// Puts a literal into the set.
     pub fn insert(&mut self, lit: Lit) -> Mem<()>
         ensures { OnOk result ((x : ℕ) → set_of self.new x ≡ (x == lit || set_of self.old x)) }
     {

@@ -1,4 +1,4 @@
-// Numbers as they are written.
+// Numbers as they are written: what a word says, wherever it stands.
 ghost use Rattle.std.specs.Prelude.{◌≡◌, ◌<◌, ◌^◌, IfSome, not};
 ghost use Rattle.cnf_base.specs.Literals.{literal_of};
 ghost use Rattle.cnf_base.specs.Numerals.{is_digit, with_digits, digits_value, number_of};
@@ -8,6 +8,7 @@ use crate::text::Numeral;
 
 const LARGEST: u64 = 2147483647;
 
+/// Whether a byte is one of `0` to `9`.
 pub fn is_digit(b: u8) -> bool
     ensures { result ≡ is_digit b }
 {

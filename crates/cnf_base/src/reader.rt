@@ -1,4 +1,5 @@
-// Reads the text of a formula.
+// Reads the text of a formula in one pass, a word at a time, and the numbers of the body as long as they are found at
+// once, since they are most of a text.
 ghost use Rattle.std.specs.Prelude.{◌≡◌, ◌<◌, ◌≤◌, ◌^◌, ℕ, List, [], ◌∷◌, ◌++◌, Ok, length, OnOk, IfErr, IfSome};
 ghost use Rattle.cnf_base.specs.Clauses.{entry_of};
 ghost use Rattle.cnf_base.specs.Formulas.{Formula, IsFormula};

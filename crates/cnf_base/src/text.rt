@@ -1,4 +1,4 @@
-// What the texts of formulas and logs are made of.
+// What the texts of formulas and logs are made of, with what a reader keeps of what stood before.
 use crate::fault_code::CnfFaultCode;
 
 /// Where a reader stands before a byte.

@@ -1,4 +1,5 @@
-// The words of a text.
+// The words of a text, one after another: a cursor that is seen as the list of the words that are left, so that a
+// reader speaks of words alone and not of bytes. Formulas and logs share it.
 ghost use Rattle.std.specs.Prelude.{◌≡◌, ◌≤◌, ◌<◌, ◌+◌, ◌^◌, ℕ, List, [], ◌∷◌, length, false, not, Some, MatchOption};
 ghost use Rattle.std.specs.Prelude.{IfSome};
 ghost use Rattle.std.specs.List.{prefix_len};
@@ -39,6 +40,7 @@ impl<'a> Model for Words<'a> {
     ghost invariant = { λ w. w.at + length w.rest.now < 2 ^ 63 };
 }
 
+/// Whether a byte stands between words: a space, a tab, a carriage return or a line feed.
 pub fn is_blank(b: u8) -> bool
     ensures { result ≡ is_blank b }
 {
@@ -124,6 +126,7 @@ fn at_word<'a>(rest: &'a [u8], at: u64, mode: LineMode) -> (&'a [u8], u64, LineM
 }
 
 impl<'a> Words<'a> {
+    /// The words of a text, of which none is taken yet.
     #[tactic(auto, using(crate::proofs::Lines::words_are))]
     pub fn of(text: &'a [u8]) -> Words<'a>
         ensures { result ≡ words_of text.now }

@@ -1,4 +1,4 @@
-// Writes the text of a formula.
+// Writes the text of a formula, the one that the definition says, so that it is read again as the same.
 ghost use Rattle.std.specs.Prelude.{◌≡◌, ◌++◌, ◌∷◌, OnOk, IfOk, decimal};
 ghost use Rattle.cnf_base.specs.Writing.{literal_text, literals_text, entry_text, entries_text, text_of};
 

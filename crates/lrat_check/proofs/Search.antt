@@ -1,5 +1,6 @@
 -- A search among rows whose ids increase.
-use Rattle.std.proofs.Common.{◌≡◌, ℕ, zero, suc, ◌+◌, ◌<◌, ◌≤◌, Bool, true, false, List, [], ◌∷◌, length, get_or, refl, arith, None}
+use Rattle.std.proofs.Common.{◌≡◌, ℕ, zero, suc, ◌+◌, ◌<◌, ◌≤◌, Bool, true, false, List, [], ◌∷◌, length, get_or}
+use Rattle.std.proofs.Common.{refl, arith, None}
 use Rattle.std.proofs.lemmas.Grind.{common_steps}
 use Rattle.std.proofs.lemmas.List.{get_or_default}
 use Rattle.lrat_check.specs.declared.spans.Span.{Span}
@@ -8,7 +9,8 @@ use Rattle.lrat_log.specs.declared.outcome.Effect.TheVariants.{Unknown, Useless}
 use Rattle.lrat_log.specs.Accepted.{effect_of_entry, effect_of_clause}
 use Rattle.lrat_check.specs.Spans.{AreSorted, held_in, entry_of_span}
 
-pub below_mid : (rows : List Span) (id mid : ℕ) (e : Span) → AreSorted rows → mid < length rows → (get_or rows mid e).id < id
+pub below_mid : (rows : List Span) (id mid : ℕ) (e : Span) → AreSorted rows → mid < length rows
+    → (get_or rows mid e).id < id
     → (k : ℕ) (d : Span) → k < mid + 1 → (get_or rows k d).id < id
 below_mid rows id mid e s h b k d l =
     let same : get_or rows mid d ≡ get_or rows mid e = get_or_default rows mid d e h in
@@ -16,7 +18,8 @@ below_mid rows id mid e s h b k d l =
     let o = s k mid d in
     grind (arith, o, b2, l, h)
 
-pub above_mid : (rows : List Span) (id mid : ℕ) (e : Span) → AreSorted rows → mid < length rows → id ≤ (get_or rows mid e).id
+pub above_mid : (rows : List Span) (id mid : ℕ) (e : Span) → AreSorted rows → mid < length rows
+    → id ≤ (get_or rows mid e).id
     → (k : ℕ) (d : Span) → mid ≤ k → k < length rows → id ≤ (get_or rows k d).id
 above_mid rows id mid e s h b k d l g =
     let same : get_or rows mid d ≡ get_or rows mid e = get_or_default rows mid d e h in

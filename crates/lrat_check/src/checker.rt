@@ -1,4 +1,5 @@
-// A checker of logs.
+// A checker of logs, line by line. It keeps the formula and the lines that it accepted, so that it is itself the proof
+// of what it says.
 use crate::table::Table;
 use base::{Mem, Refused, Row};
 use cnf_base::{Cnf, Entry, Lit};

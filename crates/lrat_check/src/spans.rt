@@ -1,4 +1,4 @@
-// Where the clause of an id stands.
+// Where the clause of an id stands. Spans lie by increasing id, since a log's ids increase.
 ghost use Rattle.std.specs.Prelude.{◌≡◌, ◌≢◌, ℕ, ◌<◌, length, slice_index_or, IfSome, IfNone};
 ghost use Rattle.lrat_check.specs.Spans.{AreSorted};
 ghost use Rattle.lrat_check.specs.declared.spans.Span.{Span};

@@ -161,6 +161,7 @@ impl Table {
         Ok(checked)
     }
 
+    /// Whether a deletion is accepted: each id in turn is still held.
     pub fn check_deletion(&mut self, ids: &[u64]) -> Outcome
         ensures outcome { result ≡ outcome_of_deletion (held_by_table self.old) ids.now }
         ensures same { self.new ≡ self.old }
@@ -174,6 +175,7 @@ impl Table {
         )
     }
 
+    /// The clauses of these ids are no longer held.
     pub fn delete(&mut self, ids: &[u64])
         ensures held { (k : ℕ) → held_by_table self.new k ≡ without (held_by_table self.old) ids.now k }
         ensures ids { (k : ℕ) (d : Span) → (get_or self.new.spans k d).id ≡ (get_or self.old.spans k d).id }

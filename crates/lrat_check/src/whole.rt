@@ -1,4 +1,4 @@
-// A whole log.
+// A whole log, checked line by line up to the first line that is refused.
 ghost use Rattle.std.specs.Prelude.{◌≡◌, length, Some, None, IfOk, IfErr, OnOk};
 ghost use Rattle.base.specs.Because.{Because};
 ghost use Rattle.lrat_log.specs.Held.{held_of};

@@ -9,7 +9,8 @@ literals_wider : (n m : ℕ) (ls : List ℕ) → n ≤ m → AreLiterals n ls �
 literals_wider n m [] h a = tt
 literals_wider n m (l ∷ ls) h a = let x = a.0.1 in ((a.0.0, omega arith), literals_wider n m ls h a.1)
 
-pub log_wider : (n m last least : ℕ) (lines : List Line) → n ≤ m → least ≤ last → IsLogOver n last lines → IsLogOver m least lines
+pub log_wider : (n m last least : ℕ) (lines : List Line) → n ≤ m → least ≤ last → IsLogOver n last lines
+    → IsLogOver m least lines
 log_wider n m last least [] h l a = tt
 log_wider n m last least (Add id ls hints ∷ lines) h l a =
     let x = a.0.0 in

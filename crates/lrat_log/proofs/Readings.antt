@@ -1,5 +1,6 @@
 -- What is read has its numbers in range, and the ids of its additions increase.
-use Rattle.std.proofs.Common.{◌≡◌, ℕ, ◌<◌, ◌≤◌, Bool, true, false, List, [], ◌∷◌, ◌++◌, Option, Some, None, Result, Ok, Err, length, refl, sym, ◌∙◌, ap, subst, cond, arith}
+use Rattle.std.proofs.Common.{◌≡◌, ℕ, ◌<◌, ◌≤◌, Bool, true, false, List, [], ◌∷◌, ◌++◌, Option, Some, None, Result}
+use Rattle.std.proofs.Common.{Ok, Err, length, refl, sym, ◌∙◌, ap, subst, cond, arith}
 use Rattle.std.specs.Prelude.{◌==◌, not, nat_lt, nat_le, codes}
 use Rattle.std.specs.Str.{bytes_eq}
 use Rattle.std.specs.Result.{IfOk}
@@ -18,7 +19,9 @@ use Rattle.lrat_log.specs.declared.text.Stage.TheVariants.{Id, Second, Literals,
 use Rattle.lrat_log.specs.declared.text.LogFault.{LogFault}
 use Rattle.lrat_log.specs.Accepted.{last_id}
 use Rattle.lrat_log.specs.Logs.{IsId, AreIds, IsLineOver, IsLogOver}
-use Rattle.lrat_log.specs.WordByWord.{State, at_start, take_id, take_literal, take_second, take_hint, take_deleted, take_at, take_word, with_addition, with_deletion, ended, ended_at, and_then, read_words, read_by_words}
+use Rattle.lrat_log.specs.WordByWord.{State, at_start, take_id, take_literal, take_second, take_hint, take_deleted}
+use Rattle.lrat_log.specs.WordByWord.{take_at, take_word, with_addition, with_deletion, ended, ended_at, and_then}
+use Rattle.lrat_log.specs.WordByWord.{read_words, read_by_words}
 use Rattle.lrat_log.proofs.Growth.{last_id-push}
 
 -- each number that is read is at most 2147483647
@@ -36,7 +39,8 @@ push_id : (xs : List ℕ) (n : ℕ) → AreIds xs → IsId n → AreIds (xs ++ n
 push_id [] n p q = (q, tt)
 push_id (x ∷ xs) n p q = (p.0, push_id xs n p.1 q)
 
-push_line : (m last : ℕ) (lines : List Line) (line : Line) → IsLogOver m last lines → IsLineOver m (last_id last lines) line → IsLogOver m last (lines ++ line ∷ [])
+push_line : (m last : ℕ) (lines : List Line) (line : Line) → IsLogOver m last lines
+    → IsLineOver m (last_id last lines) line → IsLogOver m last (lines ++ line ∷ [])
 push_line m last [] line p q = (q, tt)
 push_line m last (Add id ls hints ∷ lines) line p q = (p.0, push_line m id lines line p.1 q)
 push_line m last (Delete id ids ∷ lines) line p q = (p.0, push_line m last lines line p.1 q)
@@ -75,7 +79,8 @@ module _ (variables m first : ℕ) (bound : (n : ℕ) → n ≤ variables → n 
   FineResult (Ok s) = Fine s
   FineResult (Err f) = Unit {0}
 
-  fine_cond : (b : Bool) (x y : Result State LogFault) → (b ≡ true → FineResult x) → (b ≡ false → FineResult y) → FineResult (cond b x y)
+  fine_cond : (b : Bool) (x y : Result State LogFault) → (b ≡ true → FineResult x) → (b ≡ false → FineResult y)
+      → FineResult (cond b x y)
   fine_cond true x y p q = p refl
   fine_cond false x y p q = q refl
 
@@ -83,10 +88,13 @@ module _ (variables m first : ℕ) (bound : (n : ℕ) → n ≤ variables → n 
   fine_id s None at h w = tt
   fine_id s (Some n) at h w =
       fine_cond n.negative _ _ (λ _. tt) (λ _.
-      fine_cond (n.value == 0) _ _ (λ _. tt) (λ some.
-      (record { same = w.same; log = w.log; past = w.past; lits = w.lits; ids = w.ids }, (positive n.value some, h n refl))))
+      fine_cond (n.value == 0) _ _ (λ _. tt) (λ some. (
+        record { same = w.same; log = w.log; past = w.past; lits = w.lits; ids = w.ids },
+        (positive n.value some, h n refl),
+      )))
 
-  fine_literal : (s : State) (o : Option Numeral) (at : ℕ) → IsSmall o → Whole s → IsId s.id → s.last < s.id → FineResult (take_literal s o at)
+  fine_literal : (s : State) (o : Option Numeral) (at : ℕ) → IsSmall o → Whole s → IsId s.id → s.last < s.id
+      → FineResult (take_literal s o at)
   fine_literal s None at h w i l = tt
   fine_literal s (Some n) at h w i l =
       fine_cond (nat_lt s.variables n.value) _ _ (λ _. tt) (λ within.
@@ -98,7 +106,8 @@ module _ (variables m first : ℕ) (bound : (n : ℕ) → n ≤ variables → n 
           same = w.same;
           log = w.log;
           past = w.past;
-          lits = push_literal m s.lits (literal_of (not n.negative) n.value) w.lits (a_literal m n.value (not n.negative) (positive n.value some) (bound n.value le (h n refl)));
+          lits = push_literal m s.lits (literal_of (not n.negative) n.value) w.lits
+              (a_literal m n.value (not n.negative) (positive n.value some) (bound n.value le (h n refl)));
           ids = w.ids;
         },
         (i, l),
@@ -112,7 +121,14 @@ module _ (variables m first : ℕ) (bound : (n : ℕ) → n ≤ variables → n 
       fine_literal s (number_of w.text) w.at (h w.text) f i (leb-false s.id s.last above)))
 
   more_ids : (s : State) (n : ℕ) → Whole s → 0 < n → n ≤ 2147483647 → Whole (record s { ids = s.ids ++ n ∷ [] })
-  more_ids s n w p q = record { same = w.same; log = w.log; past = w.past; lits = w.lits; ids = push_id s.ids n w.ids (p, q) }
+  more_ids s n w p q = record {
+    same = w.same;
+    log = w.log;
+    past = w.past;
+    lits = w.lits;
+    ids = push_id s.ids n w.ids
+        (p, q);
+  }
 
   with_addition_whole : (s : State) → Whole s → IsId s.id → s.last < s.id → Whole (with_addition s)
   with_addition_whole s w i l =
@@ -139,7 +155,8 @@ module _ (variables m first : ℕ) (bound : (n : ℕ) → n ≤ variables → n 
         ids = tt;
       }
 
-  fine_hint : (s : State) (o : Option Numeral) (at : ℕ) → s.stage ≡ Hints → IsSmall o → Whole s → IsId s.id → s.last < s.id → FineResult (take_hint s o at)
+  fine_hint : (s : State) (o : Option Numeral) (at : ℕ) → s.stage ≡ Hints → IsSmall o → Whole s → IsId s.id
+      → s.last < s.id → FineResult (take_hint s o at)
   fine_hint s None at e h w i l = tt
   fine_hint s (Some n) at e h w i l =
       fine_cond n.negative _ _ (λ _. tt) (λ _.
@@ -148,7 +165,8 @@ module _ (variables m first : ℕ) (bound : (n : ℕ) → n ≤ variables → n 
         subst (λ (x : Stage). PartAt x (record s { ids = s.ids ++ n.value ∷ [] })) (sym e) (i, l),
       )))
 
-  fine_deleted : (s : State) (o : Option Numeral) (at : ℕ) → s.stage ≡ Deleted → IsSmall o → Whole s → IsId s.id → FineResult (take_deleted s o at)
+  fine_deleted : (s : State) (o : Option Numeral) (at : ℕ) → s.stage ≡ Deleted → IsSmall o → Whole s → IsId s.id
+      → FineResult (take_deleted s o at)
   fine_deleted s None at e h w i = tt
   fine_deleted s (Some n) at e h w i =
       fine_cond n.negative _ _ (λ _. tt) (λ _.
@@ -157,7 +175,8 @@ module _ (variables m first : ℕ) (bound : (n : ℕ) → n ≤ variables → n 
         subst (λ (x : Stage). PartAt x (record s { ids = s.ids ++ n.value ∷ [] })) (sym e) i,
       )))
 
-  fine_word : (x : Stage) (s : State) (w : Word) → AreSmall → s.stage ≡ x → Whole s → PartAt x s → FineResult (take_at x s w)
+  fine_word : (x : Stage) (s : State) (w : Word) → AreSmall → s.stage ≡ x → Whole s → PartAt x s
+      → FineResult (take_at x s w)
   fine_word Id s w h e f p = fine_id s (number_of w.text) w.at (h w.text) f
   fine_word Second s w h e f p = fine_second s w h f p
   fine_word Literals s w h e f p = fine_literal s (number_of w.text) w.at (h w.text) f p.0 p.1
@@ -168,7 +187,8 @@ module _ (variables m first : ℕ) (bound : (n : ℕ) → n ≤ variables → n 
   not_ok true f g lines h = cc
   not_ok false f g lines h = cc
 
-  fine_end : (x : Stage) (s : State) (end : ℕ) (lines : List Line) → Whole s → ended_at x s end ≡ Ok lines → IsLogOver m first lines
+  fine_end : (x : Stage) (s : State) (end : ℕ) (lines : List Line) → Whole s → ended_at x s end ≡ Ok lines
+      → IsLogOver m first lines
   fine_end Id s end lines w h = let e : s.lines ≡ lines = cc in subst (IsLogOver m first) e w.log
   fine_end Second s end lines w h = absurd (not_ok (nat_le s.id s.last) _ _ lines h)
   fine_end Literals s end lines w h = absurd (cc)
@@ -176,27 +196,33 @@ module _ (variables m first : ℕ) (bound : (n : ℕ) → n ≤ variables → n 
   fine_end Deleted s end lines w h = absurd (cc)
 
   fine_then : (r : Result State LogFault) (go : State → Result (List Line) LogFault) (lines : List Line) → FineResult r
-      → ((s : State) → Fine s → go s ≡ Ok lines → IsLogOver m first lines) → and_then r go ≡ Ok lines → IsLogOver m first lines
+      → ((s : State) → Fine s → go s ≡ Ok lines → IsLogOver m first lines) → and_then r go ≡ Ok lines
+      → IsLogOver m first lines
   fine_then (Ok s) go lines p k h = k s p h
   fine_then (Err g) go lines p k h = absurd (cc)
 
-  fine_read : (ws : List Word) (s : State) (end : ℕ) (lines : List Line) → AreSmall → Fine s → read_words s ws end ≡ Ok lines → IsLogOver m first lines
+  fine_read : (ws : List Word) (s : State) (end : ℕ) (lines : List Line) → AreSmall → Fine s
+      → read_words s ws end ≡ Ok lines → IsLogOver m first lines
   fine_read [] s end lines h p e = fine_end s.stage s end lines p.0 e
   fine_read (w ∷ ws) s end lines h p e =
-      fine_then (take_word s w) (λ s. read_words s ws end) lines (fine_word s.stage s w h refl p.0 p.1) (λ s q. fine_read ws s end lines h q) e
+      fine_then (take_word s w) (λ s. read_words s ws end) lines (fine_word s.stage s w h refl p.0 p.1)
+      (λ s q. fine_read ws s end lines h q) e
 
-  pub read_is_over : (clauses : ℕ) (text : List ℕ) (lines : List Line) → AreSmall → first ≤ clauses → read_by_words variables clauses text ≡ Ok lines → IsLogOver m first lines
+  pub read_is_over : (clauses : ℕ) (text : List ℕ) (lines : List Line) → AreSmall → first ≤ clauses
+      → read_by_words variables clauses text ≡ Ok lines → IsLogOver m first lines
   read_is_over clauses text lines h l e =
       fine_read (words_of text) (at_start variables clauses) (length text) lines h
       (record { same = refl; log = tt; past = l; lits = tt; ids = tt }, tt) e
 
 -- where no words are left
 pub end_is_read : (variables clauses : ℕ) (text : List ℕ) (ws : List Word) (s : State) (lines : List Line) → ws ≡ []
-    → read_words s ws (length text) ≡ read_by_words variables clauses text → ended s (length text) ≡ Ok lines → read_by_words variables clauses text ≡ Ok lines
+    → read_words s ws (length text) ≡ read_by_words variables clauses text → ended s (length text) ≡ Ok lines
+    → read_by_words variables clauses text ≡ Ok lines
 end_is_read variables clauses text ws s lines e same h =
     sym same ∙ ap (λ (xs : List Word). read_words s xs (length text)) e ∙ h
 
-pub answered : {A F : Type 0} (said : Result A F) (r : Result A (Refused F)) (P : A → Type 0) → Answers said r → ((x : A) → said ≡ Ok x → P x) → IfOk r P
+pub answered : {A F : Type 0} (said : Result A F) (r : Result A (Refused F)) (P : A → Type 0) → Answers said r
+    → ((x : A) → said ≡ Ok x → P x) → IfOk r P
 answered said (Ok x) P a h = h x a
 answered said (Err e) P a h = tt
 

@@ -1,4 +1,4 @@
-// What follows from the definitions alone.
+// What follows from the definitions alone. Crates above call these, since no proof of one crate names one of another.
 ghost use Rattle.std.specs.Prelude.{ℕ, Bool, true, List, [], ◌∷◌, ◌++◌, ◌||◌, ◌==◌, ◌≤◌, length, Ok, ◌≡◌};
 ghost use Rattle.cnf_base.specs.Clauses.{SatisfiesClause};
 ghost use Rattle.cnf_base.specs.Formulas.{Formula, IsUnsatisfiable};

@@ -1,4 +1,4 @@
-// Logs of additions and deletions.
+// Logs of additions and deletions. A `Log` keeps to the ranges of its text, so that what is written is read again.
 ghost use Rattle.std.specs.Prelude.{◌≡◌, IfOk};
 
 use base::{Mem, Row};
@@ -22,6 +22,7 @@ pub enum Line {
 }
 
 impl Line {
+    /// A copy; want of memory is all that can keep it out.
     pub fn copy(&self, alloc: Global) -> Mem<Line>
         ensures { IfOk result (λ copy. copy ≡ self.now) }
     {
@@ -68,6 +69,7 @@ impl Model for Log {
 impl Log {
     ghost use Rattle.lrat_log.specs.Logs.{IsLog};
 
+    /// The log of these lines, which are moved.
     pub fn new(lines: Row<Line>) -> Log
         requires { IsLog lines }
         ensures { result ≡ lines }
@@ -75,6 +77,7 @@ impl Log {
         Log { lines }
     }
 
+    /// The lines, in their order.
     pub fn lines(&self) -> &[Line]
         ensures value { result.now ≡ self.now }
         ensures log { IsLog self.now }

@@ -1,4 +1,4 @@
-// What becomes of a line.
+// What becomes of a hint and of a line: the words in which acceptance is defined and a checker answers.
 use crate::refusal_code::RefusalCode;
 use cnf_base::Lit;
 

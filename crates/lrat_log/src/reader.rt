@@ -1,4 +1,5 @@
-// Reads the text of a log.
+// Reads the text of a log in one pass, a word at a time, and numbers as long as they are found at once. Ids have the
+// tightest loop, since hints are most of a log.
 ghost use Rattle.std.specs.Prelude.{◌≡◌, ◌<◌, ◌≤◌, ◌^◌, ℕ, List, [], ◌∷◌, ◌++◌, Ok, Some, length, OnOk, IfOk, IfErr};
 ghost use Rattle.std.specs.Prelude.{IfSome};
 ghost use Rattle.cnf_base.specs.Answers.{Answers};

@@ -1,4 +1,4 @@
-// What the text of a log is made of.
+// Where in a line a reader of a log stands, and what it finds amiss.
 use crate::fault_code::LogFaultCode;
 
 /// Which word of a line is wanted next.

@@ -1,4 +1,4 @@
-// Writes the text of a log.
+// Writes the text of lines, the one that the definition says, so that a log is read again as the same.
 ghost use Rattle.std.specs.Prelude.{◌≡◌, ◌++◌, ◌∷◌, OnOk, IfOk};
 ghost use Rattle.lrat_log.specs.Writing.{ids_text, line_text, text_of};
 

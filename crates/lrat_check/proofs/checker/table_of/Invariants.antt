@@ -7,6 +7,7 @@ use Rattle.lrat_check.proofs.checker.table_of.Given as goal
 
 abbrev pub invariant-loop-i : goal.invariant-loop-i
 invariant-loop-i l = record {
-  held : (k : ℕ) → held_by_table l.table k ≡ held_of (record { variables = l.fn.cnf.variables; clauses = take l.i l.fn.cnf.clauses }) k;
+  held : (k : ℕ) → held_by_table l.table k
+      ≡ held_of (record { variables = l.fn.cnf.variables; clauses = take l.i l.fn.cnf.clauses }) k;
   last : All (λ (s : Span). s.id ≤ l.i) l.table.spans;
 }

@@ -10,12 +10,17 @@ loop-i-preserved c =
     let ls = c.args.clause.now in
     let j = c.loop-i.i - 1 in
     let within : j < length ls = omega arith in
-    let lit : c.index-clause-i.result ≡ get_or ls j 0 = c.index-clause-i.is ∙ get_or_default ls j c.index-clause-i.result 0 within in
+    let lit : c.index-clause-i.result ≡ get_or ls j 0 = c.index-clause-i.is
+    ∙ get_or_default ls j c.index-clause-i.result 0 within in
     let other : c.opposite.result ≡ opposite (get_or ls j 0) = c.opposite.ensures ∙ ap opposite lit in
     record {
       within = omega arith;
-      none = mark_clear (set_of c.loop-i.set) ls c.loop-i.i j (omega arith) within c.loop-i.invariant.marks c.loop-i.invariant.none (rw (← lit) (sym c.has.ensures ∙ c.if-has.false));
-      marks = mark_more c.opposite_laws.ensures.twice (set_of c.loop-i.set) (set_of c.insert.new.self) ls c.loop-i.i j c.opposite.result (omega arith) within other c.loop-i.invariant.marks c.in_ok-insert.ensures;
+      none = mark_clear (set_of c.loop-i.set) ls c.loop-i.i j
+          (omega arith) within c.loop-i.invariant.marks c.loop-i.invariant.none
+          (rw (← lit) (sym c.has.ensures ∙ c.if-has.false));
+      marks = mark_more c.opposite_laws.ensures.twice (set_of c.loop-i.set)
+          (set_of c.insert.new.self) ls c.loop-i.i j c.opposite.result
+          (omega arith) within other c.loop-i.invariant.marks c.in_ok-insert.ensures;
     }
 
 pub returns-then-has-clause-opposites : goal.returns-then-has-clause-opposites
@@ -23,5 +28,7 @@ returns-then-has-clause-opposites c =
     let ls = c.args.clause.now in
     let j = c.loop-i.i - 1 in
     let within : j < length ls = omega arith in
-    let lit : c.index-clause-i.result ≡ get_or ls j 0 = c.index-clause-i.is ∙ get_or_default ls j c.index-clause-i.result 0 within in
-    sym (mark_found (set_of c.loop-i.set) ls c.loop-i.i j (omega arith) within c.loop-i.invariant.marks (rw (← lit) (sym c.has.ensures ∙ c.if-has.true)))
+    let lit : c.index-clause-i.result ≡ get_or ls j 0 = c.index-clause-i.is
+    ∙ get_or_default ls j c.index-clause-i.result 0 within in
+    sym (mark_found (set_of c.loop-i.set) ls c.loop-i.i j (omega arith) within c.loop-i.invariant.marks
+    (rw (← lit) (sym c.has.ensures ∙ c.if-has.true)))

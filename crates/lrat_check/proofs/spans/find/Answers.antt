@@ -2,7 +2,8 @@ use Rattle.std.proofs.Common.{◌<◌, ◌≤◌, ℕ, length, arith}
 use Rattle.lrat_check.specs.declared.spans.Span.{Span}
 use Rattle.lrat_check.proofs.Search.{below_mid, above_mid, not_found}
 use Rattle.lrat_check.proofs.spans.find.Goals as goal
-use Rattle.lrat_check.proofs.spans.find.Goals.{else-low-spans-via-then-low-spans+else-spans-low, else-low-spans-via-else-low-spans}
+use Rattle.lrat_check.proofs.spans.find.Goals.{else-low-spans-via-then-low-spans+else-spans-low}
+use Rattle.lrat_check.proofs.spans.find.Goals.{else-low-spans-via-else-low-spans}
 
 pub loop-low-preserved-then-spans-mid : goal.loop-low-preserved-then-spans-mid
 loop-low-preserved-then-spans-mid c = record {

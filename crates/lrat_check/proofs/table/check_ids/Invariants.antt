@@ -10,6 +10,7 @@ abbrev pub invariant-loop-id : goal.invariant-loop-id
 invariant-loop-id l = record {
   same : (literals : List ℕ) → outcome_of_deletion (held_in literals l.spans) l.ids
       ≡ outcome_of_deletion (without (held_in literals l.spans) (take l.id-index l.ids)) (drop l.id-index l.ids);
-  marks : (k : ℕ) (d : Span) → k < length l.spans → marked l.marks l.epoch k ≡ member (get_or l.spans k d).id (take l.id-index l.ids);
+  marks : (k : ℕ) (d : Span) → k < length l.spans
+      → marked l.marks l.epoch k ≡ member (get_or l.spans k d).id (take l.id-index l.ids);
   past : AreUpTo l.epoch l.marks;
 }

@@ -20,5 +20,6 @@ loop-rest-preserved c =
       refusal = c.loop-rest.invariant.refusal;
     } in
     let some : 0 < length c.loop-rest.rest.now = omega arith in
-    let s = steps_on laws c.args.cnf.now c.args.log.now c.loop-rest.rest.now c.loop-rest.checker c.step.new.self c.line-item.result stands some c.line-item.is c.in-Ok.ensures.accepted c.in-Ok.ensures.kept in
+    let s = steps_on laws c.args.cnf.now c.args.log.now c.loop-rest.rest.now c.loop-rest.checker c.step.new.self
+    c.line-item.result stands some c.line-item.is c.in-Ok.ensures.accepted c.in-Ok.ensures.kept in
     record { formula = s.formula; splits = s.splits; over = s.over; accepted = s.accepted; refusal = s.refusal }

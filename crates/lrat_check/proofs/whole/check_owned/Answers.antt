@@ -20,5 +20,7 @@ loop-line-preserved c =
       accepted = c.loop-line.invariant.accepted;
       refusal = c.loop-line.invariant.refusal;
     } in
-    let s = steps_off laws c.args.cnf c.args.log rest (into_iter_items c.next.new.self) c.loop-line.checker c.step_owned.new.self c.in-Some.line stands c.in-Some.ensures.items c.in-Ok.ensures.accepted c.in-Ok.ensures.kept in
+    let s = steps_off laws c.args.cnf c.args.log rest
+    (into_iter_items c.next.new.self) c.loop-line.checker c.step_owned.new.self c.in-Some.line stands
+    c.in-Some.ensures.items c.in-Ok.ensures.accepted c.in-Ok.ensures.kept in
     record { formula = s.formula; splits = s.splits; over = s.over; accepted = s.accepted; refusal = s.refusal }

@@ -1,4 +1,5 @@
-use Rattle.lrat_log.proofs.Growth.{after_lines-push, last_id-push, adds_empty-push, adds_empty-push_deletion, log-push, accepted-push, learnt_push}
+use Rattle.lrat_log.proofs.Growth.{after_lines-push, last_id-push, adds_empty-push, adds_empty-push_deletion}
+use Rattle.lrat_log.proofs.Growth.{log-push, accepted-push, learnt_push}
 use Rattle.lrat_log.proofs.laws.growth_laws.Goals as goal
 
 pub returns : goal.returns

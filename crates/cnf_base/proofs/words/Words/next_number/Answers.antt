@@ -8,7 +8,10 @@ pub returns-clause-word : goal.returns-clause-word
 returns-clause-word c =
     let all = c.self.inside.rest.now in (
       word_of (take (length all - 1) (drop 1 all)),
-      sym c.self.view_is ∙ next_behind c.self.inside.mode all c.self.inside.at c.in-Some.len c.in-Some.after.now c.in-Some.number c.in-InWord.is (omega arith)
-          (grind (arith, common_steps, c.is_blank.ensures, c.if-not-is_blank.false)) c.in-Some.ensures.rest c.in-Some.ensures.len c.in-Some.ensures.some c.in-Some.ensures.value,
+      sym c.self.view_is
+          ∙ next_behind c.self.inside.mode all c.self.inside.at c.in-Some.len c.in-Some.after.now c.in-Some.number
+          c.in-InWord.is (omega arith)
+          (grind (arith, common_steps, c.is_blank.ensures, c.if-not-is_blank.false)) c.in-Some.ensures.rest
+          c.in-Some.ensures.len c.in-Some.ensures.some c.in-Some.ensures.value,
       c.in-Some.ensures.value,
     )

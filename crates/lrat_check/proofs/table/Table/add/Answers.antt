@@ -6,11 +6,13 @@ pub invariant_of-self-in_err-reserve : goal.invariant_of-self-in_err-reserve
 invariant_of-self-in_err-reserve c =
     let lits = c.in_ok-extend_from_slice.ensures.items in
     let same = c.in_err-reserve.ensures.items in
-    let longer : length (c.self.inside.literals.items ++ c.args.clause.now) ≡ length c.self.inside.literals.items + length c.args.clause.now =
+    let longer : length (c.self.inside.literals.items ++ c.args.clause.now)
+    ≡ length c.self.inside.literals.items + length c.args.clause.now =
     length-append c.self.inside.literals.items c.args.clause.now in
     record {
       sorted = rw same c.self.invariant.sorted;
-      within = rw (same, lits) (within_more c.self.inside.spans.items (length c.self.inside.literals.items) _ c.self.invariant.within (omega arith));
+      within = rw (same, lits) (within_more c.self.inside.spans.items
+          (length c.self.inside.literals.items) _ c.self.invariant.within (omega arith));
       marks_past = c.self.invariant.marks_past;
       marks_size = rw same c.self.invariant.marks_size;
     }
@@ -18,12 +20,14 @@ invariant_of-self-in_err-reserve c =
 pub returns-in_err-reserve-clause-err : goal.returns-in_err-reserve-clause-err
 returns-in_err-reserve-clause-err c =
     on_err_holds c.from_residual-in_err-reserve.result (rw (← c.self.view_is)
-    (grown c.self.inside.literals.items c.args.clause.now _ c.self.inside.spans.items _ c.in_ok-extend_from_slice.ensures.items c.in_err-reserve.ensures.items c.self.invariant.within))
+    (grown c.self.inside.literals.items c.args.clause.now _ c.self.inside.spans.items _
+    c.in_ok-extend_from_slice.ensures.items c.in_err-reserve.ensures.items c.self.invariant.within))
 
 pub returns-in_err-push-clause-err : goal.returns-in_err-push-clause-err
 returns-in_err-push-clause-err c =
     on_err_holds c.from_residual-in_err-push.result (rw (← c.self.view_is)
-    (grown c.self.inside.literals.items c.args.clause.now _ c.self.inside.spans.items _ c.in_ok-extend_from_slice.ensures.items c.in_ok-reserve.ensures.items c.self.invariant.within))
+    (grown c.self.inside.literals.items c.args.clause.now _ c.self.inside.spans.items _
+    c.in_ok-extend_from_slice.ensures.items c.in_ok-reserve.ensures.items c.self.invariant.within))
 
 pub invariant_of-self-2 : goal.invariant_of-self-2
 invariant_of-self-2 c =
@@ -32,14 +36,18 @@ invariant_of-self-2 c =
     let marks = c.in_ok-push.ensures.items in
     let same = c.in_ok-reserve.ensures.items in
     let ab = rw (← c.self.view_is) at c.requires in
-    let start_is : c.len-start.result ≡ length c.self.inside.literals.items = c.len-start.ensures ∙ c.self.inside.literals.ok.0 in
+    let start_is : c.len-start.result ≡ length c.self.inside.literals.items = c.len-start.ensures
+    ∙ c.self.inside.literals.ok.0 in
     let end_is : c.len-end.result ≡ length c.self.inside.literals.items + length c.args.clause.now =
-    c.len-end.ensures ∙ c.extend_from_slice.new.self.ok.0 ∙ ap length lits ∙ length-append c.self.inside.literals.items c.args.clause.now in
-    let longer : length (c.self.inside.literals.items ++ c.args.clause.now) ≡ length c.self.inside.literals.items + length c.args.clause.now =
+    c.len-end.ensures ∙ c.extend_from_slice.new.self.ok.0 ∙ ap length lits
+    ∙ length-append c.self.inside.literals.items c.args.clause.now in
+    let longer : length (c.self.inside.literals.items ++ c.args.clause.now)
+    ≡ length c.self.inside.literals.items + length c.args.clause.now =
     length-append c.self.inside.literals.items c.args.clause.now in
     record {
       sorted = rw (spans, same) (sorted_push c.self.inside.spans.items _ c.self.invariant.sorted (λ i d h. ab i d h));
-      within = rw (spans, same, lits) (within_push c.self.inside.spans.items _ (length c.self.inside.literals.items) _ c.self.invariant.within (omega arith) (omega arith) (omega arith));
+      within = rw (spans, same, lits) (within_push c.self.inside.spans.items _
+          (length c.self.inside.literals.items) _ c.self.invariant.within (omega arith) (omega arith) (omega arith));
       marks_past = rw marks (up_to_push c.self.inside.marks.items c.self.inside.epoch c.self.invariant.marks_past);
       marks_size = rw (marks, spans, same) (simp length-append (ap (λ n. n + 1) c.self.invariant.marks_size));
     }
@@ -50,8 +58,11 @@ returns-clause-ok c k =
     let lits = c.in_ok-extend_from_slice.ensures.items in
     let same = c.in_ok-reserve.ensures.items in
     let ab = rw (← c.self.view_is) at c.requires in
-    let start_is : c.len-start.result ≡ length c.self.inside.literals.items = c.len-start.ensures ∙ c.self.inside.literals.ok.0 in
+    let start_is : c.len-start.result ≡ length c.self.inside.literals.items = c.len-start.ensures
+    ∙ c.self.inside.literals.ok.0 in
     let end_is : c.len-end.result ≡ length c.self.inside.literals.items + length c.args.clause.now =
-    c.len-end.ensures ∙ c.extend_from_slice.new.self.ok.0 ∙ ap length lits ∙ length-append c.self.inside.literals.items c.args.clause.now in
+    c.len-end.ensures ∙ c.extend_from_slice.new.self.ok.0 ∙ ap length lits
+    ∙ length-append c.self.inside.literals.items c.args.clause.now in
     rw (spans, same, lits, ← c.self.view_is)
-    (add_row c.self.inside.literals.items c.args.clause.now c.self.inside.spans.items c.args.id c.len-start.result c.len-end.result c.args.is_true c.self.invariant.within start_is end_is (λ i d h. ab i d h) k)
+    (add_row c.self.inside.literals.items c.args.clause.now c.self.inside.spans.items c.args.id c.len-start.result
+    c.len-end.result c.args.is_true c.self.invariant.within start_is end_is (λ i d h. ab i d h) k)
