@@ -5,7 +5,7 @@ ghost use Rattle.std.specs.Bool.{OnTrue, OnFalse};
 ghost use Rattle.lrat_log.specs.Held.{held_by};
 
 use base::Mem;
-use cnf_base::{Entry, Lit};
+use cnf_base::Lit;
 use std::alloc::Global;
 use std::marker::Model;
 
@@ -30,7 +30,7 @@ impl Model for Clauses {
 
     ghost Value = { List Entry };
 
-    ghost use Rattle.cdcl.specs.ClausesView.{entries_of, AreSpans};
+    ghost use Rattle.cdcl_tables.specs.ClausesView.{entries_of, AreSpans};
 
     ghost view = { entries_of };
 
@@ -82,16 +82,6 @@ impl Clauses {
             end,
             is_true: false,
         })?;
-        Ok(())
-    }
-
-    pub fn push_entry(&mut self, entry: &Entry) -> Mem<()>
-        ensures { OnOk result (self.new ≡ self.old ++ entry.now ∷ []) }
-    {
-        match entry {
-            Entry::Clause(clause) => self.push(clause.as_slice())?,
-            Entry::True => self.push_true()?,
-        }
         Ok(())
     }
 

@@ -1,6 +1,6 @@
 use Rattle.std.proofs.Common.{◌≡◌, ◌≤◌, ◌<◌, ◌^◌, ℕ, true, length}
 use Rattle.cnf_base.specs.Literals.{member, variable_of}
-use Rattle.cdcl.proofs.load.greatest_of.Given as goal
+use Rattle.cdcl_tables.proofs.extent.greatest_of.Given as goal
 
 abbrev pub invariant-loop-rest : goal.invariant-loop-rest
 invariant-loop-rest l = record {

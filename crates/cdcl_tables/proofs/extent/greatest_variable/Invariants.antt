@@ -1,6 +1,6 @@
 use Rattle.std.proofs.Common.{◌<◌, ◌^◌}
-use Rattle.cdcl.specs.Loading.{AreUpTo}
-use Rattle.cdcl.proofs.load.greatest_variable.Given as goal
+use Rattle.cdcl_tables.specs.Extent.{AreUpTo}
+use Rattle.cdcl_tables.proofs.extent.greatest_variable.Given as goal
 
 abbrev pub invariant-loop-entry : goal.invariant-loop-entry
 invariant-loop-entry l = record {

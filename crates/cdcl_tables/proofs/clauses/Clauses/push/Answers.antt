@@ -1,6 +1,6 @@
 use Rattle.std.proofs.Common.{refl, false, ◌≡◌, ◌+◌, length, arith}
-use Rattle.cdcl.proofs.Spans.{spans_pushed}
-use Rattle.cdcl.proofs.clauses.Clauses.push.Goals as goal
+use Rattle.cdcl_tables.proofs.Spans.{spans_pushed}
+use Rattle.cdcl_tables.proofs.clauses.Clauses.push.Goals as goal
 
 pub returns : goal.returns
 returns c =

@@ -1,7 +1,7 @@
 use Rattle.std.proofs.Common.{◌+◌, ℕ, List, [], ◌∷◌, length, length-append, get_or, ap, ◌∙◌}
-use Rattle.cdcl.specs.declared.watches.Watch.{Watch}
-use Rattle.cdcl.proofs.Loads.{empty_more}
-use Rattle.cdcl.proofs.load.empty_lists.Goals as goal
+use Rattle.cdcl_tables.specs.declared.watches.Watch.{Watch}
+use Rattle.cdcl_tables.proofs.Empty.{empty_more}
+use Rattle.cdcl_tables.proofs.watches.empty_lists.Goals as goal
 
 pub loop-preserved : goal.loop-preserved
 loop-preserved c = record {

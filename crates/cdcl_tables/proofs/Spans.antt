@@ -1,14 +1,19 @@
 -- Clauses in one list of literals, one more of them, and one more entry.
-use Rattle.std.proofs.Common.{◌≡◌, ℕ, zero, suc, ◌+◌, ◌-◌, ◌<◌, ◌≤◌, not, Bool, true, false, List, [], ◌∷◌, ◌++◌, length, get_or, slice_get, map, slice_range, refl, arith, ap, sym, ◌∙◌, Some, if◌then◌else◌}
+use Rattle.std.proofs.Common.{◌≡◌, ℕ, zero, suc, ◌+◌, ◌-◌, ◌<◌, ◌≤◌, not, Bool, true, false, List, [], ◌∷◌, ◌++◌, length, get_or, slice_get, map, slice_range, refl, arith, ap, sym, ◌∙◌, Some, None, cond, eqb, if◌then◌else◌}
 use Rattle.std.proofs.lemmas.Grind.{common_steps}
 use Rattle.cnf_base.specs.declared.cnf.Entry.{Entry}
 use Rattle.cnf_base.specs.declared.cnf.Entry.TheVariants.{Clause, True}
-use Rattle.cdcl.specs.declared.clauses.Span.{Span}
+use Rattle.cdcl_tables.specs.declared.clauses.Span.{Span}
 use Rattle.std.specs.Bool.{OnTrue, OnFalse}
 use Rattle.base.proofs.Lists.{slice_range-append, slice_range-seam}
 use Rattle.lrat_log.specs.Held.{held_by}
-use Rattle.cdcl.proofs.Entries.{held_at}
-use Rattle.cdcl.specs.ClausesView.{entry_of_span, IsWithin}
+use Rattle.cdcl_tables.specs.ClausesView.{entry_of_span, IsWithin}
+
+held_at : (es : List Entry) (k : ℕ) → held_by es (k + 1) ≡ slice_get es k
+held_at es k =
+    let a : eqb (k + 1) 0 ≡ false = grind (arith, common_steps) in
+    let b : k + 1 - 1 ≡ k = omega arith in
+    ap (λ (t : Bool). cond t None (slice_get es (k + 1 - 1))) a ∙ ap (slice_get es) b
 
 old_span : (xs ys : List ℕ) (s : Span) → IsWithin (length xs) s → entry_of_span (xs ++ ys) s ≡ entry_of_span xs s
 old_span xs ys s w = let e = slice_range-append xs ys s.start s.end w.0 w.1 in ap (λ (r : List ℕ). if s.is_true then True else Clause r) e

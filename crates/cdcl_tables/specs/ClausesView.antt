@@ -2,8 +2,8 @@
 use Rattle.std.specs.Prelude.{ℕ, ◌≤◌, if◌then◌else◌, List, length, slice_range, map, All}
 use Rattle.cnf_base.specs.declared.cnf.Entry.{Entry}
 use Rattle.cnf_base.specs.declared.cnf.Entry.TheVariants.{Clause, True}
-use Rattle.cdcl.specs.declared.clauses.Span.{Span}
-use Rattle.cdcl.specs.declared.clauses.Clauses.TheInside.{Inside}
+use Rattle.cdcl_tables.specs.declared.clauses.Span.{Span}
+use Rattle.cdcl_tables.specs.declared.clauses.Clauses.TheInside.{Inside}
 
 abbrev pub entry_of_span : List ℕ → Span → Entry
 entry_of_span literals s = if s.is_true then True else Clause (slice_range literals s.start s.end)

@@ -1,9 +1,9 @@
 use Rattle.std.proofs.Common.{◌≡◌, ◌≤◌, length, sym, subst, Some, List}
 use Rattle.cnf_base.specs.declared.cnf.Entry.{Entry}
 use Rattle.lrat_log.specs.Held.{held_by}
-use Rattle.cdcl.specs.ClausesView.{entry_of_span}
-use Rattle.cdcl.proofs.Spans.{span_held, clause_held, true_held}
-use Rattle.cdcl.proofs.clauses.Clauses.is_clause.Goals as goal
+use Rattle.cdcl_tables.specs.ClausesView.{entry_of_span}
+use Rattle.cdcl_tables.proofs.Spans.{span_held, clause_held, true_held}
+use Rattle.cdcl_tables.proofs.clauses.Clauses.is_clause.Goals as goal
 
 pub returns-clause-clause : goal.returns-clause-clause
 returns-clause-clause c =

@@ -1,8 +1,4 @@
 // Which variable is decided next.
-ghost use Rattle.std.specs.Prelude.{MatchOption};
-ghost use Rattle.cdcl.specs.Assigned.{IsUnset, AreAllSet};
-
-use crate::trail::Trail;
 use base::Mem;
 use cnf_base::Lit;
 use std::alloc::Global;
@@ -127,7 +123,13 @@ impl Order {
         self.seat(variable, place);
     }
 
-    fn pop(&mut self) -> Option<u32> {
+    /// How many variables may still be taken out.
+    pub fn len(&self) -> usize {
+        self.heap.len()
+    }
+
+    /// Takes out the most active variable.
+    pub fn pop(&mut self) -> Option<u32> {
         let last = self.heap.pop()?;
         let Some(top) = self.heap.first() else {
             self.set_place(last, ABSENT);
@@ -188,19 +190,5 @@ impl Order {
         if self.step > LIMIT {
             self.rescale();
         }
-    }
-
-    /// An unset variable, if there is one. Only where the heap is empty, so once a search, are all looked at.
-    pub fn next(&mut self, trail: &Trail) -> Option<u32>
-        ensures { MatchOption result (AreAllSet trail.now) (IsUnset trail.now) }
-    {
-        for _ in 0..self.heap.len() {
-            if let Some(variable) = self.pop() {
-                if trail.is_unset(variable) {
-                    return Some(variable);
-                }
-            }
-        }
-        trail.first_unset()
     }
 }
