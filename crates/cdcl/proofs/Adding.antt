@@ -10,10 +10,11 @@ use Rattle.cdcl.specs.declared.trail.Step.{Step}
 use Rattle.cdcl.specs.Trail.{reason_at, HasReason, IsTrail}
 use Rattle.cdcl.proofs.Entries.{held_old, held_new, held_either, held_place}
 use Rattle.lrat_log.specs.Held.{Held, held_by}
-use Rattle.cdcl.specs.declared.watches.Pair.{Pair}
-use Rattle.cdcl.specs.declared.watches.Watch.{Watch}
-use Rattle.cdcl.specs.declared.watches.Watches.{Watches}
-use Rattle.cdcl.specs.Watch.{Pairs, no_pair, no_watch, pair_at, list_at, IsPairOf, IsSafe, AreSafe, StandsIn, IsWatch, AreWatches, AreListed}
+use Rattle.cdcl_tables.specs.declared.watches.Pair.{Pair}
+use Rattle.cdcl_tables.specs.declared.watches.Watch.{Watch}
+use Rattle.cdcl_tables.specs.declared.watches.Watches.{Watches}
+use Rattle.cdcl_tables.specs.Nothing.{no_pair, no_watch}
+use Rattle.cdcl.specs.Watch.{Pairs, pair_at, list_at, IsPairOf, IsSafe, AreSafe, StandsIn, IsWatch, AreWatches, AreListed}
 use Rattle.cdcl.specs.Added.{IsAdded}
 use Rattle.cdcl.proofs.Visits.{stands_old, stands_new, watches_pushed}
 

@@ -9,7 +9,7 @@ use Rattle.cnf_base.specs.Literals.{opposite, member}
 use Rattle.lrat_log.specs.Held.{Held, held_by}
 use Rattle.lrat_log.specs.Learnt.{IsUnit, IsResolvent}
 use Rattle.cdcl.specs.declared.trail.Step.{Step}
-use Rattle.cdcl.specs.declared.watches.Pair.{Pair}
+use Rattle.cdcl_tables.specs.declared.watches.Pair.{Pair}
 use Rattle.cdcl.specs.declared.state.State.{State}
 use Rattle.cdcl.specs.TrailValue.{TrailValue}
 use Rattle.cdcl.specs.Trail.{literal_at, IsBelow, IsFrom, IsTrail, was_set, is_set}

@@ -9,7 +9,7 @@ use Rattle.cnf_base.specs.Clauses.{IsClause}
 use Rattle.cnf_base.specs.Formulas.{Formula, AreEntries, IsFormula}
 use Rattle.lrat_log.specs.Held.{Held, held_by}
 use Rattle.lrat_log.specs.Learnt.{StandsInHint, IsChain, IsResolvent}
-use Rattle.cdcl.specs.Loading.{AreUpTo}
+use Rattle.cdcl_tables.specs.Extent.{AreUpTo}
 use Rattle.cdcl.specs.Logged.{IsLogged}
 use Rattle.cdcl.proofs.Literals.{opposite-below}
 use Rattle.cdcl.proofs.Entries.{held_at}

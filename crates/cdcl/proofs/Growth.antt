@@ -7,7 +7,7 @@ use Rattle.cdcl.specs.Trail.{no_step, literal_at, reason_at, was_set, is_set, fr
 use Rattle.cdcl.specs.TrailValue.{TrailValue}
 use Rattle.cdcl.specs.Growth.{Extends}
 use Rattle.cdcl.specs.declared.state.State.{State}
-use Rattle.cdcl.specs.declared.watches.Watch.{Watch}
+use Rattle.cdcl_tables.specs.declared.watches.Watch.{Watch}
 use Rattle.cdcl.specs.State.{Grows, IsVisiting}
 use Rattle.cdcl.proofs.Trails.{get-push_old, get-push_new, all_set_push}
 

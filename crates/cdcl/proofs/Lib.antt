@@ -3,7 +3,6 @@ pub mod Members
 pub mod Options
 pub mod Entries
 pub mod Trails
-pub mod Spans
 pub mod Watching
 pub mod Visits
 pub mod Growth

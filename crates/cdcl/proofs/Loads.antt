@@ -7,8 +7,8 @@ use Rattle.cnf_base.specs.declared.cnf.Entry.{Entry}
 use Rattle.cnf_base.specs.declared.cnf.Entry.TheVariants.{Clause, True}
 use Rattle.cnf_base.specs.Literals.{opposite, member, variable_of}
 use Rattle.cdcl.specs.declared.trail.Step.{Step}
-use Rattle.cdcl.specs.declared.watches.Pair.{Pair}
-use Rattle.cdcl.specs.declared.watches.Watch.{Watch}
+use Rattle.cdcl_tables.specs.declared.watches.Pair.{Pair}
+use Rattle.cdcl_tables.specs.declared.watches.Watch.{Watch}
 use Rattle.cdcl.specs.declared.state.State.{State}
 use Rattle.cdcl.specs.TrailValue.{TrailValue}
 use Rattle.cdcl.specs.Trail.{reason_at, IsTrail, IsConflict, was_set, is_set}
@@ -18,30 +18,12 @@ use Rattle.cdcl.specs.Watch.{list_at, IsPairOf}
 use Rattle.cdcl.specs.Added.{IsAdded}
 use Rattle.cdcl.specs.State.{held_in, IsState}
 use Rattle.cdcl.specs.Search.{AreStarts, IsSearchState}
-use Rattle.cdcl.specs.Loading.{AreUpTo}
 use Rattle.cdcl.proofs.Entries.{held_id}
 use Rattle.cdcl.proofs.Members.{member_all}
 use Rattle.cdcl.proofs.Trails.{was_set_below}
 use Rattle.cdcl.proofs.Watching.{safe_open}
 use Rattle.cdcl.proofs.Growth.{extends_refl}
 use Rattle.cdcl.proofs.Asserting.{state_added, search_added, trail_added, held_last, unit_trail, unit_extends, unit_true, clause_is}
-
-pub up_to_more : (n m : ℕ) (es : List Entry) (i : ℕ) (e : Entry) → n ≤ m → i < length es → e ≡ get_or es i e → ((c : List ℕ) → e ≡ Clause c → (l : ℕ) → member l c ≡ true → variable_of l ≤ m)
-    → AreUpTo n es i → AreUpTo m es (i + 1)
-up_to_more n m es i e h lt q f a k c g s l x = two (cases_lt k i)
-  where
-    two : (k < i) ⊎ (i ≤ k) → variable_of l ≤ m
-    two (inl r) = let y = a k c r s l x in omega arith
-    two (inr r) =
-        let ki : k ≡ i = omega arith in
-        let same : get_or es i e ≡ get_or es i True = grind (arith, common_steps, lt) in
-        f c (q ∙ same ∙ ap (λ (j : ℕ). get_or es j True) (sym ki) ∙ s) l x
-
-pub empty_more : (ls : List (List Watch)) (e : List Watch) (i : ℕ) → e ≡ [] → ((k : ℕ) → get_or ls k [] ≡ []) → get_or (ls ++ e ∷ []) i [] ≡ []
-empty_more [] e zero q a = q
-empty_more [] e (suc i) q a = refl
-empty_more (l ∷ ls) e zero q a = a 0
-empty_more (l ∷ ls) e (suc i) q a = empty_more ls e i q (λ k. a (suc k))
 
 none_held : (es : List Entry) (id : ℕ) (e : Entry) → es ≡ [] → held_by es id ≡ Some e → ⊥
 none_held es id e z h = let l = held_id es id e h in let n : length es ≡ 0 = ap length z in let a = l.0 in let b = l.1 in omega arith

@@ -5,14 +5,15 @@ use Rattle.std.proofs.lemmas.List.{get_or-set_same, get_or-set_other, set-get_or
 use Rattle.cnf_base.specs.declared.cnf.Entry.TheVariants.{Clause}
 use Rattle.cnf_base.specs.Literals.{opposite, member}
 use Rattle.cdcl.specs.declared.trail.Step.{Step}
-use Rattle.cdcl.specs.declared.watches.Pair.{Pair}
-use Rattle.cdcl.specs.declared.watches.Watch.{Watch}
-use Rattle.cdcl.specs.declared.watches.Watches.{Watches}
+use Rattle.cdcl_tables.specs.declared.watches.Pair.{Pair}
+use Rattle.cdcl_tables.specs.declared.watches.Watch.{Watch}
+use Rattle.cdcl_tables.specs.declared.watches.Watches.{Watches}
 use Rattle.cdcl.specs.declared.state.State.{State}
 use Rattle.cdcl.specs.TrailValue.{TrailValue}
 use Rattle.cdcl.specs.Trail.{literal_at, MayPush, IsConflict, is_set}
 use Rattle.cdcl.specs.Growth.{Extends}
-use Rattle.cdcl.specs.Watch.{no_watch, no_pair, pair_at, list_at, IsPairOf, IsWatch, AreVisited}
+use Rattle.cdcl_tables.specs.Nothing.{no_watch, no_pair}
+use Rattle.cdcl.specs.Watch.{pair_at, list_at, IsPairOf, IsWatch, AreVisited}
 use Rattle.cdcl.specs.Visit.{AreFalseBut, IsOpen}
 use Rattle.cdcl.specs.State.{held_in, pairs_of, lists_of, IsState, Grows, IsVisiting, IsWatchingAt}
 use Rattle.cdcl.proofs.Literals.{opposite-opposite}

@@ -9,9 +9,10 @@ use Rattle.cnf_base.specs.declared.cnf.Entry.TheVariants.{Clause}
 use Rattle.cnf_base.specs.Literals.{opposite, member}
 use Rattle.lrat_log.specs.Held.{Held}
 use Rattle.cdcl.specs.declared.trail.Step.{Step}
-use Rattle.cdcl.specs.declared.watches.Watch.{Watch}
+use Rattle.cdcl_tables.specs.declared.watches.Watch.{Watch}
 use Rattle.cdcl.specs.Trail.{literal_at, was_set, is_set, HasTrue}
-use Rattle.cdcl.specs.Watch.{Pairs, Lists, no_watch, IsPairOf, IsSafe, StandsBefore, StandsIn, IsWatch, AreWatches, AreListed, WereSafe, IsWatching, IsListed, AreVisited}
+use Rattle.cdcl_tables.specs.Nothing.{no_watch}
+use Rattle.cdcl.specs.Watch.{Pairs, Lists, IsPairOf, IsSafe, StandsBefore, StandsIn, IsWatch, AreWatches, AreListed, WereSafe, IsWatching, IsListed, AreVisited}
 use Rattle.cdcl.proofs.Trails.{was_set_below, below_was_set, was_set-push, all_set_push}
 use Rattle.cdcl.proofs.Watching.{Which, pair_of, safe_elsewhere, safe_moves, safe_moves_before, safe_more}
 

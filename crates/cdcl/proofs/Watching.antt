@@ -4,7 +4,7 @@ use Rattle.cnf_base.specs.Literals.{opposite, member}
 use Rattle.lrat_log.specs.Held.{Held}
 use Rattle.lrat_log.specs.Learnt.{IsFalse, IsUnit, IsConsistent, IsQuiet, IsNew}
 use Rattle.cdcl.specs.declared.trail.Step.{Step}
-use Rattle.cdcl.specs.declared.watches.Pair.{Pair}
+use Rattle.cdcl_tables.specs.declared.watches.Pair.{Pair}
 use Rattle.cdcl.specs.Trail.{IsBelow, IsFrom, IsTrail, was_set, HasTrue}
 use Rattle.cdcl.specs.Watch.{IsPairOf, IsWatchedBy, IsSafe, AreSafe, Pairs}
 use Rattle.cdcl.proofs.Literals.{opposite-opposite}

@@ -2,8 +2,8 @@
 use Rattle.std.specs.Prelude.{ℕ, ◌+◌, ◌≡◌, List, [], ◌∷◌, ◌++◌, length, Some}
 use Rattle.cnf_base.specs.declared.cnf.Entry.TheVariants.{Clause}
 use Rattle.lrat_log.specs.Held.{Held}
-use Rattle.cdcl.specs.declared.watches.Pair.{Pair}
-use Rattle.cdcl.specs.declared.watches.Watches.{Watches}
+use Rattle.cdcl_tables.specs.declared.watches.Pair.{Pair}
+use Rattle.cdcl_tables.specs.declared.watches.Watches.{Watches}
 use Rattle.cdcl.specs.Watch.{pair_at, list_at, IsPairOf, StandsIn, AreWatches}
 
 pub record IsAdded (old new : Watches) (place : ℕ) (p : Pair) : Type 0 where

@@ -1,5 +1,4 @@
 pub mod Trail
-pub mod ClausesView
 pub mod TrailView
 pub mod TrailValue
 pub mod Walk

@@ -4,7 +4,7 @@ use Rattle.cnf_base.specs.declared.cnf.Entry.TheVariants.{Clause}
 use Rattle.cnf_base.specs.Literals.{opposite}
 use Rattle.lrat_log.specs.Held.{Held, held_by}
 use Rattle.cdcl.specs.declared.state.State.{State}
-use Rattle.cdcl.specs.declared.watches.Watch.{Watch}
+use Rattle.cdcl_tables.specs.declared.watches.Watch.{Watch}
 use Rattle.cdcl.specs.Trail.{literal_at, IsTrail}
 use Rattle.cdcl.specs.Growth.{Extends}
 use Rattle.cdcl.specs.Watch.{Pairs, Lists, pair_at, list_at, WereSafe, IsWatching, AreVisited}

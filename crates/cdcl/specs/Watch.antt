@@ -4,8 +4,9 @@ use Rattle.cnf_base.specs.declared.cnf.Entry.TheVariants.{Clause}
 use Rattle.cnf_base.specs.Literals.{opposite, member}
 use Rattle.lrat_log.specs.Held.{Held}
 use Rattle.cdcl.specs.declared.trail.Step.{Step}
-use Rattle.cdcl.specs.declared.watches.Pair.{Pair}
-use Rattle.cdcl.specs.declared.watches.Watch.{Watch}
+use Rattle.cdcl_tables.specs.declared.watches.Pair.{Pair}
+use Rattle.cdcl_tables.specs.declared.watches.Watch.{Watch}
+use Rattle.cdcl_tables.specs.Nothing.{no_pair, no_watch}
 use Rattle.cdcl.specs.Trail.{was_set, is_set, HasTrue}
 
 -- the two watched literals of each clause, by the clause's place
@@ -15,12 +16,6 @@ Pairs = ℕ → Pair
 -- the clauses in whose list a literal stands, by the literal
 abbrev pub Lists : Type 0
 Lists = ℕ → List Watch
-
-abbrev pub no_pair : Pair
-no_pair = record { first = 0; second = 0 }
-
-abbrev pub no_watch : Watch
-no_watch = record { place = 0; blocker = 0 }
 
 abbrev pub pair_at : List Pair → Pairs
 pair_at pairs k = get_or pairs k no_pair

@@ -8,10 +8,9 @@ ghost use Rattle.lrat_log.specs.Held.{held_by};
 ghost use Rattle.cdcl.specs.Learning.{is_marked, is_except, HasTops, AreBeforeSecond, IsSecond};
 ghost use Rattle.cdcl.specs.Holding.{IsHolding};
 
-use crate::clauses::Clauses;
-use crate::order::Order;
 use crate::trail::{Step, Trail};
 use base::Mem;
+use cdcl_tables::{Clauses, Order};
 use cnf_base::Lit;
 use std::alloc::Global;
 

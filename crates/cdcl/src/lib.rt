@@ -4,18 +4,14 @@
 #![tactic(auto)]
 
 mod analyse;
-mod clauses;
 mod kept;
 mod load;
-mod order;
-mod phases;
+mod pairing;
 mod propagate;
-mod restarts;
 mod search;
 mod solver;
 mod state;
 mod trail;
 mod truth;
-mod watches;
 
 pub use solver::{Answer, Solved, solve, solve_into};

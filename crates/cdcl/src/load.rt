@@ -1,24 +1,20 @@
 // How a search begins: all clauses held, and those of one literal set.
-ghost use Rattle.std.specs.Prelude.{List, ◌≡◌, ◌≢◌, ℕ, true, ◌+◌, ◌-◌, ◌*◌, ◌^◌, ◌<◌, ◌≤◌, [], ◌∷◌, ◌++◌, length, IfOk, OnOk, IfSome, IfNone, All, get_or, Some, slice_get};
+ghost use Rattle.std.specs.Prelude.{List, ◌≡◌, ◌≢◌, ℕ, ◌+◌, ◌-◌, ◌*◌, ◌^◌, ◌<◌, ◌≤◌, [], ◌∷◌, ◌++◌, length, IfOk, OnOk, IfSome, IfNone, All};
 ghost use Rattle.cnf_base.specs.declared.cnf.Entry.TheVariants.{Clause, True};
-ghost use Rattle.cnf_base.specs.Literals.{variable_of, member, opposite};
+ghost use Rattle.cnf_base.specs.Literals.{opposite};
 ghost use Rattle.cnf_base.specs.Clauses.{IsClause};
 ghost use Rattle.cnf_base.specs.Formulas.{IsFormula};
 ghost use Rattle.lrat_log.specs.Held.{held_of};
 ghost use Rattle.lrat_log.specs.Learnt.{IsResolvent};
 ghost use Rattle.cdcl.specs.Solver.{IsSearch, IsRefuted};
-ghost use Rattle.cdcl.specs.Loading.{AreUpTo, IsAtRoot, IsLoaded};
+ghost use Rattle.cdcl.specs.Loading.{IsAtRoot, IsLoaded};
 ghost use Rattle.cdcl.specs.Watch.{IsPairOf};
 
-use crate::clauses::Clauses;
-use crate::order::Order;
-use crate::phases::Phases;
-use crate::restarts::Restarts;
 use crate::search::{Search, Solver};
 use crate::state::State;
 use crate::trail::Trail;
-use crate::watches::{Pair, WatchList, Watches};
 use base::Mem;
+use cdcl_tables::{Clauses, Order, Pair, Phases, Restarts, Watches, greatest_variable};
 use cnf_base::{Cnf, Entry, Lit};
 use std::alloc::Global;
 
@@ -27,58 +23,6 @@ use std::alloc::Global;
 pub enum Loaded {
     Ready(Solver),
     Refuted(Vec<u64>),
-}
-
-/// The greatest variable of a clause, or `least` where that is greater.
-fn greatest_of(clause: &[Lit], least: u32) -> u32
-    requires { least < 2 ^ 31 }
-    ensures least { least ≤ result }
-    ensures range { result < 2 ^ 31 }
-    ensures up_to { (l : ℕ) → member l clause.now ≡ true → variable_of l ≤ result }
-{
-    let mut greatest = least;
-    let mut rest = clause;
-    while let [literal, after @ ..] = rest {
-        greatest = greatest.max(literal.variable());
-        rest = after;
-    }
-    greatest
-}
-
-fn greatest_in(entry: &Entry, least: u32) -> u32
-    requires { least < 2 ^ 31 }
-    ensures least { least ≤ result }
-    ensures range { result < 2 ^ 31 }
-    ensures up_to { (c : List ℕ) → entry.now ≡ Clause c → (l : ℕ) → member l c ≡ true → variable_of l ≤ result }
-{
-    match entry {
-        Entry::Clause(clause) => greatest_of(clause.as_slice(), least),
-        Entry::True => least,
-    }
-}
-
-/// The greatest variable that stands in a clause, or 1.
-pub fn greatest_variable(entries: &[Entry]) -> u32
-    ensures some { 0 < result }
-    ensures range { result < 2 ^ 31 }
-    ensures up_to { AreUpTo result entries.now (length entries.now) }
-{
-    let mut greatest = 1;
-    for entry in entries {
-        greatest = greatest_in(entry, greatest);
-    }
-    greatest
-}
-
-fn empty_lists(alloc: Global, count: usize) -> Mem<Vec<WatchList>>
-    ensures len { IfOk result (λ lists. length lists.items ≡ count) }
-    ensures empty { IfOk result (λ lists. (i : ℕ) → get_or lists.items i [] ≡ []) }
-{
-    let mut lists = Vec::with_capacity(alloc, count)?;
-    for _ in 0..count {
-        lists.push(WatchList::new(alloc))?;
-    }
-    Ok(lists)
 }
 
 impl Search {
@@ -95,10 +39,7 @@ impl Search {
             state: State {
                 clauses: Clauses::new(alloc),
                 trail: Trail::new(alloc, slots as usize)?,
-                watches: Watches {
-                    pairs: Vec::new(alloc),
-                    lists: empty_lists(alloc, literals)?,
-                },
+                watches: Watches::new(alloc, literals)?,
             },
             starts: Vec::new(alloc),
             head: 0,

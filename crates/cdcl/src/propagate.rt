@@ -9,8 +9,8 @@ ghost use Rattle.cdcl.specs.State.{held_in, IsState, Grows, IsVisiting, IsWatchi
 
 use crate::state::State;
 use crate::trail::Trail;
-use crate::watches::{Pair, Watch, WatchList};
 use base::Mem;
+use cdcl_tables::{Pair, Watch, WatchList};
 use cnf_base::Lit;
 use std::alloc::Global;
 

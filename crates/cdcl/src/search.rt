@@ -1,6 +1,6 @@
 // The search: decisions, and the way back from a conflict.
 ghost use Rattle.std.specs.Prelude.{List, ◌≡◌, ◌≢◌, ℕ, true, false, ◌+◌, ◌-◌, ◌*◌, ◌^◌, ◌<◌, ◌≤◌, [], ◌∷◌, ◌++◌, length, IfOk, OnOk, IfSome, IfNone, get_or, take};
-ghost use Rattle.std.specs.Prelude.{reverse, All};
+ghost use Rattle.std.specs.Prelude.{reverse, All, MatchOption};
 ghost use Rattle.cnf_base.specs.declared.cnf.Entry.TheVariants.{Clause};
 ghost use Rattle.cnf_base.specs.Literals.{opposite};
 ghost use Rattle.lrat_log.specs.Learnt.{IsUnit, IsLearnt, IsResolvent};
@@ -12,11 +12,10 @@ ghost use Rattle.cdcl.specs.Assigned.{IsUnset, AreAllSet};
 ghost use Rattle.cdcl.specs.Solver.{IsSearch, AreRising, WentBack, IsCut};
 
 use crate::analyse::{Learnt, Levels, learn, refute};
-use crate::order::Order;
-use crate::phases::Phases;
-use crate::restarts::Restarts;
 use crate::state::State;
+use crate::trail::Trail;
 use base::Mem;
+use cdcl_tables::{Order, Phases, Restarts};
 use cnf_base::Lit;
 use std::alloc::Global;
 use std::marker::Model;
@@ -70,6 +69,20 @@ fn pop_starts(starts: &mut Vec<usize>, second: usize) -> usize
     to
 }
 
+/// An unset variable, if there is one. Only where the order is empty, so once a search, are all looked at.
+fn next_unset(order: &mut Order, trail: &Trail) -> Option<u32>
+    ensures { MatchOption result (AreAllSet trail.now) (IsUnset trail.now) }
+{
+    for _ in 0..order.len() {
+        if let Some(variable) = order.pop() {
+            if trail.is_unset(variable) {
+                return Some(variable);
+            }
+        }
+    }
+    trail.first_unset()
+}
+
 impl Search {
     /// Begins a level with a literal of an unset variable.
     fn decide(&mut self, variable: u32) -> Mem<()>
@@ -115,7 +128,7 @@ impl Search {
                 Some(id) => return Ok(Some(id)),
                 None => {}
             }
-            match self.order.next(&self.state.trail) {
+            match next_unset(&mut self.order, &self.state.trail) {
                 Some(variable) => self.decide(variable)?,
                 None => return Ok(None),
             }

@@ -3,10 +3,10 @@ ghost use Rattle.std.specs.Prelude.{List, ◌≡◌, ℕ, ◌+◌, ◌-◌, ◌^
 ghost use Rattle.cnf_base.specs.declared.cnf.Entry.TheVariants.{Clause, True};
 ghost use Rattle.cnf_base.specs.Literals.{opposite};
 
-use crate::clauses::Clauses;
+use crate::pairing::watch;
 use crate::trail::Trail;
-use crate::watches::{Pair, Watches};
 use base::Mem;
+use cdcl_tables::{Clauses, Pair, Watches};
 use cnf_base::Lit;
 
 /// The clauses, what is set, and which literals watch.
@@ -36,7 +36,7 @@ impl State {
     {
         let place = self.clauses.len() as u32;
         self.clauses.push(clause)?;
-        self.watches.add(place, pair)?;
+        watch(&mut self.watches, place, pair)?;
         Ok(())
     }
 
@@ -56,7 +56,7 @@ impl State {
             first: literal,
             second: literal,
         };
-        self.watches.add(place, pair)?;
+        watch(&mut self.watches, place, pair)?;
         Ok(())
     }
 

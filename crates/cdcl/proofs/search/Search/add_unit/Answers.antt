@@ -2,7 +2,7 @@ use Rattle.std.proofs.Common.{◌≡◌, ◌+◌, ℕ, true, false, [], ◌∷�
 use Rattle.cnf_base.specs.declared.cnf.Entry.TheVariants.{Clause}
 use Rattle.cnf_base.specs.Literals.{opposite}
 use Rattle.cdcl.specs.declared.state.State.{State}
-use Rattle.cdcl.specs.declared.watches.Pair.{Pair}
+use Rattle.cdcl_tables.specs.declared.watches.Pair.{Pair}
 use Rattle.cdcl.specs.TrailValue.{TrailValue}
 use Rattle.cdcl.specs.Trail.{IsConflict, is_set}
 use Rattle.cdcl.specs.State.{held_in}

@@ -1,0 +1,3 @@
+pub mod ClausesView
+pub mod Extent
+pub mod Nothing
