@@ -1,5 +1,31 @@
 -- Each text has tokens or a first fault.
-use Rattle.std.proofs.Common.{◌≡◌, ℕ, zero, suc, ◌+◌, ◌<◌, ◌≤◌, ◌⊎◌, inl, inr, Bool, true, false, cond, List, [], ◌∷◌, length, length-drop, drop, Some, refl, rules, sym, arith}
+use Rattle.std.proofs.Common.{
+  ◌≡◌,
+  ℕ,
+  zero,
+  suc,
+  ◌+◌,
+  ◌<◌,
+  ◌≤◌,
+  ◌⊎◌,
+  inl,
+  inr,
+  Bool,
+  true,
+  false,
+  cond,
+  List,
+  [],
+  ◌∷◌,
+  length,
+  length-drop,
+  drop,
+  Some,
+  refl,
+  rules,
+  sym,
+  arith,
+}
 use Rattle.std.specs.Prelude.{nat_lt, nat_eq, ◌||◌}
 use Rattle.std.specs.List.{find, starts_with, prefix_len, AllByRecursion}
 use Rattle.rml_lex.specs.declared.token.Token.{Token}
@@ -84,7 +110,8 @@ turn : (bytes : List ℕ) (at : ℕ) (f : Front) → front_of (rest_of bytes) �
 turn bytes at front.End is more = inl ([], at + gap_len false bytes, (sym (nothing_left (rest_of bytes) is), refl))
 turn bytes at (front.Fault code) is more =
     inr ([], rest_of bytes, at + gap_len false bytes, code, (refl, refl), is)
-turn bytes at (front.Token kind n) is more = onward (more n (takes (rest_of bytes) kind n is) (some_left (rest_of bytes) kind n is) (at + gap_len false bytes + n))
+turn bytes at (front.Token kind n) is more =
+    onward (more n (takes (rest_of bytes) kind n is) (some_left (rest_of bytes) kind n is) token.end)
   where
     token : Token
     token = record { kind = kind; start = at + gap_len false bytes; end = at + gap_len false bytes + n }
@@ -103,7 +130,8 @@ each_from (suc fuel) bytes at within =
     (λ n some left start. each_from fuel (drop n (rest_of bytes)) start
     (omega (arith, length-drop n (rest_of bytes), length-drop (gap_len false bytes) bytes)))
 
-pub each_text : (text : List ℕ) → ((tokens : List Token) × AreTokens text tokens) ⊎ ((fault : Fault) × IsFault text fault)
+pub each_text : (text : List ℕ)
+    → ((tokens : List Token) × AreTokens text tokens) ⊎ ((fault : Fault) × IsFault text fault)
 each_text text = of (each_from (length text) text 0 (omega arith))
   where
     of : IsRead text 0 ⊎ IsStopped text 0
