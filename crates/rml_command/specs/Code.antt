@@ -4,7 +4,21 @@ use Rattle.std.specs.Coded.{Coded, code_by, coded×, coded_ℕ, coded_list}
 use Rattle.std.proofs.Common.{ap, ◌∙◌}
 use Rattle.fol_formula.specs.Syntax.{FormTree, TermTree, top, bound}
 use Rattle.fol_formula.specs.Code.{Token, Stack, a_term, encode_term, decode, decode-term, form_code}
-use Rattle.rml_command.specs.Trees.{PrimitiveTree, assume, set_rel, set_fun, havoc, abort, CommandTree, CommandTrees, prim, seq, choose, no_commands, command_then}
+use Rattle.rml_command.specs.Trees.{
+  PrimitiveTree,
+  assume,
+  set_rel,
+  set_fun,
+  havoc,
+  abort,
+  CommandTree,
+  CommandTrees,
+  prim,
+  seq,
+  choose,
+  no_commands,
+  command_then,
+}
 
 abbrev pub first_term : Stack → TermTree
 first_term (a_term t ∷ rest) = t
@@ -12,7 +26,8 @@ first_term _ = bound 0
 
 abbrev pub term_code : Coded TermTree
 term_code =
-    code_by (List Token) (coded_list (coded× coded_ℕ coded_ℕ)) (λ t. encode_term t []) (λ ts. first_term (decode ts)) (λ t. ap first_term (decode-term t []))
+    code_by (List Token) (coded_list (coded× coded_ℕ coded_ℕ)) (λ t. encode_term t []) (λ ts. first_term (decode ts))
+    (λ t. ap first_term (decode-term t []))
 
 -- the parts of a primitive, behind its number
 abbrev pub PrimitiveParts : Type 0
@@ -41,7 +56,9 @@ primitive-back (havoc v) = refl
 primitive-back abort = refl
 
 abbrev pub primitive_code : Coded PrimitiveTree
-primitive_code = code_by PrimitiveParts (coded× coded_ℕ (coded× coded_ℕ (coded× form_code term_code))) primitive_parts primitive_back primitive-back
+primitive_code =
+    code_by PrimitiveParts (coded× coded_ℕ (coded× coded_ℕ (coded× form_code term_code))) primitive_parts primitive_back
+    primitive-back
 
 abbrev pub path_code : Coded (List PrimitiveTree)
 path_code = coded_list primitive_code
@@ -88,14 +105,18 @@ decode_command [] = []
 decode_command (t ∷ ts) = apply_command t.0 t.1 (decode_command ts)
 
 mutual
-  pub decode-command : (c : CommandTree) (rest : List CommandToken) → decode_command (encode_command c rest) ≡ a_command c ∷ decode_command rest
+  pub decode-command : (c : CommandTree) (rest : List CommandToken)
+      → decode_command (encode_command c rest) ≡ a_command c ∷ decode_command rest
   decode-command (prim q) rest = refl
   decode-command (seq cs) rest = ap (apply_command 1 abort) (decode-commands cs rest)
   decode-command (choose cs) rest = ap (apply_command 2 abort) (decode-commands cs rest)
 
-  pub decode-commands : (cs : CommandTrees) (rest : List CommandToken) → decode_command (encode_commands cs rest) ≡ some_commands cs ∷ decode_command rest
+  pub decode-commands : (cs : CommandTrees) (rest : List CommandToken)
+      → decode_command (encode_commands cs rest) ≡ some_commands cs ∷ decode_command rest
   decode-commands no_commands rest = refl
-  decode-commands (command_then c cs) rest = ap (apply_command 4 abort) (decode-command c (encode_commands cs rest) ∙ ap (λ s. a_command c ∷ s) (decode-commands cs rest))
+  decode-commands (command_then c cs) rest =
+      ap (apply_command 4 abort)
+      (decode-command c (encode_commands cs rest) ∙ ap (λ s. a_command c ∷ s) (decode-commands cs rest))
 
 abbrev pub first_command : List CommandItem → CommandTree
 first_command (a_command c ∷ rest) = c
@@ -103,4 +124,5 @@ first_command _ = seq no_commands
 
 abbrev pub command_code : Coded CommandTree
 command_code =
-    code_by (List CommandToken) (coded_list (coded× coded_ℕ primitive_code)) (λ c. encode_command c []) (λ ts. first_command (decode_command ts)) (λ c. ap first_command (decode-command c []))
+    code_by (List CommandToken) (coded_list (coded× coded_ℕ primitive_code)) (λ c. encode_command c [])
+    (λ ts. first_command (decode_command ts)) (λ c. ap first_command (decode-command c []))

@@ -1,5 +1,27 @@
 -- Groups, goals, and what is a counterexample of a goal.
-use Rattle.std.specs.Prelude.{◌≡◌, ◌<◌, ℕ, suc, Bool, true, false, not, ◌&&◌, if◌then◌else◌, List, [], ◌∷◌, ◌++◌, length, map, reverse, Option, Some, None, slice_get}
+use Rattle.std.specs.Prelude.{
+  ◌≡◌,
+  ◌<◌,
+  ℕ,
+  suc,
+  Bool,
+  true,
+  false,
+  not,
+  ◌&&◌,
+  if◌then◌else◌,
+  List,
+  [],
+  ◌∷◌,
+  ◌++◌,
+  length,
+  map,
+  reverse,
+  Option,
+  Some,
+  None,
+  slice_get,
+}
 use Rattle.std.specs.List.{AllByRecursion, flat_map}
 use Rattle.fol_sig.specs.Tables.{Tables, InRange, reading}
 use Rattle.fol_sig.specs.Symbols.{FitsStructure, symbols}
@@ -28,7 +50,9 @@ stage_groups m s = record { stage = s; about = about.Abort }
 
 -- the groups of a model, in order: those of init, those of each action, and final's abort
 abbrev pub groups_of : ModelTree → List Group
-groups_of m = stage_groups m stage.Init ++ (flat_map (λ a. stage_groups m (stage.Action a)) (count_from 0 (length m.actions))
+groups_of m =
+    stage_groups m stage.Init
+    ++ (flat_map (λ a. stage_groups m (stage.Action a)) (count_from 0 (length m.actions))
     ++ (record { stage = stage.Final; about = about.Abort } ∷ []))
 
 -- the block of a stage
@@ -53,7 +77,8 @@ is_for (about.Conjecture k) p = not (has_abort p)
 abbrev pub goals_among : Group → ℕ → List (List PrimitiveTree) → List Goal
 goals_among group n [] = []
 goals_among group n (p ∷ ps) =
-    if is_for group.about p then record { stage = group.stage; path = n; about = group.about } ∷ goals_among group (suc n) ps
+    if is_for group.about p
+    then record { stage = group.stage; path = n; about = group.about } ∷ goals_among group (suc n) ps
     else goals_among group (suc n) ps
 
 -- the goals of a group, in the order of its paths, which are numbered from 1
@@ -106,7 +131,8 @@ pub record FalseUnder (s : Tables) (c : FormTree) (values : List ℕ) : Type 0 w
 abbrev pub FailsGoal : ModelTree → About → List ℕ → Option Outcome → Type 0
 FailsGoal m about.Abort values outcome = (outcome ≡ Some aborted) × (values ≡ [])
 FailsGoal m (about.Conjecture k) values outcome =
-    (c : FormTree) × (s : Tables) × (slice_get m.conjectures k ≡ Some c) × (outcome ≡ Some (ended s)) × FalseUnder s c values
+    (c : FormTree) × (s : Tables) × (slice_get m.conjectures k ≡ Some c) × (outcome ≡ Some (ended s))
+    × FalseUnder s c values
 
 -- A counterexample of a goal: a structure that induction allows, an element for each havoc of the goal's path, and
 -- values. Followed with these elements, no step of the path is blocked, and it ends as the goal forbids.

@@ -4,8 +4,30 @@ use Rattle.std.specs.List.{AllByRecursion}
 use Rattle.fol_sig.specs.Tables.{Tables}
 use Rattle.fol_sig.specs.Symbols.{Symbols, FitsStructure, symbols}
 use Rattle.fol_formula.specs.Syntax.{FormTree, TermTree}
-use Rattle.rml_command.specs.Trees.{PrimitiveTree, set_rel, set_fun, havoc, CommandTree, CommandTrees, seq, choose, followed_by}
-use Rattle.rml_command.specs.Outcomes.{Outcome, ended, aborted, HasOutcome, PathHasOutcome, follow_path, is_true, set_relation, set_function, set_variable, range_of}
+use Rattle.rml_command.specs.Trees.{
+  PrimitiveTree,
+  set_rel,
+  set_fun,
+  havoc,
+  CommandTree,
+  CommandTrees,
+  seq,
+  choose,
+  followed_by,
+}
+use Rattle.rml_command.specs.Outcomes.{
+  Outcome,
+  ended,
+  aborted,
+  HasOutcome,
+  PathHasOutcome,
+  follow_path,
+  is_true,
+  set_relation,
+  set_function,
+  set_variable,
+  range_of,
+}
 use Rattle.rml_command.specs.Lists.{SomeOf}
 use Rattle.rml_command.specs.Paths.{has_abort, EndsAtAbort, paths_of, havoc_count}
 use Rattle.rml_command.specs.Models.{ModelTree, FitsPrimitive, FitsPath, FitsModel}
@@ -16,7 +38,9 @@ use Rattle.rml_command.specs.declared.goal.Goal.{Goal}
 
 -- The outcomes of a block are those of its paths.
 abbrev pub BlockHasPathOutcomes : Type 0
-BlockHasPathOutcomes = (axioms : List FormTree) (c : CommandTree) (s : Tables) (o : Outcome) → HasOutcome axioms c s o ↔ SomeOf (λ p. PathHasOutcome axioms p s o) (paths_of c)
+BlockHasPathOutcomes =
+    (axioms : List FormTree) (c : CommandTree) (s : Tables) (o : Outcome)
+    → HasOutcome axioms c s o ↔ SomeOf (λ p. PathHasOutcome axioms p s o) (paths_of c)
 
 -- following the path with some elements, one for each havoc, has this outcome
 pub record IsFollowed (axioms : List FormTree) (p : List PrimitiveTree) (s : Tables) (o : Outcome) : Type 0 where
@@ -26,12 +50,16 @@ pub record IsFollowed (axioms : List FormTree) (p : List PrimitiveTree) (s : Tab
 
 -- The outcomes of a path are those of following it with some elements.
 abbrev pub PathHasFollowedOutcomes : Type 0
-PathHasFollowedOutcomes = (axioms : List FormTree) (p : List PrimitiveTree) (s : Tables) (o : Outcome) → PathHasOutcome axioms p s o ↔ IsFollowed axioms p s o
+PathHasFollowedOutcomes =
+    (axioms : List FormTree) (p : List PrimitiveTree) (s : Tables) (o : Outcome)
+    → PathHasOutcome axioms p s o ↔ IsFollowed axioms p s o
 
 -- A path aborts only where it has an abort, and ends only where it has none.
 pub record PathsKeepKind : Type 0 where
-  pub aborts : (axioms : List FormTree) (p : List PrimitiveTree) (s : Tables) → PathHasOutcome axioms p s aborted → has_abort p ≡ true
-  pub ends : (axioms : List FormTree) (p : List PrimitiveTree) (s new : Tables) → PathHasOutcome axioms p s (ended new) → has_abort p ≡ false
+  pub aborts : (axioms : List FormTree) (p : List PrimitiveTree) (s : Tables)
+      → PathHasOutcome axioms p s aborted → has_abort p ≡ true
+  pub ends : (axioms : List FormTree) (p : List PrimitiveTree) (s new : Tables)
+      → PathHasOutcome axioms p s (ended new) → has_abort p ≡ false
 
 -- A path of a block, and so that of a goal, has nothing behind an abort.
 pub record PathsEndAtAbort : Type 0 where
@@ -40,9 +68,12 @@ pub record PathsEndAtAbort : Type 0 where
 
 -- An update or a havoc leads from a structure of the signature to another.
 pub record UpdatesKeepSymbols : Type 0 where
-  pub relation : (sig : Symbols) (s : Tables) (r : ℕ) (by : FormTree) → FitsPrimitive sig (set_rel r by) → FitsStructure sig s → FitsStructure sig (set_relation s r by)
-  pub function : (sig : Symbols) (s : Tables) (f : ℕ) (by : TermTree) → FitsPrimitive sig (set_fun f by) → FitsStructure sig s → FitsStructure sig (set_function s f by)
-  pub variable : (sig : Symbols) (s : Tables) (v x : ℕ) → FitsPrimitive sig (havoc v) → x < range_of s v → FitsStructure sig s → FitsStructure sig (set_variable s v x)
+  pub relation : (sig : Symbols) (s : Tables) (r : ℕ) (by : FormTree)
+      → FitsPrimitive sig (set_rel r by) → FitsStructure sig s → FitsStructure sig (set_relation s r by)
+  pub function : (sig : Symbols) (s : Tables) (f : ℕ) (by : TermTree)
+      → FitsPrimitive sig (set_fun f by) → FitsStructure sig s → FitsStructure sig (set_function s f by)
+  pub variable : (sig : Symbols) (s : Tables) (v x : ℕ)
+      → FitsPrimitive sig (havoc v) → x < range_of s v → FitsStructure sig s → FitsStructure sig (set_variable s v x)
 
 -- A sentence is false exactly where some values for its leading quantifiers make its body false.
 abbrev pub FalsehoodHasValues : Type 0
@@ -50,12 +81,17 @@ FalsehoodHasValues = (s : Tables) (c : FormTree) → (is_true s c ≡ false) ↔
 
 -- `C; d` aborts where C does, and has each outcome of d from each end of C
 abbrev pub HasOutcomeOfBoth : List FormTree → CommandTree → CommandTree → Tables → Outcome → Type 0
-HasOutcomeOfBoth axioms c d s o = ((o ≡ aborted) × HasOutcome axioms c s aborted) ⊎ ((mid : Tables) × HasOutcome axioms c s (ended mid) × HasOutcome axioms d mid o)
+HasOutcomeOfBoth axioms c d s o =
+    ((o ≡ aborted) × HasOutcome axioms c s aborted)
+    ⊎ ((mid : Tables) × HasOutcome axioms c s (ended mid) × HasOutcome axioms d mid o)
 
 -- A longer list is the binary command read from the left: the list before its last member, and that member.
 pub record ListsReadFromTheLeft : Type 0 where
-  pub sequences : (axioms : List FormTree) (cs : CommandTrees) (d : CommandTree) (s : Tables) (o : Outcome) → HasOutcome axioms (seq (followed_by cs d)) s o ↔ HasOutcomeOfBoth axioms (seq cs) d s o
-  pub choices : (axioms : List FormTree) (cs : CommandTrees) (d : CommandTree) (s : Tables) (o : Outcome) → HasOutcome axioms (choose (followed_by cs d)) s o ↔ (HasOutcome axioms (choose cs) s o ⊎ HasOutcome axioms d s o)
+  pub sequences : (axioms : List FormTree) (cs : CommandTrees) (d : CommandTree) (s : Tables) (o : Outcome)
+      → HasOutcome axioms (seq (followed_by cs d)) s o ↔ HasOutcomeOfBoth axioms (seq cs) d s o
+  pub choices : (axioms : List FormTree) (cs : CommandTrees) (d : CommandTree) (s : Tables) (o : Outcome)
+      → HasOutcome axioms (choose (followed_by cs d)) s o
+      ↔ (HasOutcome axioms (choose cs) s o ⊎ HasOutcome axioms d s o)
 
 -- The goals in the ordered list are the goals of the model.
 abbrev pub GoalsAreListed : Type 0
@@ -63,8 +99,10 @@ GoalsAreListed = (m : ModelTree) (goal : Goal) → SomeOf (λ g. g ≡ goal) (go
 
 -- The path of a goal has only symbols of the model's signature, and that of a checked model's goal is in the fragment.
 pub record GoalPathsFit : Type 0 where
-  pub symbols_fit : (m : ModelTree) (goal : Goal) (p : List PrimitiveTree) → FitsModel m → goal_path m goal ≡ Some p → FitsPath (symbols m.signature) p
-  pub in_fragment : (m : ModelTree) (goal : Goal) (p : List PrimitiveTree) → IsChecked m → goal_path m goal ≡ Some p → AllByRecursion IsInFragment p
+  pub symbols_fit : (m : ModelTree) (goal : Goal) (p : List PrimitiveTree)
+      → FitsModel m → goal_path m goal ≡ Some p → FitsPath (symbols m.signature) p
+  pub in_fragment : (m : ModelTree) (goal : Goal) (p : List PrimitiveTree)
+      → IsChecked m → goal_path m goal ≡ Some p → AllByRecursion IsInFragment p
 
 -- Where no goal of any group has a counterexample, no run aborts or breaks a conjecture.
 abbrev pub InductionIsSound : Type 0

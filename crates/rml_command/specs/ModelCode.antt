@@ -19,8 +19,10 @@ sort_code = code_by ℕ coded_ℕ (λ k. k.0) (λ n. record { 0 = n }) (λ k. re
 
 abbrev pub declared_code : Coded Declared
 declared_code =
-    code_by (ℕ × (List (List ℕ) × List (List ℕ × Sort))) (coded× coded_ℕ (coded× (coded_list (coded_list coded_ℕ)) (coded_list (coded× (coded_list coded_ℕ) sort_code))))
-    (λ d. (d.sorts, (d.relations, d.functions))) (λ t. record { sorts = t.0; relations = t.1.0; functions = t.1.1 }) (λ d. refl)
+    code_by (ℕ × (List (List ℕ) × List (List ℕ × Sort)))
+    (coded× coded_ℕ (coded× (coded_list (coded_list coded_ℕ)) (coded_list (coded× (coded_list coded_ℕ) sort_code))))
+    (λ d. (d.sorts, (d.relations, d.functions)))
+    (λ t. record { sorts = t.0; relations = t.1.0; functions = t.1.1 }) (λ d. refl)
 
 abbrev pub names_code : Coded Names
 names_code =
@@ -28,7 +30,14 @@ names_code =
     code_by (List (List ℕ) × (List (List ℕ) × (List (List ℕ) × (List (List ℕ) × (List (List ℕ) × List (List ℕ))))))
     (coded× texts (coded× texts (coded× texts (coded× texts (coded× texts texts)))))
     (λ n. (n.sorts, (n.relations, (n.functions, (n.axioms, (n.conjectures, n.actions))))))
-    (λ t. record { sorts = t.0; relations = t.1.0; functions = t.1.1.0; axioms = t.1.1.1.0; conjectures = t.1.1.1.1.0; actions = t.1.1.1.1.1 })
+    (λ t. record {
+      sorts = t.0;
+      relations = t.1.0;
+      functions = t.1.1.0;
+      axioms = t.1.1.1.0;
+      conjectures = t.1.1.1.1.0;
+      actions = t.1.1.1.1.1;
+    })
     (λ n. refl)
 
 abbrev pub word_number : Word → ℕ
@@ -56,15 +65,37 @@ abbrev pub places_code : Coded Places
 places_code =
     let numbers = coded_list coded_ℕ in
     code_by (List ℕ × (List ℕ × (List ℕ × (ℕ × (List ℕ × (ℕ × (List Condition × List ℕ)))))))
-    (coded× numbers (coded× numbers (coded× numbers (coded× coded_ℕ (coded× numbers (coded× coded_ℕ (coded× (coded_list condition_code) numbers)))))))
+    (coded× numbers (coded× numbers (coded× numbers (coded× coded_ℕ
+    (coded× numbers (coded× coded_ℕ (coded× (coded_list condition_code) numbers)))))))
     (λ p. (p.functions, (p.axioms, (p.conjectures, (p.init, (p.actions, (p.last, (p.conditions, p.quantifiers))))))))
-    (λ t. record { functions = t.0; axioms = t.1.0; conjectures = t.1.1.0; init = t.1.1.1.0; actions = t.1.1.1.1.0; last = t.1.1.1.1.1.0; conditions = t.1.1.1.1.1.1.0; quantifiers = t.1.1.1.1.1.1.1 })
+    (λ t. record {
+      functions = t.0;
+      axioms = t.1.0;
+      conjectures = t.1.1.0;
+      init = t.1.1.1.0;
+      actions = t.1.1.1.1.0;
+      last = t.1.1.1.1.1.0;
+      conditions = t.1.1.1.1.1.1.0;
+      quantifiers = t.1.1.1.1.1.1.1;
+    })
     (λ p. refl)
 
 abbrev pub model_code : Coded ModelTree
 model_code =
-    code_by (Declared × (Names × (List FormTree × (List FormTree × (CommandTree × (List CommandTree × (CommandTree × Places)))))))
-    (coded× declared_code (coded× names_code (coded× (coded_list form_code) (coded× (coded_list form_code) (coded× command_code (coded× (coded_list command_code) (coded× command_code places_code)))))))
+    code_by
+    (Declared × (Names × (List FormTree × (List FormTree
+    × (CommandTree × (List CommandTree × (CommandTree × Places)))))))
+    (coded× declared_code (coded× names_code (coded× (coded_list form_code) (coded× (coded_list form_code)
+    (coded× command_code (coded× (coded_list command_code) (coded× command_code places_code)))))))
     (λ m. (m.signature, (m.names, (m.axioms, (m.conjectures, (m.init, (m.actions, (m.last, m.places))))))))
-    (λ t. record { signature = t.0; names = t.1.0; axioms = t.1.1.0; conjectures = t.1.1.1.0; init = t.1.1.1.1.0; actions = t.1.1.1.1.1.0; last = t.1.1.1.1.1.1.0; places = t.1.1.1.1.1.1.1 })
+    (λ t. record {
+      signature = t.0;
+      names = t.1.0;
+      axioms = t.1.1.0;
+      conjectures = t.1.1.1.0;
+      init = t.1.1.1.1.0;
+      actions = t.1.1.1.1.1.0;
+      last = t.1.1.1.1.1.1.0;
+      places = t.1.1.1.1.1.1.1;
+    })
     (λ m. refl)

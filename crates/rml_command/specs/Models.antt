@@ -6,7 +6,17 @@ use Rattle.fol_sig.specs.Symbols.{Symbols, symbols}
 use Rattle.fol_formula.specs.Syntax.{FormTree, negation}
 use Rattle.fol_formula.specs.Fits.{FitsForm, FitsTerm}
 use Rattle.fol_formula.specs.Fragments.{IsQuantifierFree, IsQuantifierFreeTerm, HasPlainTerms}
-use Rattle.rml_command.specs.Trees.{PrimitiveTree, assume, set_rel, set_fun, havoc, abort, CommandTree, EachPrimitive, HasBranches}
+use Rattle.rml_command.specs.Trees.{
+  PrimitiveTree,
+  assume,
+  set_rel,
+  set_fun,
+  havoc,
+  abort,
+  CommandTree,
+  EachPrimitive,
+  HasBranches,
+}
 use Rattle.rml_command.specs.Lists.{SomeOf}
 use Rattle.rml_command.specs.declared.names.Names.{Names}
 use Rattle.rml_command.specs.declared.places.Word.{Word}
@@ -112,6 +122,7 @@ pub record IsModel (m : ModelTree) : Type 0 where
   pub branches : EachBlock HasBranches m
   pub named : IsNamed m
   pub placed : IsPlaced m
-  pub few : m.signature.sorts + length m.signature.relations + length m.signature.functions + length m.conjectures + length m.actions ≤ 1000
+  pub few : m.signature.sorts + length m.signature.relations + length m.signature.functions + length m.conjectures
+      + length m.actions ≤ 1000
   pub written : EachBlock (EachPrimitive (IsWritten m.places.conditions)) m
   pub plain : m.places.quantifiers ≡ [] → IsPlainModel m

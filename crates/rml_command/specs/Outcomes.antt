@@ -4,7 +4,21 @@ use Rattle.fol_sig.specs.Tables.{Tables, reading, size_at, function_at}
 use Rattle.fol_sig.specs.Updates.{with_relation, with_function}
 use Rattle.fol_formula.specs.Syntax.{FormTree, TermTree, conjunction, forms_of}
 use Rattle.fol_formula.specs.Truth.{truth, value}
-use Rattle.rml_command.specs.Trees.{PrimitiveTree, assume, set_rel, set_fun, havoc, abort, CommandTree, CommandTrees, prim, seq, choose, no_commands, command_then}
+use Rattle.rml_command.specs.Trees.{
+  PrimitiveTree,
+  assume,
+  set_rel,
+  set_fun,
+  havoc,
+  abort,
+  CommandTree,
+  CommandTrees,
+  prim,
+  seq,
+  choose,
+  no_commands,
+  command_then,
+}
 
 -- a command ends in a structure, or it aborts
 pub data Outcome : Type 0 where
@@ -63,7 +77,8 @@ module _ (axioms : List FormTree) where
     pub SequenceHasOutcome : CommandTrees → Tables → Outcome → Type 0
     SequenceHasOutcome no_commands s o = o ≡ ended s
     SequenceHasOutcome (command_then c cs) s o =
-        ((o ≡ aborted) × HasOutcome c s aborted) ⊎ ((mid : Tables) × HasOutcome c s (ended mid) × SequenceHasOutcome cs mid o)
+        ((o ≡ aborted) × HasOutcome c s aborted)
+        ⊎ ((mid : Tables) × HasOutcome c s (ended mid) × SequenceHasOutcome cs mid o)
 
     pub ChoiceHasOutcome : CommandTrees → Tables → Outcome → Type 0
     ChoiceHasOutcome no_commands s o = ⊥
@@ -73,7 +88,8 @@ module _ (axioms : List FormTree) where
   abbrev pub PathHasOutcome : List PrimitiveTree → Tables → Outcome → Type 0
   PathHasOutcome [] s o = o ≡ ended s
   PathHasOutcome (q ∷ qs) s o =
-      ((o ≡ aborted) × PrimitiveHasOutcome q s aborted) ⊎ ((mid : Tables) × PrimitiveHasOutcome q s (ended mid) × PathHasOutcome qs mid o)
+      ((o ≡ aborted) × PrimitiveHasOutcome q s aborted)
+      ⊎ ((mid : Tables) × PrimitiveHasOutcome q s (ended mid) × PathHasOutcome qs mid o)
 
   -- Following a path with an element for each havoc: the outcome, or None where a step is blocked. A step is blocked
   -- where an assumption is false, an element is missing or out of range, or the new structure breaks an axiom.
@@ -86,5 +102,7 @@ module _ (axioms : List FormTree) where
       if satisfies (set_function s f by) axioms then follow_path qs elements (set_function s f by) else None
   follow_path (havoc v ∷ qs) [] s = None
   follow_path (havoc v ∷ qs) (x ∷ elements) s =
-      if nat_lt x (range_of s v) then (if satisfies (set_variable s v x) axioms then follow_path qs elements (set_variable s v x) else None) else None
+      if nat_lt x (range_of s v)
+      then (if satisfies (set_variable s v x) axioms then follow_path qs elements (set_variable s v x) else None)
+      else None
   follow_path (abort ∷ qs) elements s = Some aborted

@@ -1,7 +1,21 @@
 -- The paths of a block.
 use Rattle.std.specs.Prelude.{◌≡◌, ℕ, suc, Bool, true, false, ◌||◌, if◌then◌else◌, List, [], ◌∷◌, ◌++◌, map}
 use Rattle.std.specs.List.{flat_map}
-use Rattle.rml_command.specs.Trees.{PrimitiveTree, assume, set_rel, set_fun, havoc, abort, CommandTree, CommandTrees, prim, seq, choose, no_commands, command_then}
+use Rattle.rml_command.specs.Trees.{
+  PrimitiveTree,
+  assume,
+  set_rel,
+  set_fun,
+  havoc,
+  abort,
+  CommandTree,
+  CommandTrees,
+  prim,
+  seq,
+  choose,
+  no_commands,
+  command_then,
+}
 
 abbrev pub is_abort : PrimitiveTree → Bool
 is_abort (assume p) = false

@@ -35,8 +35,8 @@ abbrev pub Closes : ModelTree → Outcome → Option Outcome → Type 0
 Closes m from None = Unit {0}
 Closes m from (Some outcome) = From m m.last from outcome
 
--- A run of a model begins in a structure of its signature that satisfies the axioms. Sizes are any positive numbers, and
--- there are any number of steps.
+-- A run of a model begins in a structure of its signature that satisfies the axioms. Sizes are any positive numbers,
+-- and there are any number of steps.
 pub record IsRun (m : ModelTree) (run : Run) : Type 0 where
   pub structure : FitsStructure (symbols m.signature) run.start
   pub lawful : satisfies run.start m.axioms ≡ true

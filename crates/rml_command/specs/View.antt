@@ -1,7 +1,20 @@
 -- The trees that a `Primitive` and a `Command` stand for.
 use Rattle.std.specs.Prelude.{List, map}
 use Rattle.fol_formula.specs.View.{form, term}
-use Rattle.rml_command.specs.Trees.{PrimitiveTree, assume, set_rel, set_fun, havoc, abort, CommandTree, CommandTrees, prim, seq, choose, commands_of}
+use Rattle.rml_command.specs.Trees.{
+  PrimitiveTree,
+  assume,
+  set_rel,
+  set_fun,
+  havoc,
+  abort,
+  CommandTree,
+  CommandTrees,
+  prim,
+  seq,
+  choose,
+  commands_of,
+}
 use Rattle.rml_command.specs.declared.command.Primitive.{Primitive}
 use Rattle.rml_command.specs.declared.command.Primitive.TheVariants as p
 use Rattle.rml_command.specs.declared.command.Command.{Command, fold-Command}

@@ -1,7 +1,9 @@
-// A model in the fragment, with the paths of its blocks.
+// A model in the fragment, with what the check of it found: the strata of its signature and the paths of its blocks.
+// They are kept, since whoever decides a goal of the model wants both.
 ghost use Rattle.std.specs.Prelude.{◌≡◌, [], map};
 ghost use Rattle.std.specs.List.{AllByRecursion};
 ghost use Rattle.fol_sig.specs.Symbols.{symbols};
+ghost use Rattle.fol_sig.specs.Strata.{IsStrata};
 ghost use Rattle.rml_command.specs.Paths.{paths_of};
 ghost use Rattle.rml_command.specs.Models.{EachBlock, FitsPath};
 ghost use Rattle.rml_command.specs.Fragment.{IsInFragment, IsInModelFragment, HasFewPaths, IsChecked};
@@ -13,12 +15,14 @@ use crate::laws::goal_law;
 use crate::model::Model;
 use crate::path::Path;
 use base::Row;
+use fol_sig::Strata;
 use std::alloc::Global;
 
-/// A model in the fragment, with the paths of its blocks.
+/// A model in the fragment, with the strata of its signature and the paths of its blocks.
 #[derive(Drop)]
 pub struct Checked {
     model: Model,
+    strata: Strata,
     init: Paths,
     actions: Row<Paths>,
     last: Paths,
@@ -35,23 +39,32 @@ impl std::marker::Model for Checked {
 
     ghost coded = { model_code };
 
+    ghost use Rattle.fol_sig.specs.Symbols.{symbols};
+    ghost use Rattle.fol_sig.specs.Strata.{IsStrata};
     ghost use Rattle.rml_command.specs.Paths.{paths_of};
     ghost use Rattle.rml_command.specs.Fragment.{IsChecked};
 
     ghost view = { λ c. c.model };
 
-    ghost invariant = { λ c. IsChecked c.model × (c.init ≡ paths_of c.model.init) × (c.actions ≡ map paths_of c.model.actions) × (c.last ≡ paths_of c.model.last) × (c.none ≡ []) };
+    ghost invariant = { λ c. IsChecked c.model
+        × IsStrata (symbols c.model.signature) c.strata
+        × (c.init ≡ paths_of c.model.init)
+        × (c.actions ≡ map paths_of c.model.actions)
+        × (c.last ≡ paths_of c.model.last)
+        × (c.none ≡ []) };
 }
 
 impl Checked {
     pub fn new(
         alloc: Global,
         model: Model,
+        strata: Strata,
         init: Paths,
         actions: Row<Paths>,
         last: Paths,
     ) -> Checked
         requires fragment { IsInModelFragment model }
+        requires strata { IsStrata (symbols model.signature) strata }
         requires few { EachBlock HasFewPaths model }
         requires init { init ≡ paths_of model.init }
         requires actions { actions ≡ map paths_of model.actions }
@@ -61,6 +74,7 @@ impl Checked {
         let _ = model.signature();
         Checked {
             model,
+            strata,
             init,
             actions,
             last,
@@ -73,6 +87,13 @@ impl Checked {
         ensures checked { IsChecked self.now }
     {
         &self.model
+    }
+
+    /// The order of the sorts in which the functions of the model's signature go upward.
+    pub fn strata(&self) -> &Strata
+        ensures { IsStrata (symbols self.now.signature) result.now }
+    {
+        &self.strata
     }
 
     /// The paths of a stage's block, in order. An action that the model lacks has none.

@@ -1,5 +1,16 @@
 // What follows from the definitions alone. Each function is its contract, and does nothing.
-ghost use Rattle.rml_command.specs.Laws.{BlockHasPathOutcomes, PathHasFollowedOutcomes, PathsKeepKind, PathsEndAtAbort, ListsReadFromTheLeft, UpdatesKeepSymbols, FalsehoodHasValues, GoalsAreListed, GoalPathsFit, InductionIsSound};
+ghost use Rattle.rml_command.specs.Laws.{
+  BlockHasPathOutcomes,
+  PathHasFollowedOutcomes,
+  PathsKeepKind,
+  PathsEndAtAbort,
+  ListsReadFromTheLeft,
+  UpdatesKeepSymbols,
+  FalsehoodHasValues,
+  GoalsAreListed,
+  GoalPathsFit,
+  InductionIsSound,
+};
 
 /// The outcomes of a block are those of its paths.
 pub fn block_law()

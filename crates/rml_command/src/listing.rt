@@ -141,7 +141,8 @@ fn list(alloc: Global, command: &Command, into: &mut Vec<Primitive>) -> Mem<Vec<
 fn list_one(alloc: Global, primitive: &Primitive, into: &mut Vec<Primitive>) -> Mem<Vec<Route>>
     ensures grown { OnOk result (Grows into.old.items into.new.items) }
     ensures routes { IfOk result (λ rs. AllByRecursion (IsRoute into.new.items) rs.items) }
-    ensures paths { IfOk result (λ rs. map (path_along into.new.items) rs.items ≡ (primitive_view primitive.now ∷ []) ∷ []) }
+    ensures paths { IfOk result
+        (λ rs. map (path_along into.new.items) rs.items ≡ (primitive_view primitive.now ∷ []) ∷ []) }
 {
     let start = place(into.len())?;
     into.push(primitive.copy(alloc)?)?;
@@ -189,7 +190,9 @@ fn list_behind(
     requires { AllByRecursion (IsRoute into.old.items) drafts }
     ensures grown { OnOk result (Grows into.old.items into.new.items) }
     ensures routes { IfOk result (AllByRecursion (IsRoute into.new.items)) }
-    ensures paths { IfOk result (λ ds. map (path_along into.new.items) ds ≡ flat_map (continued (paths_of (command_view part.now))) (map (path_along into.old.items) drafts)) }
+    ensures paths { IfOk result
+        (λ ds. map (path_along into.new.items) ds
+        ≡ flat_map (continued (paths_of (command_view part.now))) (map (path_along into.old.items) drafts)) }
 {
     if !drafts.goes_on() {
         return Ok(drafts);
@@ -203,7 +206,8 @@ fn list_behind(
 fn list_each(alloc: Global, branches: &[Command], into: &mut Vec<Primitive>) -> Mem<Vec<Route>>
     ensures grown { OnOk result (Grows into.old.items into.new.items) }
     ensures routes { IfOk result (λ rs. AllByRecursion (IsRoute into.new.items) rs.items) }
-    ensures paths { IfOk result (λ rs. map (path_along into.new.items) rs.items ≡ paths_of_each (commands branches.now)) }
+    ensures paths { IfOk result
+        (λ rs. map (path_along into.new.items) rs.items ≡ paths_of_each (commands branches.now)) }
 {
     let mut all = Vec::new(alloc);
     for branch in branches {

@@ -97,7 +97,8 @@ impl<'a> Model for Primitives<'a> {
 
     ghost coded = { path_code };
 
-    ghost view = { λ p. map primitive p.front.now ++ (primitives_at p.block.now (places_of p.spans.now) ++ map primitive p.back.now) };
+    ghost view = { λ p. map primitive p.front.now
+        ++ (primitives_at p.block.now (places_of p.spans.now) ++ map primitive p.back.now) };
 
     ghost invariant = { λ p. AllByRecursion IsFilled p.spans.now × AllByRecursion (IsSpanOf p.block.now) p.spans.now };
 }

@@ -76,7 +76,8 @@ impl Route {
     // One more span at the end. The route is as before where the memory is wanting.
     fn push(&mut self, span: Span) -> Mem<()>
         requires { span.start ≤ span.end }
-        ensures pushed { OnOk result (self.new ≡ record { places = self.old.places ++ places_in span; aborts = self.old.aborts }) }
+        ensures pushed { OnOk result
+            (self.new ≡ record { places = self.old.places ++ places_in span; aborts = self.old.aborts }) }
         ensures kept { OnErr result (self.new ≡ self.old) }
     {
         if span.start == span.end {
@@ -95,7 +96,8 @@ impl Route {
 
     fn push_all(&mut self, spans: &[Span]) -> Mem<()>
         requires { AllByRecursion IsFilled spans.now }
-        ensures { OnOk result (self.new ≡ record { places = self.old.places ++ places_of spans.now; aborts = self.old.aborts }) }
+        ensures { OnOk result
+            (self.new ≡ record { places = self.old.places ++ places_of spans.now; aborts = self.old.aborts }) }
     {
         let mut rest = spans;
         while let [span, after @ ..] = rest {

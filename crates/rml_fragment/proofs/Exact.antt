@@ -1,7 +1,7 @@
 -- A model has at most one fault, and none exactly where it can be checked.
-use Rattle.std.proofs.Common.{◌≡◌, ◌⊎◌, ℕ, zero, suc, ◌+◌, ◌<◌, ◌≤◌, nat_lt, Bool, true, false, List, [], ◌∷◌, length, get_or, refl, sym, ◌∙◌, ap, subst, inl, inr, arith}
+use Rattle.std.proofs.Common.{◌≡◌, ℕ, zero, suc, ◌+◌, ◌<◌, ◌≤◌, true, false, List, [], ◌∷◌, length, get_or, refl, sym, ◌∙◌, ap, subst, inl, inr, arith}
 use Rattle.std.specs.List.{AllByRecursion}
-use Rattle.std.proofs.lemmas.Bool.{ltb-true, ltb-false, cases_lt}
+use Rattle.std.proofs.lemmas.Bool.{cases_lt}
 use Rattle.std.proofs.lemmas.Option.{slice_get-get_or}
 use Rattle.base.proofs.Lists.{all_more, all_both}
 use Rattle.fol_sig.specs.Symbols.{Symbols, symbols}
@@ -11,6 +11,9 @@ use Rattle.fol_formula.specs.Syntax.{FormTree}
 use Rattle.fol_formula.specs.Fragments.{IsExistsForall, HasPlainTerms, IsEa, IsPlainUniversal}
 use Rattle.fol_formula.specs.Decisions.{FragmentsAreDecided}
 use Rattle.rml_lex.specs.declared.token.Fault.{Fault}
+use Rattle.rml_lex.specs.declared.fault_code.FaultCode.{FaultCode}
+use Rattle.rml_lex.specs.declared.fault_code.FaultCode.TheVariants as fault_code
+use Rattle.rml_lex.specs.FaultCodes.{number_of}
 use Rattle.rml_command.specs.Trees.{PrimitiveTree, assume, set_rel, set_fun, havoc, abort, CommandTree, CommandTrees, prim, seq, choose, no_commands, command_then, EachPrimitive, EachPrimitiveOf}
 use Rattle.rml_command.specs.Paths.{paths_of}
 use Rattle.rml_command.specs.Lists.{SomeOf}
@@ -29,25 +32,29 @@ use Rattle.rml_fragment.specs.declared.demand.Demand.TheVariants as demand
 
 same : (f g : Fault) → f.at ≡ g.at → f.code ≡ g.code → f ≡ g
 same f g a c =
-    let with_code : ℕ → Fault = λ n. record { code = n; at = f.at } in
+    let with_code : FaultCode → Fault = λ n. record { code = n; at = f.at } in
     let with_at : ℕ → Fault = λ n. record { code = g.code; at = n } in
     ap with_code c ∙ ap with_at a
 
-first_is_one : (P : Fault → Type 0) (f g : Fault) → IsFirst P f → IsFirst P g → f ≡ g
-first_is_one P f g p q = elim (p.least g q.is_one) [
+-- codes of the same number are the same
+abbrev CodesAreOne : Type 0
+CodesAreOne = (a b : FaultCode) → number_of a ≡ number_of b → a ≡ b
+
+first_is_one : CodesAreOne → (P : Fault → Type 0) (f g : Fault) → IsFirst P f → IsFirst P g → f ≡ g
+first_is_one codes P f g p q = elim (p.least g q.is_one) [
   | inl lt ↦ elim (q.least f p.is_one) [ inl more ↦ absurd (omega (arith, lt, more)) | inr s ↦ absurd (omega (arith, lt, s.0)) ]
-  | inr s ↦ elim (q.least f p.is_one) [ inl more ↦ absurd (omega (arith, s.0, more)) | inr t ↦ same f g s.0 (omega (arith, s.1, t.1)) ]
+  | inr s ↦ elim (q.least f p.is_one) [ inl more ↦ absurd (omega (arith, s.0, more)) | inr t ↦ same f g s.0 (codes f.code g.code (omega (arith, s.1, t.1))) ]
 ]
 
-pub one : (m : ModelTree) (f g : Fault) → IsFault m f → IsFault m g → f ≡ g
-one m f g (inl a) (inl b) = first_is_one (Breaks m) f g a b
-one m f g (inl a) (inr b) = absurd (b.0 f a.is_one)
-one m f g (inr a) (inl b) = absurd (a.0 g b.is_one)
-one m f g (inr a) (inr b) = first_is_one (HasLongBlock m) f g a.1 b.1
+pub one : CodesAreOne → (m : ModelTree) (f g : Fault) → IsFault m f → IsFault m g → f ≡ g
+one codes m f g (inl a) (inl b) = first_is_one codes (Breaks m) f g a b
+one codes m f g (inl a) (inr b) = absurd (b.0 f a.is_one)
+one codes m f g (inr a) (inl b) = absurd (a.0 g b.is_one)
+one codes m f g (inr a) (inr b) = first_is_one codes (HasLongBlock m) f g a.1 b.1
 
 -- Lists.
 
-none_placed : {A : Type 0} (B : A → ℕ → Type 0) (xs : List A) (places : List ℕ) (f : Fault) → AllByRecursion (λ x. (code : ℕ) → B x code → ⊥) xs → SomePlaced B xs places f → ⊥
+none_placed : {A : Type 0} (B : A → FaultCode → Type 0) (xs : List A) (places : List ℕ) (f : Fault) → AllByRecursion (λ x. (code : FaultCode) → B x code → ⊥) xs → SomePlaced B xs places f → ⊥
 none_placed B [] places f all h = h
 none_placed B (x ∷ xs) [] f all h = h
 none_placed B (x ∷ xs) (a ∷ places) f all (inl h) = all.0 f.code h.1
@@ -58,7 +65,7 @@ none_some P [] all h = h
 none_some P (x ∷ xs) all (inl h) = all.0 h
 none_some P (x ∷ xs) all (inr h) = none_some P xs all.1 h
 
-all_placed : {A : Type 0} (B : A → ℕ → Type 0) (xs : List A) (places : List ℕ) → length places ≡ length xs → ((f : Fault) → SomePlaced B xs places f → ⊥) → AllByRecursion (λ x. (code : ℕ) → B x code → ⊥) xs
+all_placed : {A : Type 0} (B : A → FaultCode → Type 0) (xs : List A) (places : List ℕ) → length places ≡ length xs → ((f : Fault) → SomePlaced B xs places f → ⊥) → AllByRecursion (λ x. (code : FaultCode) → B x code → ⊥) xs
 all_placed B [] places len never = tt
 all_placed B (x ∷ xs) [] len never = absurd (omega (arith, len))
 all_placed B (x ∷ xs) (a ∷ places) len never =
@@ -92,10 +99,10 @@ stays m f h none = elim [
       none_placed (Misses demand.Universal) m.conjectures m.places.conjectures f (all_more IsPlainUniversal _ (λ p u code miss. miss.1 u.0) m.conjectures h.conjectures) cj
   | inr (inr (inr (inl condition))) ↦
       none_some _ m.places.conditions (all_more (λ c. IsDecidable c.word c.sentence) _ (λ c d miss. miss.1.1 (decidable_meets c.word c.sentence d)) m.places.conditions h.conditions) condition
-  | inr (inr (inr (inr quantifier))) ↦ none_some _ m.places.quantifiers (subst (AllByRecursion (λ at. (f.at ≡ at) × (f.code ≡ 18) → ⊥)) (sym none) tt) quantifier
+  | inr (inr (inr (inr quantifier))) ↦ none_some _ m.places.quantifiers (subst (AllByRecursion (λ at. (f.at ≡ at) × (f.code ≡ fault_code.NotQuantifierFree) → ⊥)) (sym none) tt) quantifier
 ]
 
-is_short : (c : CommandTree) (code : ℕ) → HasFewPaths c → HasManyPaths c code → ⊥
+is_short : (c : CommandTree) (code : FaultCode) → HasFewPaths c → HasManyPaths c code → ⊥
 is_short c code few many = omega (arith, few, many.1)
 
 short : (m : ModelTree) (f : Fault) → EachBlock HasFewPaths m → HasLongBlock m f → ⊥
@@ -113,7 +120,7 @@ checked m f h none (inr a) = short m f h.few_paths a.1.is_one
 
 module _ (P : Fault → Type 0) (never : (f : Fault) → IsFirst P f → ⊥) where
   -- where no fault of P has a lesser place, none stands at this place
-  none_at : (n : ℕ) → ((f : Fault) → P f → f.at < n → ⊥) → (k : ℕ) (f : Fault) → P f → f.at ≡ n → f.code < k → ⊥
+  none_at : (n : ℕ) → ((f : Fault) → P f → f.at < n → ⊥) → (k : ℕ) (f : Fault) → P f → f.at ≡ n → number_of f.code < k → ⊥
   none_at n before zero f p e lt = omega (arith, lt)
   none_at n before (suc k) f p e lt = never f (record {
     is_one = p;
@@ -121,7 +128,7 @@ module _ (P : Fault → Type 0) (never : (f : Fault) → IsFirst P f → ⊥) wh
       | inl less ↦ inl less
       | inr more ↦ elim (cases_lt o.at f.at) [
         | inl less ↦ absurd (before o q (omega (arith, less, e)))
-        | inr back ↦ elim (cases_lt o.code f.code) [
+        | inr back ↦ elim (cases_lt (number_of o.code) (number_of f.code)) [
           | inl less ↦ absurd (none_at n before k o q (omega (arith, more, back, e)) (omega (arith, less, lt)))
           | inr le ↦ inr (omega (arith, more, back), le)
         ]
@@ -133,27 +140,27 @@ module _ (P : Fault → Type 0) (never : (f : Fault) → IsFirst P f → ⊥) wh
   none_before zero f p lt = omega (arith, lt)
   none_before (suc n) f p lt = elim (cases_lt f.at n) [
     | inl less ↦ none_before n f p less
-    | inr more ↦ none_at n (none_before n) (suc f.code) f p (omega (arith, more, lt)) (omega arith)
+    | inr more ↦ none_at n (none_before n) (suc (number_of f.code)) f p (omega (arith, more, lt)) (omega arith)
   ]
 
   -- where there is no first, there is none
   none : (f : Fault) → P f → ⊥
   none f p = none_before (suc f.at) f p (omega arith)
 
-met : FragmentsAreDecided → (d : Demand) (p : FormTree) → ((code : ℕ) → Misses d p code → ⊥) → Meets d p
-met decided demand.ExistsForall p never = elim (decided.exists_forall true p) [ inl h ↦ h | inr fails ↦ absurd (never 16 (refl, fails)) ]
-met decided demand.ForallExists p never = elim (decided.exists_forall false p) [ inl h ↦ h | inr fails ↦ absurd (never 16 (refl, fails)) ]
-met decided demand.Universal p never = elim (decided.universal true p) [ inl h ↦ h | inr fails ↦ absurd (never 17 (refl, fails)) ]
+met : FragmentsAreDecided → (d : Demand) (p : FormTree) → ((code : FaultCode) → Misses d p code → ⊥) → Meets d p
+met decided demand.ExistsForall p never = elim (decided.exists_forall true p) [ inl h ↦ h | inr fails ↦ absurd (never fault_code.NotExistsForall (refl, fails)) ]
+met decided demand.ForallExists p never = elim (decided.exists_forall false p) [ inl h ↦ h | inr fails ↦ absurd (never fault_code.NotExistsForall (refl, fails)) ]
+met decided demand.Universal p never = elim (decided.universal true p) [ inl h ↦ h | inr fails ↦ absurd (never fault_code.NotUniversal (refl, fails)) ]
 met decided demand.AlternationFree p never = elim (decided.exists_forall true p) [
-  | inl h ↦ elim (decided.exists_forall false p) [ inl g ↦ (h, g) | inr fails ↦ absurd (never 19 (refl, λ both. fails both.1)) ]
-  | inr fails ↦ absurd (never 19 (refl, λ both. fails both.0))
+  | inl h ↦ elim (decided.exists_forall false p) [ inl g ↦ (h, g) | inr fails ↦ absurd (never fault_code.NotAlternationFree (refl, λ both. fails both.1)) ]
+  | inr fails ↦ absurd (never fault_code.NotAlternationFree (refl, λ both. fails both.0))
 ]
 
-no_quantifiers : (places : List ℕ) → ((f : Fault) → SomeOf (λ at. (f.at ≡ at) × (f.code ≡ 18)) places → ⊥) → places ≡ []
+no_quantifiers : (places : List ℕ) → ((f : Fault) → SomeOf (λ at. (f.at ≡ at) × (f.code ≡ fault_code.NotQuantifierFree)) places → ⊥) → places ≡ []
 no_quantifiers [] never = refl
-no_quantifiers (at ∷ places) never = absurd (never (record { code = 18; at = at }) (inl (refl, refl)))
+no_quantifiers (at ∷ places) never = absurd (never (record { code = fault_code.NotQuantifierFree; at = at }) (inl (refl, refl)))
 
-all_conditions : (cs : List Condition) → ((f : Fault) → SomeOf (λ c. (f.at ≡ c.at) × Misses (demand_of c.word) c.sentence f.code) cs → ⊥) → AllByRecursion (λ c. (code : ℕ) → Misses (demand_of c.word) c.sentence code → ⊥) cs
+all_conditions : (cs : List Condition) → ((f : Fault) → SomeOf (λ c. (f.at ≡ c.at) × Misses (demand_of c.word) c.sentence f.code) cs → ⊥) → AllByRecursion (λ c. (code : FaultCode) → Misses (demand_of c.word) c.sentence code → ⊥) cs
 all_conditions [] never = tt
 all_conditions (c ∷ cs) never = (λ code miss. never (record { code = code; at = c.at }) (inl (refl, miss)), all_conditions cs (λ f h. never f (inr h)))
 
@@ -199,11 +206,11 @@ fragment first decided m h never =
     let conjectures = all_placed (Misses demand.Universal) m.conjectures m.places.conjectures h.placed.conjectures (λ f c. never f (inr (inr (inl c)))) in
     let missed = all_conditions m.places.conditions (λ f c. never f (inr (inr (inr (inl c))))) in
     let conditions : AllByRecursion (λ c. IsDecidable c.word c.sentence) m.places.conditions =
-    all_both (λ c. (code : ℕ) → Misses (demand_of c.word) c.sentence code → ⊥) (λ c. HasPlainTerms c.sentence) _ (λ c none plain. decidable c.word c.sentence (met decided (demand_of c.word) c.sentence none) plain) m.places.conditions missed plain.conditions in
+    all_both (λ c. (code : FaultCode) → Misses (demand_of c.word) c.sentence code → ⊥) (λ c. HasPlainTerms c.sentence) _ (λ c none plain. decidable c.word c.sentence (met decided (demand_of c.word) c.sentence none) plain) m.places.conditions missed plain.conditions in
     record {
       functions = first (symbols m.signature) (λ g is.
           let lt : g < length m.places.functions = omega (arith, is.known, h.placed.functions) in
-          never (record { code = 15; at = get_or m.places.functions g 0 }) (inl (record { code = refl; function = g; first = is; at = slice_get-get_or m.places.functions g 0 lt })));
+          never (record { code = fault_code.FunctionCycle; at = get_or m.places.functions g 0 }) (inl (record { code = refl; function = g; first = is; at = slice_get-get_or m.places.functions g 0 lt })));
       axioms = all_both _ HasPlainTerms IsEa (λ p none plain. (met decided demand.ExistsForall p none, plain)) m.axioms axioms plain.axioms;
       conjectures = all_both _ HasPlainTerms IsPlainUniversal (λ p none plain. (met decided demand.Universal p none, plain)) m.conjectures conjectures plain.conjectures;
       conditions = conditions;
@@ -214,8 +221,8 @@ fragment first decided m h never =
       };
     }
 
-few : (c : CommandTree) → ((code : ℕ) → HasManyPaths c code → ⊥) → HasFewPaths c
-few c never = elim (cases_lt 4096 (length (paths_of c))) [ inl more ↦ absurd (never 20 (refl, more)) | inr le ↦ le ]
+few : (c : CommandTree) → ((code : FaultCode) → HasManyPaths c code → ⊥) → HasFewPaths c
+few c never = elim (cases_lt 4096 (length (paths_of c))) [ inl more ↦ absurd (never fault_code.TooManyPaths (refl, more)) | inr le ↦ le ]
 
 blocks_few : (m : ModelTree) → IsModel m → ((f : Fault) → HasLongBlock m f → ⊥) → EachBlock HasFewPaths m
 blocks_few m h never = record {

@@ -1,8 +1,9 @@
 -- The first of some faults is found by taking the earlier of each two.
-use Rattle.std.proofs.Math.Seq.{drop-cons}
-use Rattle.std.proofs.Common.{◌≡◌, ◌⊎◌, ℕ, suc, ◌+◌, List, ◌∷◌, length, get_or, drop, add-one, ap, ◌∙◌, ◌<◌, ◌≤◌, nat_lt, nat_le, Bool, true, false, if◌then◌else◌, Option, Some, None, ◌↔◌, IsTrue, refl, sym, subst, inl, inr, arith}
+use Rattle.std.proofs.Common.{◌≡◌, ◌⊎◌, ℕ, ap, ◌<◌, ◌≤◌, nat_lt, nat_le, Bool, true, false, if◌then◌else◌, Option, Some, None, ◌↔◌, IsTrue, refl, sym, subst, inl, inr, arith}
 use Rattle.std.proofs.lemmas.Bool.{ltb-true, ltb-false, leb-true, leb-false}
 use Rattle.rml_lex.specs.declared.token.Fault.{Fault}
+use Rattle.rml_lex.specs.declared.fault_code.FaultCode.{FaultCode}
+use Rattle.rml_lex.specs.FaultCodes.{number_of}
 use Rattle.rml_fragment.specs.First.{IsNotBehind, IsFirstOf}
 use Rattle.rml_fragment.specs.Search.{earlier_of, earlier, fault_unless, IsFound, IsNotBehindFound, IsFirstSoFar}
 
@@ -19,15 +20,18 @@ Picks f g e = ((e ≡ f) × IsNotBehind f g) ⊎ ((e ≡ g) × IsNotBehind g f)
 picks : (f g : Fault) → Picks f g (earlier_of f g)
 picks f g = at (nat_lt f.at g.at) refl
   where
-    code : (x : Bool) → g.at ≡ f.at → nat_le f.code g.code ≡ x → Picks f g (if x then f else g)
-    code true e c = inl (refl, inr (sym e, leb-true f.code g.code c))
-    code false e c = inr (refl, inr (e, (let lt : g.code < f.code = leb-false f.code g.code c in omega arith)))
+    code : (x : Bool) → g.at ≡ f.at → nat_le (number_of f.code) (number_of g.code) ≡ x → Picks f g (if x then f else g)
+    code true e c = inl (refl, inr (sym e, leb-true (number_of f.code) (number_of g.code) c))
+    code false e c =
+        let lt : number_of g.code < number_of f.code = leb-false (number_of f.code) (number_of g.code) c in
+        inr (refl, inr (e, omega arith))
 
-    other : (x : Bool) → g.at ≤ f.at → nat_lt g.at f.at ≡ x → Picks f g (if x then g else (if nat_le f.code g.code then f else g))
+    other : (x : Bool) → g.at ≤ f.at → nat_lt g.at f.at ≡ x → Picks f g (if x then g else (if nat_le (number_of f.code) (number_of g.code) then f else g))
     other true le e = inr (refl, inl (ltb-true g.at f.at e))
-    other false le e = let back : f.at ≤ g.at = ltb-false g.at f.at e in code (nat_le f.code g.code) (omega arith) refl
+    other false le e = let back : f.at ≤ g.at = ltb-false g.at f.at e in
+        code (nat_le (number_of f.code) (number_of g.code)) (omega arith) refl
 
-    at : (x : Bool) → nat_lt f.at g.at ≡ x → Picks f g (if x then f else (if nat_lt g.at f.at then g else (if nat_le f.code g.code then f else g)))
+    at : (x : Bool) → nat_lt f.at g.at ≡ x → Picks f g (if x then f else (if nat_lt g.at f.at then g else (if nat_le (number_of f.code) (number_of g.code) then f else g)))
     at true e = inl (refl, inl (ltb-true f.at g.at e))
     at false e = other (nat_lt g.at f.at) (ltb-false f.at g.at e) refl
 
@@ -92,10 +96,10 @@ done P Left None never h = λ f p. elim (h.least f p) [ inl l ↦ never f l | in
 done P Left (Some f) never h = record { is_one = h.is_one; least = λ o p. elim (h.least o p) [ inl l ↦ absurd (never o l) | inr nb ↦ nb ] }
 
 -- a fault where something is not so
-pub unless-first : (b : Bool) (code at : ℕ) (R : Type 0) → IsTrue b ↔ R → IsFirstOf (λ f. (f.at ≡ at) × ((f.code ≡ code) × (R → ⊥))) (fault_unless b code at)
+pub unless-first : (b : Bool) (code : FaultCode) (at : ℕ) (R : Type 0) → IsTrue b ↔ R → IsFirstOf (λ f. (f.at ≡ at) × ((f.code ≡ code) × (R → ⊥))) (fault_unless b code at)
 unless-first true code at R so = λ f h. h.1.1 (so.0 refl)
-unless-first false code at R so = record { is_one = (refl, (refl, λ r. let e : false ≡ true = so.1 r in cc)); least = λ o h. inr (sym h.0, omega (arith, h.1.0)) }
+unless-first false code at R so = record { is_one = (refl, (refl, λ r. let e : false ≡ true = so.1 r in cc)); least = λ o h. inr (sym h.0, omega (arith, ap number_of h.1.0)) }
 
 -- one fault is the first of itself
-pub alone-first : (code at : ℕ) → IsFirstOf (λ f. (f.at ≡ at) × (f.code ≡ code)) (Some (record { code = code; at = at }))
-alone-first code at = record { is_one = (refl, refl); least = λ o h. inr (sym h.0, omega (arith, h.1)) }
+pub alone-first : (code : FaultCode) (at : ℕ) → IsFirstOf (λ f. (f.at ≡ at) × (f.code ≡ code)) (Some (record { code = code; at = at }))
+alone-first code at = record { is_one = (refl, refl); least = λ o h. inr (sym h.0, omega (arith, ap number_of h.1)) }

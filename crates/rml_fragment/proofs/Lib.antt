@@ -1,3 +1,7 @@
-pub mod FirstFault
+pub mod Deciding
 pub mod Exact
+pub mod FirstFault
+pub mod Leaving
+pub mod Placed
 pub mod Standing
+pub mod Walks

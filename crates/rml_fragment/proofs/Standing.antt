@@ -1,13 +1,15 @@
 -- The fault of a model stands where its places do.
-use Rattle.std.proofs.Common.{◌≡◌, ◌⊎◌, ◌≤◌, inl, inr, ℕ, List, [], ◌∷◌, Option, Some, None, suc, zero, slice_get, arith}
+use Rattle.std.proofs.Common.{◌≡◌, ◌≤◌, inl, inr, ℕ, List, [], ◌∷◌, Some, suc, zero, slice_get, arith}
 use Rattle.std.specs.List.{AllByRecursion}
 use Rattle.rml_lex.specs.declared.token.Fault.{Fault}
+use Rattle.rml_lex.specs.declared.fault_code.FaultCode.{FaultCode}
+use Rattle.rml_lex.specs.declared.fault_code.FaultCode.TheVariants as fault_code
 use Rattle.rml_command.specs.Lists.{SomeOf}
 use Rattle.rml_command.specs.Models.{ModelTree, ArePlacesWithin}
 use Rattle.rml_command.specs.declared.places.Condition.{Condition}
 use Rattle.rml_fragment.specs.Demands.{demand_of}
 use Rattle.rml_fragment.specs.First.{SomePlaced}
-use Rattle.rml_fragment.specs.Faults.{Misses, Breaks, HasManyPaths, HasLongBlock, IsFault}
+use Rattle.rml_fragment.specs.Faults.{Misses, Breaks, HasManyPaths, HasLongBlock}
 use Rattle.rml_fragment.specs.declared.demand.Demand.TheVariants as demand
 use Rattle.rml_fragment.specs.Laws.{FaultsStandInText}
 
@@ -18,7 +20,7 @@ module _ (n : ℕ) (f : Fault) where
   at_one : (at : ℕ) → f.at ≡ at → at ≤ n → f.at ≤ n
   at_one at e h = omega (arith, e, h)
 
-  placed : {A : Type 0} (Wrong : A → ℕ → Type 0) (xs : List A) (places : List ℕ) → AllByRecursion In places → SomePlaced Wrong xs places f → f.at ≤ n
+  placed : {A : Type 0} (Wrong : A → FaultCode → Type 0) (xs : List A) (places : List ℕ) → AllByRecursion In places → SomePlaced Wrong xs places f → f.at ≤ n
   placed Wrong [] places h s = absurd s
   placed Wrong (x ∷ xs) [] h s = absurd s
   placed Wrong (x ∷ xs) (at ∷ places) h (inl s) = at_one at s.0 h.0
@@ -34,7 +36,7 @@ module _ (n : ℕ) (f : Fault) where
   at_condition (c ∷ cs) h (inl s) = at_one c.at s.0 h.0
   at_condition (c ∷ cs) h (inr s) = at_condition cs h.1 s
 
-  at_quantifier : (places : List ℕ) → AllByRecursion In places → SomeOf (λ (at : ℕ). (f.at ≡ at) × (f.code ≡ 18)) places → f.at ≤ n
+  at_quantifier : (places : List ℕ) → AllByRecursion In places → SomeOf (λ (at : ℕ). (f.at ≡ at) × (f.code ≡ fault_code.NotQuantifierFree)) places → f.at ≤ n
   at_quantifier [] h s = absurd s
   at_quantifier (at ∷ places) h (inl s) = at_one at s.0 h.0
   at_quantifier (at ∷ places) h (inr s) = at_quantifier places h.1 s

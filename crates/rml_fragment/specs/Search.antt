@@ -1,10 +1,15 @@
 -- How the first fault is looked for. No public clause rests on this file.
 use Rattle.std.specs.Prelude.{◌⊎◌, ℕ, Bool, true, false, if◌then◌else◌, nat_lt, nat_le, Option, Some, None}
 use Rattle.rml_lex.specs.declared.token.Fault.{Fault}
+use Rattle.rml_lex.specs.declared.fault_code.FaultCode.{FaultCode}
+use Rattle.rml_lex.specs.FaultCodes.{number_of}
 use Rattle.rml_fragment.specs.First.{IsNotBehind}
 
 abbrev pub earlier_of : Fault → Fault → Fault
-earlier_of f g = if nat_lt f.at g.at then f else (if nat_lt g.at f.at then g else (if nat_le f.code g.code then f else g))
+earlier_of f g =
+    if nat_lt f.at g.at then f
+    else (if nat_lt g.at f.at then g
+    else (if nat_le (number_of f.code) (number_of g.code) then f else g))
 
 -- the earlier of two faults, of which each may be missing
 abbrev pub earlier : Option Fault → Option Fault → Option Fault
@@ -12,7 +17,7 @@ earlier None g = g
 earlier (Some f) None = Some f
 earlier (Some f) (Some g) = Some (earlier_of f g)
 
-abbrev pub fault_unless : Bool → ℕ → ℕ → Option Fault
+abbrev pub fault_unless : Bool → FaultCode → ℕ → Option Fault
 fault_unless true code at = None
 fault_unless false code at = Some (record { code = code; at = at })
 

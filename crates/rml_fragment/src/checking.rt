@@ -1,7 +1,10 @@
-// A model is checked.
+// A model is checked. What the check finds on its way, the strata and the paths, is handed on, so that nobody seeks it
+// again.
 ghost use Rattle.std.specs.Prelude.{◌≡◌, map, IfOk, OnOk, IfErr};
 ghost use Rattle.std.specs.List.{AllByRecursion};
 ghost use Rattle.base.specs.Because.{Because};
+ghost use Rattle.fol_sig.specs.Symbols.{symbols};
+ghost use Rattle.fol_sig.specs.Strata.{IsStrata};
 ghost use Rattle.rml_lex.specs.declared.token.Fault.{Fault as OneFault};
 ghost use Rattle.rml_command.specs.View.{command as command_view};
 ghost use Rattle.rml_command.specs.Paths.{paths_of};
@@ -10,31 +13,31 @@ ghost use Rattle.rml_command.specs.Fragment.{HasFewPaths, IsChecked};
 ghost use Rattle.rml_fragment.specs.First.{IsFirst};
 ghost use Rattle.rml_fragment.specs.Faults.{Breaks, HasLongBlock, IsFault};
 
-use crate::fragment::fragment_fault;
+use crate::fragment::fragment_strata;
 use crate::laws::passing_law;
 use crate::long::long_block_fault;
 use base::{Mem, Refused, Row};
+use fol_sig::Strata;
 use rml_command::{Checked, Command, Model, Paths, paths};
 use rml_lex::Fault;
 use std::alloc::{AllocError, Global};
 
-/// The model with the paths of its blocks, or its fault: 15 to 19 where it leaves the fragment, and only
-/// where it does not, 20 for a block of more than 4,096 paths. A model with a fault is dropped.
+/// The model with its strata and the paths of its blocks, or its fault: the first by which it leaves the fragment, and
+/// only where it does not, the first of a block with more than 4,096 paths. A model with a fault is dropped.
 pub fn check(alloc: Global, model: Model) -> Result<Checked, Refused<Fault>>
     ensures model { IfOk result (λ c. c ≡ model) }
     ensures checked { OnOk result (IsChecked model) }
     ensures faultless { OnOk result ((fault : OneFault) → IsFault model fault → ⊥) }
     ensures fault { IfErr result (Because (IsFault model)) }
 {
-    match fragment_fault(alloc, &model)? {
-        Some(fault) => Err(Refused::For(fault)),
-        None => check_blocks(alloc, model),
-    }
+    let strata = fragment_strata(alloc, &model)?;
+    check_blocks(alloc, model, strata)
 }
 
 // The model is in the fragment.
-fn check_blocks(alloc: Global, model: Model) -> Result<Checked, Refused<Fault>>
-    requires { (fault : OneFault) → Breaks model fault → ⊥ }
+fn check_blocks(alloc: Global, model: Model, strata: Strata) -> Result<Checked, Refused<Fault>>
+    requires fragment { (fault : OneFault) → Breaks model fault → ⊥ }
+    requires strata { IsStrata (symbols model.signature) strata }
     ensures model { IfOk result (λ c. c ≡ model) }
     ensures checked { OnOk result (IsChecked model) }
     ensures faultless { OnOk result ((fault : OneFault) → HasLongBlock model fault → ⊥) }
@@ -45,14 +48,15 @@ fn check_blocks(alloc: Global, model: Model) -> Result<Checked, Refused<Fault>>
     match long_block_fault(&model) {
         Some(fault) => Err(Refused::For(fault)),
         None => {
-            let checked = with_paths(alloc, model)?;
+            let checked = with_paths(alloc, model, strata)?;
             Ok(checked)
         }
     }
 }
 
-fn with_paths(alloc: Global, model: Model) -> Mem<Checked>
-    requires { IsChecked model }
+fn with_paths(alloc: Global, model: Model, strata: Strata) -> Mem<Checked>
+    requires checked { IsChecked model }
+    requires strata { IsStrata (symbols model.signature) strata }
     ensures { IfOk result (λ c. c ≡ model) }
 {
     match block_lists(alloc, &model) {
@@ -63,7 +67,7 @@ fn with_paths(alloc: Global, model: Model) -> Mem<Checked>
                 actions,
                 last,
             },
-        ) => Ok(Checked::new(alloc, model, init, actions, last)),
+        ) => Ok(Checked::new(alloc, model, strata, init, actions, last)),
     }
 }
 

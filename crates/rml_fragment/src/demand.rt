@@ -4,6 +4,7 @@ ghost use Rattle.rml_fragment.specs.Demands.{Meets, code_of, demand_of};
 
 use fol_formula::Sentence;
 use rml_command::Word;
+use rml_lex::FaultCode;
 
 /// What a sentence must be, with its negations at the atoms. Quantifiers inside `ite` don't count.
 #[derive(Clone, Copy, Debug, PartialEq, Eq)]
@@ -31,13 +32,13 @@ impl Demand {
     }
 
     /// The code of the fault of a sentence that is not so.
-    pub fn code(self) -> u8
+    pub fn code(self) -> FaultCode
         ensures { result ≡ code_of self }
     {
         match self {
-            Demand::ExistsForall | Demand::ForallExists => 16,
-            Demand::Universal => 17,
-            Demand::AlternationFree => 19,
+            Demand::ExistsForall | Demand::ForallExists => FaultCode::NotExistsForall,
+            Demand::Universal => FaultCode::NotUniversal,
+            Demand::AlternationFree => FaultCode::NotAlternationFree,
         }
     }
 

@@ -1,26 +1,51 @@
 // Where a model leaves the fragment.
-ghost use Rattle.std.specs.Prelude.{◌≡◌, length, IfOk};
+ghost use Rattle.std.specs.Prelude.{◌≡◌, IfOk, IfErr, OnOk};
+ghost use Rattle.base.specs.Because.{Because};
 ghost use Rattle.fol_sig.specs.Symbols.{symbols};
-ghost use Rattle.fol_sig.specs.Strata.{IsFirstCycle};
+ghost use Rattle.fol_sig.specs.Strata.{IsStrata, IsFirstCycle};
+ghost use Rattle.rml_lex.specs.declared.token.Fault.{Fault as OneFault};
 ghost use Rattle.rml_fragment.specs.Demands.{demand_of};
 ghost use Rattle.rml_fragment.specs.First.{IsFirst, IsFirstOf, SomePlaced};
-ghost use Rattle.rml_fragment.specs.Faults.{ClosesCycle, Misses, ConditionMisses, QuantifierStands, Breaks};
+ghost use Rattle.rml_fragment.specs.Faults.{
+  ClosesCycle,
+  Misses,
+  ConditionMisses,
+  QuantifierStands,
+  SentenceBreaks,
+  Breaks,
+};
 
 use crate::demand::Demand;
-use crate::first::{earlier, fault_unless};
-use base::{Mem, Refused};
+use crate::first::{earlier, fault_unless, first_with};
+use base::Refused;
 use fol_formula::Sentence;
-use fol_sig::{Cycle, strata, strata_laws};
+use fol_sig::{Cycle, Strata, strata, strata_laws};
 use rml_command::{Condition, Model};
-use rml_lex::Fault;
-use std::alloc::{AllocError, Global};
+use rml_lex::{Fault, FaultCode};
+use std::alloc::Global;
 
-/// The first fault by which a model leaves the fragment.
-pub fn fragment_fault(alloc: Global, model: &Model) -> Mem<Option<Fault>>
-    ensures { IfOk result (IsFirstOf (Breaks model.now)) }
+/// The strata of a model that is in the fragment, or the first fault by which it leaves it.
+pub fn fragment_strata(alloc: Global, model: &Model) -> Result<Strata, Refused<Fault>>
+    ensures strata { IfOk result (IsStrata (symbols model.now.signature)) }
+    ensures faultless { OnOk result ((fault : OneFault) → Breaks model.now fault → ⊥) }
+    ensures fault { IfErr result (Because (IsFirst (Breaks model.now))) }
+{
+    let sentences = sentences_fault(model);
+    match strata(alloc, model.signature()) {
+        Ok(strata) => match sentences {
+            None => Ok(strata),
+            Some(fault) => Err(Refused::For(fault)),
+        },
+        Err(Refused::For(cycle)) => Err(Refused::For(first_with(closing(model, cycle), sentences))),
+        Err(Refused::NoMemory) => Err(Refused::NoMemory),
+    }
+}
+
+// The first fault by which a sentence or a right side leaves the fragment.
+fn sentences_fault(model: &Model) -> Option<Fault>
+    ensures { IsFirstOf (SentenceBreaks model.now) result }
 {
     let places = model.places();
-    let cycle = cycle_fault(alloc, model)?;
     let axioms = sentence_fault(
         model.axioms(),
         places.axioms.as_slice(),
@@ -35,20 +60,7 @@ pub fn fragment_fault(alloc: Global, model: &Model) -> Mem<Option<Fault>>
     let quantifiers = quantifier_fault(places.quantifiers.as_slice());
     let commands = earlier(conditions, quantifiers);
     let promises = earlier(conjectures, commands);
-    let sentences = earlier(axioms, promises);
-    let first = earlier(cycle, sentences);
-    Ok(first)
-}
-
-fn cycle_fault(alloc: Global, model: &Model) -> Mem<Option<Fault>>
-    ensures { IfOk result (IsFirstOf (ClosesCycle model.now)) }
-{
-    let signature = model.signature();
-    match strata(alloc, signature) {
-        Ok(_) => Ok(None),
-        Err(Refused::For(cycle)) => Ok(Some(closing(model, cycle))),
-        Err(Refused::NoMemory) => Err(AllocError),
-    }
+    earlier(axioms, promises)
 }
 
 // The fault at the name of the first function that closes a cycle with those before it.
@@ -59,7 +71,10 @@ fn closing(model: &Model, cycle: Cycle) -> Fault
     strata_laws();
     let places = model.places().functions.as_slice();
     let at = places[cycle.function.0 as usize];
-    Fault { code: 15, at }
+    Fault {
+        code: FaultCode::FunctionCycle,
+        at,
+    }
 }
 
 // The sentences and their places stand in one order.
@@ -83,7 +98,8 @@ fn sentence_fault(sentences: &[Sentence], places: &[u64], demand: Demand) -> Opt
 
 // The fault at the word before this condition, where it is not what the word demands.
 fn fault_at(condition: &Condition) -> Option<Fault>
-    ensures { IsFirstOf (λ f. (f.at ≡ condition.now.at) × Misses (demand_of condition.now.word) condition.now.sentence f.code) result }
+    ensures { IsFirstOf
+        (λ f. (f.at ≡ condition.now.at) × Misses (demand_of condition.now.word) condition.now.sentence f.code) result }
 {
     let demand = Demand::of(condition.word);
     fault_unless(
@@ -108,7 +124,11 @@ fn quantifier_fault(places: &[u64]) -> Option<Fault>
 {
     let mut first = None;
     for at in places {
-        first = earlier(first, Some(Fault { code: 18, at: *at }));
+        let fault = Fault {
+            code: FaultCode::NotQuantifierFree,
+            at: *at,
+        };
+        first = earlier(first, Some(fault));
     }
     first
 }

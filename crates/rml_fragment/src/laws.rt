@@ -1,10 +1,12 @@
 // What follows from the definitions alone. The function is its contract, and does nothing.
 ghost use Rattle.rml_fragment.specs.Laws.{FaultsAreExact, FaultsStandInText, PassedIsChecked};
 
-/// A model has at most one fault, and has none exactly where it can be checked.
+/// A model has one fault or none, and has none exactly where it can be checked.
 pub fn fault_law()
     ensures { FaultsAreExact }
 {
+    rml_lex::code_law();
+    fol_sig::strata_laws();
     fol_sig::cycle_law();
     fol_formula::decision();
 }

@@ -1,4 +1,5 @@
-// Where a block has too many paths.
+// Where a block has too many paths. They are counted, and none is built, so that a text that multiplies them is refused
+// in the time that it takes to read it.
 ghost use Rattle.std.specs.Prelude.{◌≡◌, map};
 ghost use Rattle.rml_command.specs.View.{command as command_view};
 ghost use Rattle.rml_fragment.specs.First.{IsFirstOf, SomePlaced};
@@ -6,7 +7,7 @@ ghost use Rattle.rml_fragment.specs.Faults.{HasManyPaths, HasLongBlock};
 
 use crate::first::{earlier, fault_unless};
 use rml_command::{Command, Model, has_few_paths};
-use rml_lex::Fault;
+use rml_lex::{Fault, FaultCode};
 
 /// The first fault by which a block has too many paths. No path is built.
 pub fn long_block_fault(model: &Model) -> Option<Fault>
@@ -23,7 +24,7 @@ pub fn long_block_fault(model: &Model) -> Option<Fault>
 fn block_fault(block: &Command, at: u64) -> Option<Fault>
     ensures { IsFirstOf (λ f. (f.at ≡ at) × HasManyPaths (command_view block.now) f.code) result }
 {
-    fault_unless(has_few_paths(block), 20, at)
+    fault_unless(has_few_paths(block), FaultCode::TooManyPaths, at)
 }
 
 fn action_fault(actions: &[Command], places: &[u64]) -> Option<Fault>
@@ -36,8 +37,7 @@ fn action_fault(actions: &[Command], places: &[u64]) -> Option<Fault>
         let [at, after @ ..] = left else {
             return first;
         };
-        let fault = fault_unless(has_few_paths(action), 20, *at);
-        first = earlier(first, fault);
+        first = earlier(first, block_fault(action, *at));
         rest = more;
         left = after;
     }

@@ -21,4 +21,5 @@ is_blank b = (b == 32) || (b == 9) || (b == 13) || (b == 10)
 abbrev pub gap_len : Bool → List ℕ → ℕ
 gap_len inside [] = 0
 gap_len true (b ∷ bytes) = gap_len (if b == 10 then false else true) bytes + 1
-gap_len false (b ∷ bytes) = if b == 35 then gap_len true bytes + 1 else if is_blank b then gap_len false bytes + 1 else 0
+gap_len false (b ∷ bytes) =
+    if b == 35 then gap_len true bytes + 1 else if is_blank b then gap_len false bytes + 1 else 0

@@ -1,5 +1,5 @@
 -- The numbers of the faults and their words.
-use Rattle.std.specs.Prelude.{◌≡◌, ℕ, List, codes}
+use Rattle.std.specs.Prelude.{ℕ, List, codes}
 use Rattle.rml_lex.specs.declared.fault_code.FaultCode.{FaultCode}
 use Rattle.rml_lex.specs.declared.fault_code.FaultCode.TheVariants as fault
 

@@ -88,7 +88,8 @@ pub enum Sign {
     Star,
 }
 
-/// A fault of a text: what is wrong, and the byte where it stands, counted from 0. A fault at the text's end stands at the byte that would come next.
+/// A fault of a text: what is wrong, and the byte where it stands, counted from 0. A fault at the text's end stands at
+/// the byte that would come next.
 #[derive(Clone, Copy, Debug, PartialEq, Eq)]
 pub struct Fault {
     pub code: FaultCode,

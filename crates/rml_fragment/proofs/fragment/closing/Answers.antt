@@ -2,6 +2,7 @@ use Rattle.std.proofs.Common.{◌≡◌, ℕ, ◌<◌, List, Some, length, get_o
 use Rattle.std.specs.Prelude.{slice_get}
 use Rattle.std.proofs.lemmas.Option.{slice_get-get_or}
 use Rattle.fol_sig.specs.Symbols.{symbols}
+use Rattle.rml_lex.specs.FaultCodes.{number_of}
 use Rattle.rml_command.specs.declared.places.Places.{Places}
 use Rattle.rml_fragment.proofs.fragment.closing.Goals as goal
 
@@ -17,5 +18,5 @@ returns c =
       least = λ o h.
           let one : f ≡ h.function = c.strata_laws.ensures.one (symbols m.signature) f h.function c.requires h.first in
           let e : Some (get_or c.as_slice-places.result.now f 0) ≡ Some o.at = sym here ∙ ap (λ (g : ℕ). slice_get m.places.functions g) one ∙ h.at in
-          inr (cc e, omega (arith, h.code));
+          inr (cc e, omega (arith, ap number_of h.code));
     }

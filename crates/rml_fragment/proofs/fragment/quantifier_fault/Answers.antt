@@ -1,6 +1,7 @@
 use Rattle.std.proofs.Common.{◌≡◌, ◌+◌, ◌∷◌, Some, get_or, drop, sym, subst}
 use Rattle.std.proofs.Math.ListN.{drop_of_length-le}
 use Rattle.std.proofs.lemmas.List.{drop_more}
+use Rattle.rml_lex.specs.declared.fault_code.FaultCode.TheVariants as fault_code
 use Rattle.rml_fragment.specs.Faults.{QuantifierStands}
 use Rattle.rml_fragment.specs.Search.{IsFirstSoFar}
 use Rattle.rml_fragment.proofs.FirstFault.{step, done, alone-first}
@@ -13,8 +14,8 @@ loop-at-preserved c =
     let x = get_or xs i 0 in
     let split : drop i xs ≡ x ∷ drop (i + 1) xs = drop_more xs i 0 c.loop-at-test.true in
     subst (λ o. IsFirstSoFar (QuantifierStands xs) (QuantifierStands (drop (i + 1) xs)) o) (sym c.earlier-first.ensures)
-    (step (QuantifierStands xs) (λ f. (f.at ≡ x) × (f.code ≡ 18)) (QuantifierStands (drop (i + 1) xs)) c.loop-at.first (Some (record { code = 18; at = x }))
-    (subst (λ zs. IsFirstSoFar (QuantifierStands xs) (QuantifierStands zs) c.loop-at.first) split c.loop-at.invariant) (alone-first 18 x))
+    (step (QuantifierStands xs) (λ f. (f.at ≡ x) × (f.code ≡ fault_code.NotQuantifierFree)) (QuantifierStands (drop (i + 1) xs)) c.loop-at.first (Some (record { code = fault_code.NotQuantifierFree; at = x }))
+    (subst (λ zs. IsFirstSoFar (QuantifierStands xs) (QuantifierStands zs) c.loop-at.first) split c.loop-at.invariant) (alone-first fault_code.NotQuantifierFree x))
 
 pub returns : goal.returns
 returns c =

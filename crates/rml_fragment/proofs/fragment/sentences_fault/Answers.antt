@@ -4,10 +4,10 @@ use Rattle.rml_command.specs.declared.places.Places.{Places}
 use Rattle.rml_command.specs.declared.places.Condition.{Condition}
 use Rattle.rml_lex.specs.declared.token.Fault.{Fault}
 use Rattle.rml_fragment.specs.First.{IsFirstOf, SomePlaced}
-use Rattle.rml_fragment.specs.Faults.{ClosesCycle, Misses, AxiomMisses, ConjectureMisses, ConditionMisses, QuantifierStands, Breaks}
+use Rattle.rml_fragment.specs.Faults.{Misses, AxiomMisses, ConjectureMisses, ConditionMisses, QuantifierStands, SentenceBreaks}
 use Rattle.rml_fragment.specs.declared.demand.Demand.TheVariants as demand
 use Rattle.rml_fragment.proofs.FirstFault.{first-earlier}
-use Rattle.rml_fragment.proofs.fragment.fragment_fault.Goals as goal
+use Rattle.rml_fragment.proofs.fragment.sentences_fault.Goals as goal
 
 pub returns : goal.returns
 returns c =
@@ -21,12 +21,9 @@ returns c =
     let quantifiers = subst (λ (ns : List ℕ). IsFirstOf (QuantifierStands ns) c.quantifier_fault-quantifiers.result) (c.as_slice-4.ensures ∙ ap (λ (p : Places). p.quantifiers) places) c.quantifier_fault-quantifiers.ensures in
     let Commands : Fault → Type 0 = λ f. ConditionMisses m.places.conditions f ⊎ QuantifierStands m.places.quantifiers f in
     let Promises : Fault → Type 0 = λ f. ConjectureMisses m f ⊎ Commands f in
-    let Sentences : Fault → Type 0 = λ f. AxiomMisses m f ⊎ Promises f in
     let commands = subst (λ o. IsFirstOf Commands o) (sym c.earlier-commands.ensures)
     (first-earlier (ConditionMisses m.places.conditions) (QuantifierStands m.places.quantifiers) c.condition_fault-conditions.result c.quantifier_fault-quantifiers.result conditions quantifiers) in
     let promises = subst (λ o. IsFirstOf Promises o) (sym c.earlier-promises.ensures)
     (first-earlier (ConjectureMisses m) Commands c.sentence_fault-conjectures.result c.earlier-commands.result conjectures commands) in
-    let sentences = subst (λ o. IsFirstOf Sentences o) (sym c.earlier-sentences.ensures)
-    (first-earlier (AxiomMisses m) Promises c.sentence_fault-axioms.result c.earlier-promises.result axioms promises) in
-    subst (λ o. IsFirstOf (Breaks m) o) (sym c.earlier-first.ensures)
-    (first-earlier (ClosesCycle m) Sentences c.in_ok-cycle.cycle c.earlier-sentences.result c.in_ok-cycle.ensures sentences)
+    subst (λ o. IsFirstOf (SentenceBreaks m) o) (sym c.earlier.ensures)
+    (first-earlier (AxiomMisses m) Promises c.sentence_fault-axioms.result c.earlier-promises.result axioms promises)
