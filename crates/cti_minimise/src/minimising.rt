@@ -1,7 +1,5 @@
 // The search for smaller counterexamples.
 ghost use Rattle.std.specs.Prelude.{◌≡◌, ◌<◌, length, take, IfOk};
-ghost use Rattle.fol_sig.specs.Symbols.{symbols};
-ghost use Rattle.fol_sig.specs.Strata.{IsStrata};
 ghost use Rattle.rml_command.specs.Goals.{IsGoal};
 ghost use Rattle.ea_decide.specs.Passing.{ceilings};
 ghost use Rattle.obligation_decide.specs.GoalDecisions.{IsFailing};
@@ -13,7 +11,7 @@ ghost use Rattle.cti_minimise.specs.Steps.{IsStep};
 use crate::bounds::size_bounds;
 use crate::laws::bound_law;
 use base::Mem;
-use fol_sig::{Sort, Strata, Structure};
+use fol_sig::{Sort, Structure};
 use lrat_log::Limits;
 use obligation_decide::{Decision, decide_where};
 use rml_command::{Checked, Goal};
@@ -39,12 +37,10 @@ enum Step {
 pub fn least(
     alloc: Global,
     checked: &Checked,
-    strata: &Strata,
     goal: &Goal,
     shown: Counterexample,
     limits: &Limits,
 ) -> Mem<(Counterexample, Least)>
-    requires strata { IsStrata (symbols checked.now.signature) strata.now }
     requires goal { IsGoal checked.now goal.now }
     requires failing { IsFailing (ceilings limits.now) checked.now goal.now shown }
     ensures failing { IfOk result (λ found. IsFailing (ceilings limits.now) checked.now goal.now found.0) }
@@ -54,7 +50,7 @@ pub fn least(
     let sorts = checked.model().signature().sorts();
     let mut found = shown;
     for k in 0..sorts {
-        match least_at(alloc, checked, strata, goal, k, found, limits)? {
+        match least_at(alloc, checked, goal, k, found, limits)? {
             Step::Settled(settled) => found = settled,
             Step::Stopped { shown, size, cause } => {
                 let sort = Sort(k);
@@ -70,13 +66,11 @@ pub fn least(
 fn least_at(
     alloc: Global,
     checked: &Checked,
-    strata: &Strata,
     goal: &Goal,
     sort: u32,
     shown: Counterexample,
     limits: &Limits,
 ) -> Mem<Step>
-    requires strata { IsStrata (symbols checked.now.signature) strata.now }
     requires goal { IsGoal checked.now goal.now }
     requires sort { sort < checked.now.signature.sorts }
     requires failing { IsFailing (ceilings limits.now) checked.now goal.now shown }
@@ -86,16 +80,7 @@ fn least_at(
     bound_law();
     let size = shown.structure.size(Sort(sort));
     for most in 1..size {
-        match try_bound(
-            alloc,
-            checked,
-            strata,
-            goal,
-            &shown.structure,
-            sort,
-            most,
-            limits,
-        )? {
+        match try_bound(alloc, checked, goal, &shown.structure, sort, most, limits)? {
             Decision::Holds(_) => {}
             Decision::Fails(smaller) => return Ok(Step::Settled(smaller)),
             Decision::Undecided(cause) => {
@@ -111,14 +96,12 @@ fn least_at(
 fn try_bound(
     alloc: Global,
     checked: &Checked,
-    strata: &Strata,
     goal: &Goal,
     structure: &Structure,
     sort: u32,
     most: u32,
     limits: &Limits,
 ) -> Mem<Decision>
-    requires strata { IsStrata (symbols checked.now.signature) strata.now }
     requires goal { IsGoal checked.now goal.now }
     requires sorts { length structure.now.sizes ≡ checked.now.signature.sorts }
     requires sort { sort < checked.now.signature.sorts }
@@ -127,6 +110,6 @@ fn try_bound(
 {
     bound_law();
     let bounds = size_bounds(alloc, structure, sort, most)?;
-    let decision = decide_where(alloc, checked, strata, goal, &bounds, limits)?;
+    let decision = decide_where(alloc, checked, goal, &bounds, limits)?;
     Ok(decision)
 }

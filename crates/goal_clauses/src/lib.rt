@@ -5,8 +5,6 @@
 #![tactic(auto)]
 
 ghost use Rattle.std.specs.Prelude.{◌≡◌, false, IfOk};
-ghost use Rattle.fol_sig.specs.Symbols.{symbols};
-ghost use Rattle.fol_sig.specs.Strata.{IsStrata};
 ghost use Rattle.rml_command.specs.Goals.{IsGoal};
 ghost use Rattle.ea_decide.specs.Passing.{ceilings};
 ghost use Rattle.rml_wp.specs.Preconditions.{goal_passes_limit};
@@ -18,7 +16,6 @@ use base::{Mem, Refused};
 use cnf_base::Cnf;
 use ea_decide::{Clauses, Passed};
 use fol_formula::Ea;
-use fol_sig::{Strata, strata};
 use lrat_log::Limits;
 use obligation_decide::Decision;
 use rml_command::{Checked, Goal};
@@ -32,17 +29,6 @@ pub enum GoalClauses {
     Written(Cnf),
     /// The first limit that is passed: formula, ground terms, ground size.
     Over(Cause),
-}
-
-// An order of the sorts of a checked model: its functions stand on no cycle.
-fn strata_of(alloc: Global, checked: &Checked) -> Mem<Strata>
-    ensures { IfOk result (IsStrata (symbols checked.now.signature)) }
-{
-    match strata(alloc, checked.model().signature()) {
-        Ok(strata) => Ok(strata),
-        Err(Refused::NoMemory) => Err(AllocError),
-        Err(Refused::For(_)) => unreachable!(),
-    }
 }
 
 // A limit, as a report names it.
@@ -88,9 +74,8 @@ fn clauses_of_sentence(
     ensures { IfOk result (AreGoalClauses (ceilings limits.now) checked.now goal.now) }
 {
     rml_wp::sentence_law();
-    let strata = strata_of(alloc, checked)?;
     let signature = checked.model().signature();
-    match ea_decide::clauses_of(alloc, signature, &strata, sentence, limits)? {
+    match ea_decide::clauses_of(alloc, signature, checked.strata(), sentence, limits)? {
         Clauses::Written(cnf) => Ok(GoalClauses::Written(cnf)),
         Clauses::Over(passed) => Ok(GoalClauses::Over(cause_of(passed))),
     }
@@ -101,7 +86,6 @@ pub fn decide_goal(alloc: Global, checked: &Checked, goal: &Goal, limits: &Limit
     requires { IsGoal checked.now goal.now }
     ensures { IfOk result (IsDecision (ceilings limits.now) checked.now goal.now) }
 {
-    let strata = strata_of(alloc, checked)?;
-    let decision = obligation_decide::decide(alloc, checked, &strata, goal, limits)?;
+    let decision = obligation_decide::decide(alloc, checked, goal, limits)?;
     Ok(decision)
 }

@@ -14,7 +14,7 @@ use Rattle.command_line.specs.declared.request.Asked.{Asked}
 use Rattle.ivy_run.specs.ModelTexts.{IsTheModel, IsTheFault}
 use Rattle.ivy_run.specs.Saying.{on_out, on_err}
 use Rattle.ivy_run.specs.Faults.{fault_line}
-use Rattle.ivy_run.specs.declared.fault_text.FaultKind.TheVariants.{Model}
+use Rattle.ivy_run.specs.declared.fault_text.ReportCode.TheVariants.{Model}
 use Rattle.ivy_run.specs.declared.check.CheckAnswer.{CheckAnswer}
 use Rattle.ivy_run.specs.declared.check.CheckAnswer.TheVariants.{Checked, Fault}
 
@@ -22,9 +22,10 @@ use Rattle.ivy_run.specs.declared.check.CheckAnswer.TheVariants.{Checked, Fault}
 abbrev pub ceilings_of : Asked → Ceilings
 ceilings_of asked = record { terms = asked.terms; size = asked.ground_size; conflicts = asked.conflicts }
 
--- The report has all groups of the model, and each of its lines says what is so. Where it says `inductive`, no run of the
--- model aborts or breaks a conjecture. It is made of right answers to all goals under the limits: a group that fails is
--- shown by its first failing path, and one of which no path fails by its first path that was left open, if any was.
+-- The report has all groups of the model, and each of its lines says what is so. Where it says `inductive`, no run of
+-- the model aborts or breaks a conjecture. It is made of right answers to all goals under the limits: a group that
+-- fails is shown by its first failing path, and one of which no path fails by its first path that was left open, if any
+-- was.
 pub record IsCheckedModel (limits : Ceilings) (model : ModelTree) (report : Report) : Type 0 where
   pub reports : Reports model report
   pub safe : report.verdict ≡ verdict.Inductive → Safe model
@@ -41,4 +42,4 @@ verdict_status verdict.Undecided = 3
 
 abbrev pub check_due : List ℕ → CheckAnswer → Due
 check_due text (Checked model report) = on_out (report_text model report) (verdict_status report.verdict)
-check_due text (Fault fault) = on_err (fault_line Model text fault.code fault.at) 4
+check_due text (Fault fault) = on_err (fault_line (Model fault.code) text fault.at) 4

@@ -24,7 +24,7 @@ use Rattle.ivy_run.specs.Check.{ceilings_of}
 use Rattle.ivy_run.specs.ModelTexts.{IsTheModel, IsTheFault}
 use Rattle.ivy_run.specs.Saying.{on_out, on_err}
 use Rattle.ivy_run.specs.Faults.{fault_line}
-use Rattle.ivy_run.specs.declared.fault_text.FaultKind.TheVariants.{Model}
+use Rattle.ivy_run.specs.declared.fault_text.ReportCode.TheVariants.{Model}
 use Rattle.ivy_run.specs.declared.emit.Emitted.{Emitted}
 use Rattle.ivy_run.specs.declared.emit.Emitted.TheVariants.{Clauses, Refutation, Fails, Undecided, NoGoal}
 use Rattle.ivy_run.specs.declared.emit.EmitAnswer.{EmitAnswer}
@@ -32,13 +32,15 @@ use Rattle.ivy_run.specs.declared.emit.EmitAnswer.TheVariants as answer
 
 -- `cnf`: the clauses of the goal's refuting sentence, where it passes no limit by its size; or the limit that it passes
 abbrev pub AreClausesEmitted : Ceilings → ModelTree → Goal → Emitted → Type 0
-AreClausesEmitted limits m goal (Clauses f) = PassesFirst limits m goal None × IsClauseForm m.signature (refuting_sentence m goal) f
+AreClausesEmitted limits m goal (Clauses f) =
+    PassesFirst limits m goal None × IsClauseForm m.signature (refuting_sentence m goal) f
 AreClausesEmitted limits m goal (Undecided c) = PassesFirst limits m goal (Some c)
 AreClausesEmitted limits m goal _ = ⊥
 
--- The goal passes no limit and has no counterexample, and the log, each line of which is accepted, refutes the clauses of
--- its refuting sentence.
-pub record IsRefutationOfGoal (limits : Ceilings) (m : ModelTree) (goal : Goal) (f : Formula) (lines : List Line) : Type 0 where
+-- The goal passes no limit and has no counterexample, and the log, each line of which is accepted, refutes the clauses
+-- of its refuting sentence.
+pub record IsRefutationOfGoal (limits : Ceilings) (m : ModelTree) (goal : Goal) (f : Formula) (lines : List Line) : Type
+    0 where
   pub within : PassesFirst limits m goal None
   pub safe : HasNone m goal
   pub clauses : IsClauseForm m.signature (refuting_sentence m goal) f
@@ -104,4 +106,4 @@ emitted_due number (NoGoal goals) = on_err (no_goal_text goals) 4
 -- what is due for the goal of this number
 abbrev pub emit_due : ℕ → List ℕ → EmitAnswer → Due
 emit_due number text (answer.Emitted e) = emitted_due number e
-emit_due number text (answer.Fault fault) = on_err (fault_line Model text fault.code fault.at) 4
+emit_due number text (answer.Fault fault) = on_err (fault_line (Model fault.code) text fault.at) 4

@@ -15,7 +15,7 @@ use Rattle.ivy_run.specs.declared.lrat.LratAnswer.TheVariants as answer
 use Rattle.commands.specs.Due.{Due}
 use Rattle.ivy_run.specs.Saying.{on_out, on_err}
 use Rattle.ivy_run.specs.Faults.{fault_line, refusal_line}
-use Rattle.ivy_run.specs.declared.fault_text.FaultKind.TheVariants as kind
+use Rattle.ivy_run.specs.declared.fault_text.ReportCode.TheVariants as code
 
 -- a file of clauses, or of a log, has at most so many bytes
 abbrev pub clause_limit : ℕ
@@ -53,6 +53,6 @@ pub record IsRefutation (formula log : List ℕ) (a : LratAnswer) : Type 0 where
 abbrev pub lrat_due : List ℕ → List ℕ → LratAnswer → Due
 lrat_due formula log answer.Refuted = on_out (codes "verdict: refuted\n") 0
 lrat_due formula log answer.NotRefuted = on_out (codes "verdict: not refuted\n") 1
-lrat_due formula log (answer.CnfFault fault) = on_err (fault_line kind.Formula formula fault.code fault.at) 4
-lrat_due formula log (answer.LogFault fault) = on_err (fault_line kind.Log log fault.code fault.at) 4
-lrat_due formula log (answer.Refused refusal) = on_err (refusal_line refusal.code refusal.id) 4
+lrat_due formula log (answer.CnfFault fault) = on_err (fault_line (code.Formula fault.code) formula fault.at) 4
+lrat_due formula log (answer.LogFault fault) = on_err (fault_line (code.Log fault.code) log fault.at) 4
+lrat_due formula log (answer.Refused refusal) = on_err (refusal_line (code.Refusal refusal.code) refusal.id) 4

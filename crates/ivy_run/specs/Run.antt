@@ -46,15 +46,20 @@ OfSample P _ = ⊥
 
 -- How each command line ends: a field for each command. Private contracts alone cite this; the clauses of `run` are its
 -- fields.
-pub record Does (line : Option Line) (told : List ℕ → Told) (before now : ℕ) (first second : List ℕ) (end : Result Answer LoadError) : Type 0 where
+pub record Does (line : Option Line) (told : List ℕ → Told) (before now : ℕ) (first second : List ℕ)
+    (end : Result Answer LoadError) : Type 0 where
   pub of_none : line ≡ None → EndsNone before now first second (λ text other a. IsUsage a) end
   pub of_check : (file : List ℕ) (asked : Asked) → line ≡ Some (check file asked)
-      → EndsOne (told file) model_limit before now first second (λ text other a. OfCheck (IsCheckAnswer (ceilings_of asked) text) a) end
+      → EndsOne (told file) model_limit before now first second
+      (λ text other a. OfCheck (IsCheckAnswer (ceilings_of asked) text) a) end
   pub of_lrat : (formula log : List ℕ) → line ≡ Some (lrat formula log)
-      → EndsTwo (told formula) (told log) clause_limit clause_limit before now first second (λ text other a. OfLrat (IsRefutation text other) a) end
+      → EndsTwo (told formula) (told log) clause_limit clause_limit before now first second
+      (λ text other a. OfLrat (IsRefutation text other) a) end
   pub of_emit : (file : List ℕ) (emission : Emission) → line ≡ Some (emit file emission)
-      → EndsOne (told file) model_limit before now first second (λ text other a. OfEmit (IsEmitAnswer emission text) a) end
-  pub of_sample : (n : ℕ) → line ≡ Some (sample n) → EndsNone before now first second (λ text other a. OfSample (IsSampleAnswer n) a) end
+      → EndsOne (told file) model_limit before now first second (λ text other a. OfEmit (IsEmitAnswer emission text) a)
+      end
+  pub of_sample : (n : ℕ) → line ≡ Some (sample n)
+      → EndsNone before now first second (λ text other a. OfSample (IsSampleAnswer n) a) end
 
 -- the goal that is to be written
 abbrev pub emitted_goal : Option Line → ℕ

@@ -5,7 +5,7 @@ ghost use Rattle.rml_command.specs.Fragment.{IsChecked};
 ghost use Rattle.ivy_run.specs.Check.{IsCheckAnswer, IsCheckedModel, check_due, verdict_status, ceilings_of};
 ghost use Rattle.ivy_run.specs.ModelTexts.{IsTheModel};
 
-use crate::fault_text::{FaultKind, fault_line};
+use crate::fault_text::{ReportCode, fault_line};
 use crate::limits::limits_of;
 use crate::model_text::read_model;
 use crate::saying::{complaint, shown};
@@ -92,7 +92,7 @@ impl Command for Check {
                 Ok(shown(text, status_of(report.verdict)))
             }
             CheckAnswer::Fault(fault) => {
-                let line = fault_line(alloc, FaultKind::Model, first, fault.code, fault.at)?;
+                let line = fault_line(alloc, ReportCode::Model(fault.code), first, fault.at)?;
                 Ok(complaint(line, 4))
             }
         }

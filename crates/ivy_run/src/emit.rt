@@ -5,12 +5,12 @@ ghost use Rattle.rml_command.specs.Goals.{IsGoal, goals_of};
 ghost use Rattle.ea_decide.specs.Passing.{ceilings};
 ghost use Rattle.command_line.specs.Asking.{IsInRange};
 ghost use Rattle.ivy_run.specs.Check.{ceilings_of};
-ghost use Rattle.ivy_run.specs.Emit.{AreClausesEmitted, IsLogEmitted, IsGoalEmitted, IsEmittedOf, IsEmitAnswer, emitted_due, emit_due};
+ghost use Rattle.ivy_run.specs.Emit.{AreClausesEmitted, IsLogEmitted, IsGoalEmitted, IsEmittedOf, IsEmitAnswer};
+ghost use Rattle.ivy_run.specs.Emit.{emitted_due, emit_due};
 
 use crate::emit_text::{fails_line, no_goal_line, undecided_line};
-use crate::fault_text::{FaultKind, fault_line};
+use crate::fault_text::{ReportCode, fault_line};
 use crate::limits::limits_of;
-use crate::log_text::log_text;
 use crate::model_text::read_model;
 use crate::saying::{complaint, shown};
 use base::{Mem, Refused, Row};
@@ -19,7 +19,7 @@ use command_line::{Emission, What};
 use commands::{Command, Said};
 use goal_clauses::{GoalClauses, clauses_of_goal, decide_goal};
 use goal_number::{GoalAt, goal_at};
-use lrat_log::{Limits, Line};
+use lrat_log::{Limits, Line, write_lines};
 use obligation_decide::Decision;
 use rml_command::{Checked, Goal};
 use rml_lex::Fault;
@@ -135,7 +135,7 @@ fn say_emitted(alloc: Global, number: u64, emitted: &Emitted) -> Mem<Said>
             Ok(shown(text, 0))
         }
         Emitted::Refutation(_, lines) => {
-            let text = log_text(alloc, lines.as_slice())?;
+            let text = write_lines(alloc, lines.as_slice())?;
             Ok(shown(text, 0))
         }
         Emitted::Fails => {
@@ -168,7 +168,7 @@ impl Command for Emit {
         match answer {
             EmitAnswer::Emitted(emitted) => say_emitted(alloc, self.emission.goal, emitted),
             EmitAnswer::Fault(fault) => {
-                let line = fault_line(alloc, FaultKind::Model, first, fault.code, fault.at)?;
+                let line = fault_line(alloc, ReportCode::Model(fault.code), first, fault.at)?;
                 Ok(complaint(line, 4))
             }
         }

@@ -7,7 +7,6 @@ mod emit_text;
 mod ended;
 mod fault_text;
 mod limits;
-mod log_text;
 mod lrat;
 mod model_text;
 mod perform;

@@ -7,7 +7,7 @@ ghost use Rattle.lrat_log.specs.Reading.{read_of};
 ghost use Rattle.lrat_check.specs.Whole.{first_refusal};
 ghost use Rattle.ivy_run.specs.Lrat.{answer_to_lines, answer_to_log, IsPlaced, IsRefutation, lrat_due};
 
-use crate::fault_text::{FaultKind, fault_line, refusal_line};
+use crate::fault_text::{ReportCode, fault_line, refusal_line};
 use crate::saying::{complaint, verdict};
 use base::{Mem, Refused};
 use cnf_base::{Cnf, CnfFault, read_cnf};
@@ -55,7 +55,8 @@ fn judge_lines(alloc: Global, formula: Cnf, log: Log) -> Mem<LratAnswer>
 
 // The answer to the text of a log.
 fn judge_log(alloc: Global, formula: Cnf, text: &[u8]) -> Mem<LratAnswer>
-    ensures answer { IfOk result (λ a. a ≡ answer_to_log formula (read_of formula.variables (length formula.clauses) text.now)) }
+    ensures answer { IfOk result
+        (λ a. a ≡ answer_to_log formula (read_of formula.variables (length formula.clauses) text.now)) }
     ensures unsatisfiable { IfOk result (λ a. a ≡ LratAnswer.Refuted → IsUnsatisfiable formula) }
     ensures places { IfOk result (IsPlaced [] text.now) }
 {
@@ -95,12 +96,16 @@ impl Command for Lrat {
             LratAnswer::Refuted => return verdict(alloc, "verdict: refuted\n", 0),
             LratAnswer::NotRefuted => return verdict(alloc, "verdict: not refuted\n", 1),
             LratAnswer::CnfFault(fault) => {
-                fault_line(alloc, FaultKind::Formula, first, fault.code, fault.at)?
+                fault_line(alloc, ReportCode::Formula(fault.code), first, fault.at)?
             }
             LratAnswer::LogFault(fault) => {
-                fault_line(alloc, FaultKind::Log, second, fault.code, fault.at)?
+                fault_line(alloc, ReportCode::Log(fault.code), second, fault.at)?
             }
-            LratAnswer::Refused(refusal) => refusal_line(alloc, refusal.code, refusal.id)?,
+            LratAnswer::Refused(refusal) => refusal_line(
+                alloc,
+                ReportCode::Refusal(refusal.code),
+                refusal.id,
+            )?,
         };
         Ok(complaint(line, 4))
     }

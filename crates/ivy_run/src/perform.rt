@@ -33,7 +33,8 @@ fn perform<F: Files>(
     requires first { first.old.items ≡ [] }
     requires second { second.old.items ≡ [] }
     ensures same { (n : List ℕ) → F.told files.new n ≡ F.told files.old n }
-    ensures due { due_in result ≡ due_of (Some (request_line request.entry)) first.new.items second.new.items (outcome_in result) }
+    ensures due { due_in result ≡ due_of (Some (request_line request.entry)) first.new.items second.new.items
+        (outcome_in result) }
     ensures does { Does (Some (request_line request.entry)) (F.told files.old) (F.faults files.old) (F.faults files.new)
         first.new.items second.new.items (outcome_in result) }
 {
@@ -108,8 +109,10 @@ pub fn work<F: Files>(
     requires first { first.old.items ≡ [] }
     requires second { second.old.items ≡ [] }
     ensures same { (n : List ℕ) → F.told files.new n ≡ F.told files.old n }
-    ensures due { due_in result ≡ due_of (line_of (map (λ w. string_bytes w) words.now)) first.new.items second.new.items (outcome_in result) }
-    ensures does { Does (line_of (map (λ w. string_bytes w) words.now)) (F.told files.old) (F.faults files.old) (F.faults files.new)
+    ensures due { due_in result ≡ due_of (line_of (map (λ w. string_bytes w) words.now)) first.new.items
+        second.new.items (outcome_in result) }
+    ensures does { Does (line_of (map (λ w. string_bytes w) words.now)) (F.told files.old) (F.faults files.old)
+        (F.faults files.new)
         first.new.items second.new.items (outcome_in result) }
 {
     match read_words(alloc, words) {

@@ -4,11 +4,11 @@ ghost use Rattle.rml_report.specs.ReportText.{verdict_text};
 ghost use Rattle.rml_sample.specs.Sample.{sample_text};
 ghost use Rattle.ivy_run.specs.Sample.{IsSampled, IsSampleAnswer, count_line, sampled_text, sample_due};
 ghost use Rattle.ivy_run.specs.Faults.{fault_line};
-ghost use Rattle.ivy_run.specs.declared.fault_text.FaultKind.TheVariants.{Model};
+ghost use Rattle.ivy_run.specs.declared.fault_text.ReportCode.TheVariants.{Model};
 ghost use Rattle.ivy_run.specs.ModelTexts.{IsTheModel};
 
 use crate::check::{report_on, status_of};
-use crate::fault_text::{FaultKind, fault_line};
+use crate::fault_text::{ReportCode, fault_line};
 use crate::model_text::read_model;
 use crate::pieces::{push_number, push_text};
 use crate::saying::{complaint, shown};
@@ -128,10 +128,10 @@ fn sampled_lines(alloc: Global, number: u64, sampled: &Sampled) -> Mem<Vec<u8>>
 fn sample_fault(alloc: Global, number: u64, fault: &Fault) -> Mem<Vec<u8>>
     requires small { number ≤ 40 }
     requires place { fault.now.at ≤ length (sample_text number) }
-    ensures { IfOk result (λ line. line.items ≡ fault_line Model (sample_text number) fault.now.code fault.now.at) }
+    ensures { IfOk result (λ line. line.items ≡ fault_line (Model fault.now.code) (sample_text number) fault.now.at) }
 {
     let text = sample_text(alloc, number)?;
-    let line = fault_line(alloc, FaultKind::Model, &text, fault.code, fault.at)?;
+    let line = fault_line(alloc, ReportCode::Model(fault.code), &text, fault.at)?;
     Ok(line)
 }
 

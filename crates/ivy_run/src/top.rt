@@ -37,29 +37,37 @@ pub fn run<F: Files, O: Sink, E: Sink>(
     // `check FILE`: the text has one model or one fault. The report on the model is made of right answers to all goals
     // under the limits that were asked for, and where its verdict is inductive, no run of the model aborts or breaks a
     // conjecture.
-    ensures check { (file : List ℕ) (asked : Asked) → line_of (map (λ w. string_bytes w) words.now) ≡ Some (check file asked)
-        → EndsOne (F.told files.old file) model_limit (F.faults files.old) (F.faults files.new) result.loaded.first result.loaded.second
+    ensures check { (file : List ℕ) (asked : Asked)
+        → line_of (map (λ w. string_bytes w) words.now) ≡ Some (check file asked)
+        → EndsOne (F.told files.old file) model_limit (F.faults files.old) (F.faults files.new)
+        result.loaded.first result.loaded.second
         (λ text other a. OfCheck (IsCheckAnswer (ceilings_of asked) text) a) result.outcome }
 
     // `lrat CNF LOG`: both texts have one answer, and where that is that the log refutes, no truth values satisfy the
     // formula.
-    ensures lrat { (formula log : List ℕ) → line_of (map (λ w. string_bytes w) words.now) ≡ Some (lrat formula log)
-        → EndsTwo (F.told files.old formula) (F.told files.old log) clause_limit clause_limit (F.faults files.old) (F.faults files.new)
-        result.loaded.first result.loaded.second (λ text other a. OfLrat (IsRefutation text other) a) result.outcome }
+    ensures lrat { (formula log : List ℕ)
+        → line_of (map (λ w. string_bytes w) words.now) ≡ Some (lrat formula log)
+        → EndsTwo (F.told files.old formula) (F.told files.old log) clause_limit clause_limit
+        (F.faults files.old) (F.faults files.new) result.loaded.first result.loaded.second
+        (λ text other a. OfLrat (IsRefutation text other) a) result.outcome }
 
-    // `emit FILE GOAL WHAT`: the clauses of the goal's refuting sentence, wherever it passes no limit by its size; or the
-    // accepted log that refutes them, where the goal has no counterexample.
-    ensures emit { (file : List ℕ) (emission : Emission) → line_of (map (λ w. string_bytes w) words.now) ≡ Some (emit file emission)
-        → EndsOne (F.told files.old file) model_limit (F.faults files.old) (F.faults files.new) result.loaded.first result.loaded.second
+    // `emit FILE GOAL WHAT`: the clauses of the goal's refuting sentence, wherever it passes no limit by its size; or
+    // the accepted log that refutes them, where the goal has no counterexample.
+    ensures emit { (file : List ℕ) (emission : Emission)
+        → line_of (map (λ w. string_bytes w) words.now) ≡ Some (emit file emission)
+        → EndsOne (F.told files.old file) model_limit (F.faults files.old) (F.faults files.new)
+        result.loaded.first result.loaded.second
         (λ text other a. OfEmit (IsEmitAnswer emission text) a) result.outcome }
 
     // `sample N`: the report on the model of the sample text, under the limits of a `check` without options.
-    ensures sample { (n : ℕ) → line_of (map (λ w. string_bytes w) words.now) ≡ Some (sample n)
+    ensures sample { (n : ℕ)
+        → line_of (map (λ w. string_bytes w) words.now) ≡ Some (sample n)
         → EndsNone (F.faults files.old) (F.faults files.new) result.loaded.first result.loaded.second
         (λ text other a. OfSample (IsSampleAnswer n) a) result.outcome }
 
     // All of the due text was written, or a front of it, and that only where its sink failed.
-    ensures written { IsWritten (due_of (line_of (map (λ w. string_bytes w) words.now)) result.loaded.first result.loaded.second result.outcome)
+    ensures written { IsWritten
+        (due_of (line_of (map (λ w. string_bytes w) words.now)) result.loaded.first result.loaded.second result.outcome)
         result.written result.status (O.taken out.old) (O.taken out.new) (E.taken err.old) (E.taken err.new)
         (O.faults out.old) (O.faults out.new) (E.faults err.old) (E.faults err.new) }
 {

@@ -1,7 +1,5 @@
 // Whether the axioms of a model can be satisfied.
 ghost use Rattle.std.specs.Prelude.{◌≡◌, IfOk};
-ghost use Rattle.fol_sig.specs.Symbols.{symbols};
-ghost use Rattle.fol_sig.specs.Strata.{IsStrata};
 ghost use Rattle.fol_formula.specs.View.{form};
 ghost use Rattle.rml_command.specs.Outcomes.{all_of as all_of_them};
 ghost use Rattle.ea_decide.specs.Passing.{ceilings};
@@ -11,27 +9,20 @@ use crate::cause_of;
 use base::Mem;
 use ea_decide::Decided;
 use fol_formula::{Ea, Formula, Sentence};
-use fol_sig::Strata;
 use lrat_log::Limits;
 use rml_command::Checked;
 use rml_report::Axioms;
 use std::alloc::Global;
 
 /// Decides whether some structure satisfies the axioms, under the limits of ground terms, ground size and conflicts.
-pub fn decide_axioms(
-    alloc: Global,
-    checked: &Checked,
-    strata: &Strata,
-    limits: &Limits,
-) -> Mem<Axioms>
-    requires strata { IsStrata (symbols checked.now.signature) strata.now }
+pub fn decide_axioms(alloc: Global, checked: &Checked, limits: &Limits) -> Mem<Axioms>
     ensures { IfOk result (AreAxiomsDecided (ceilings limits.now) checked.now) }
 {
     skolem::exactness();
     fol_nnf::exactness();
     let sentence = all_axioms(alloc, checked)?;
     let signature = checked.model().signature();
-    match ea_decide::decide(alloc, signature, strata, &sentence, limits)? {
+    match ea_decide::decide(alloc, signature, checked.strata(), &sentence, limits)? {
         Decided::Refuted(_) => Ok(Axioms::Inconsistent),
         Decided::Satisfied(_) => Ok(Axioms::Consistent),
         Decided::Over(passed) => Ok(Axioms::Undecided(cause_of(passed))),

@@ -14,7 +14,6 @@ mod walk;
 ghost use Rattle.std.specs.Prelude.{◌≡◌, [], IfOk};
 ghost use Rattle.std.specs.List.{AllByRecursion};
 ghost use Rattle.fol_sig.specs.Symbols.{symbols};
-ghost use Rattle.fol_sig.specs.Strata.{IsStrata};
 ghost use Rattle.fol_formula.specs.Fits.{FitsForm};
 ghost use Rattle.fol_formula.specs.Fragments.{IsEa};
 ghost use Rattle.rml_command.specs.Goals.{IsGoal};
@@ -28,7 +27,6 @@ use base::{Mem, Refused};
 pub use decision::Decision;
 use ea_decide::{Decided, Passed};
 use fol_formula::{Ea, Sentence};
-use fol_sig::Strata;
 pub use laws::passing_law;
 use lrat_log::Limits;
 use parts::restricted;
@@ -39,19 +37,12 @@ use walk::read_counterexample;
 
 /// Decides a goal of the model under limits, which are looked at in their order: formula, ground terms, ground size,
 /// conflicts.
-pub fn decide(
-    alloc: Global,
-    checked: &Checked,
-    strata: &Strata,
-    goal: &Goal,
-    limits: &Limits,
-) -> Mem<Decision>
-    requires strata { IsStrata (symbols checked.now.signature) strata.now }
+pub fn decide(alloc: Global, checked: &Checked, goal: &Goal, limits: &Limits) -> Mem<Decision>
     requires goal { IsGoal checked.now goal.now }
     ensures { IfOk result (IsDecision (ceilings limits.now) checked.now goal.now) }
 {
     rml_wp::sentence_law();
-    let decision = decide_where(alloc, checked, strata, goal, &[], limits)?;
+    let decision = decide_where(alloc, checked, goal, &[], limits)?;
     Ok(decision)
 }
 
@@ -60,12 +51,10 @@ pub fn decide(
 pub fn decide_where(
     alloc: Global,
     checked: &Checked,
-    strata: &Strata,
     goal: &Goal,
     more: &[Sentence],
     limits: &Limits,
 ) -> Mem<Decision>
-    requires strata { IsStrata (symbols checked.now.signature) strata.now }
     requires goal { IsGoal checked.now goal.now }
     requires fragment { AllByRecursion IsEa more.now }
     requires fits { AllByRecursion (FitsForm (symbols checked.now.signature) []) more.now }
@@ -76,7 +65,7 @@ pub fn decide_where(
     let _checked = checked.model();
     match restricted(alloc, checked, goal, more) {
         Ok(sentence) => {
-            let decision = decide_sentence(alloc, checked, strata, goal, &sentence, limits)?;
+            let decision = decide_sentence(alloc, checked, goal, &sentence, limits)?;
             Ok(decision)
         }
         Err(Refused::NoMemory) => Err(AllocError),
@@ -88,12 +77,10 @@ pub fn decide_where(
 fn decide_sentence(
     alloc: Global,
     checked: &Checked,
-    strata: &Strata,
     goal: &Goal,
     sentence: &Ea,
     limits: &Limits,
 ) -> Mem<Decision>
-    requires strata { IsStrata (symbols checked.now.signature) strata.now }
     requires goal { IsGoal checked.now goal.now }
     requires sentence { IsRefutingWith checked.now goal.now sentence.now }
     ensures { IfOk result (IsSentenceDecision (ceilings limits.now) checked.now sentence.now goal.now) }
@@ -105,7 +92,7 @@ fn decide_sentence(
     let signature = checked.model().signature();
     // The limits are read here, so that their ranges are known.
     let limits = *limits;
-    match ea_decide::decide(alloc, signature, strata, sentence, &limits)? {
+    match ea_decide::decide(alloc, signature, checked.strata(), sentence, &limits)? {
         Decided::Refuted(proof) => Ok(Decision::Holds(proof)),
         Decided::Satisfied(model) => {
             let shown = read_counterexample(alloc, checked, goal, sentence, model)?;

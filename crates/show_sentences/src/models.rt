@@ -17,7 +17,7 @@ pub fn model_of(alloc: Global, text: &[u8]) -> Result<Model, Refused<Fault>> {
 pub fn fault_of(alloc: Global, refused: Refused<Fault>) -> Mem<String> {
     match refused {
         Refused::For(fault) => {
-            let (code, at) = (fault.code, fault.at);
+            let (code, at) = (fault.code.number(), fault.at);
             format!(in alloc; "F{code} at byte {at}")
         }
         Refused::NoMemory => Err(AllocError),

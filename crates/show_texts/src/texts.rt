@@ -10,7 +10,7 @@ fn fault_of(alloc: Global, text: &[u8], refused: Refused<Fault>) -> Mem<String> 
     let Refused::For(fault) = refused else {
         return Err(AllocError);
     };
-    let (code, at) = (fault.code, fault.at);
+    let (code, at) = (fault.code.number(), fault.at);
     if at > text.len() as u64 {
         return String::from_str(alloc, "a fault behind the text");
     }

@@ -1,8 +1,6 @@
 // The answer to a group: its goals are decided in order, up to the first that fails.
 ghost use Rattle.std.specs.Prelude.{◌≡◌, length, IfOk};
 ghost use Rattle.std.specs.List.{AllByRecursion};
-ghost use Rattle.fol_sig.specs.Symbols.{symbols};
-ghost use Rattle.fol_sig.specs.Strata.{IsStrata};
 ghost use Rattle.rml_command.specs.Goals.{HasAbout, IsGoal, stage_paths};
 ghost use Rattle.rml_report.specs.Reports.{head_of};
 ghost use Rattle.ea_decide.specs.Passing.{ceilings};
@@ -12,7 +10,6 @@ ghost use Rattle.verdicts.specs.Earliest.{earlier_of, answer_of};
 use crate::listing::group_goals;
 use base::Mem;
 use cti_minimise::least;
-use fol_sig::Strata;
 use lrat_log::Limits;
 use obligation_decide::{Decision, decide};
 use rml_command::{About, Checked, Goal, Stage};
@@ -50,21 +47,19 @@ fn answer_of(earliest: Option<OpenGoal>) -> Answer
 fn decide_goals(
     alloc: Global,
     checked: &Checked,
-    strata: &Strata,
     limits: &Limits,
     goals: &[Goal],
     paths: u32,
 ) -> Mem<Answer>
-    requires strata { IsStrata (symbols checked.now.signature) strata.now }
     requires goals { AllByRecursion (IsGoal checked.now) goals.now }
     ensures { IfOk result (IsAnswerTo (ceilings limits.now) checked.now paths goals.now) }
 {
     let mut earliest = None;
     for goal in goals {
-        match decide(alloc, checked, strata, goal, limits)? {
+        match decide(alloc, checked, goal, limits)? {
             Decision::Holds(_) => {}
             Decision::Fails(shown) => {
-                let (shown, least) = least(alloc, checked, strata, goal, shown, limits)?;
+                let (shown, least) = least(alloc, checked, goal, shown, limits)?;
                 return Ok(Answer::Fails {
                     paths,
                     least,
@@ -84,19 +79,17 @@ fn decide_goals(
 pub fn decide_group(
     alloc: Global,
     checked: &Checked,
-    strata: &Strata,
     limits: &Limits,
     stage: Stage,
     about: About,
 ) -> Mem<Group>
-    requires strata { IsStrata (symbols checked.now.signature) strata.now }
     requires about { HasAbout checked.now stage about }
     ensures now { IfOk result (IsGroupNow (ceilings limits.now) checked.now) }
     ensures head { IfOk result (λ g. head_of g ≡ record { stage = stage; about = about }) }
 {
     let goals = group_goals(alloc, checked, stage, about)?;
     let paths = checked.stage_paths(stage).len() as u32;
-    let answer = decide_goals(alloc, checked, strata, limits, &goals, paths)?;
+    let answer = decide_goals(alloc, checked, limits, &goals, paths)?;
     Ok(Group {
         stage,
         about,

@@ -1,8 +1,6 @@
 // The report on a model: all its groups in order, each with its answer.
 ghost use Rattle.std.specs.Prelude.{◌≡◌, ◌<◌, ◌++◌, length, map, IfOk, OnOk};
 ghost use Rattle.std.specs.List.{AllByRecursion, list_all, list_any};
-ghost use Rattle.fol_sig.specs.Symbols.{symbols};
-ghost use Rattle.fol_sig.specs.Strata.{IsStrata};
 ghost use Rattle.rml_command.specs.Goals.{stage_groups, groups_of};
 ghost use Rattle.rml_report.specs.Reports.{head_of, says_holds, says_fails, verdict_of};
 ghost use Rattle.ea_decide.specs.Passing.{ceilings};
@@ -10,71 +8,49 @@ ghost use Rattle.verdicts.specs.Answers.{IsGroupNow, IsReport};
 ghost use Rattle.verdicts.specs.Earliest.{IsBeforeFinal};
 
 use crate::deciding::decide_group;
-use base::{Mem, Refused, Row};
-use fol_sig::{Strata, strata};
+use base::{Mem, Row};
 use lrat_log::Limits;
 use obligation_decide::decide_axioms;
 use rml_command::{About, Checked, Stage};
 use rml_report::{Answer, Group, Report, Verdict};
-use std::alloc::{AllocError, Global};
-
-// An order of the sorts of a checked model: its functions stand on no cycle.
-fn strata_of(alloc: Global, checked: &Checked) -> Mem<Strata>
-    ensures { IfOk result (IsStrata (symbols checked.now.signature)) }
-{
-    match strata(alloc, checked.model().signature()) {
-        Ok(strata) => Ok(strata),
-        Err(Refused::NoMemory) => Err(AllocError),
-        Err(Refused::For(_)) => unreachable!(),
-    }
-}
+use std::alloc::Global;
 
 // Adds the groups of init or an action, in order.
 fn add_stage(
     alloc: Global,
     checked: &Checked,
-    strata: &Strata,
     limits: &Limits,
     stage: Stage,
     groups: &mut Vec<Group>,
 ) -> Mem<()>
-    requires strata { IsStrata (symbols checked.now.signature) strata.now }
     requires stage { IsBeforeFinal checked.now stage }
     ensures heads { OnOk result (map head_of groups.new.items
         ≡ map head_of groups.old.items ++ stage_groups checked.now stage) }
     ensures now { OnOk result (AllByRecursion (IsGroupNow (ceilings limits.now) checked.now) groups.old.items
         → AllByRecursion (IsGroupNow (ceilings limits.now) checked.now) groups.new.items) }
 {
-    let abort = decide_group(alloc, checked, strata, limits, stage, About::Abort)?;
+    let abort = decide_group(alloc, checked, limits, stage, About::Abort)?;
     groups.push(abort)?;
     let count = checked.model().conjectures().len() as u32;
     for k in 0..count {
         let about = About::Conjecture(k);
-        groups.push(decide_group(alloc, checked, strata, limits, stage, about)?)?;
+        groups.push(decide_group(alloc, checked, limits, stage, about)?)?;
     }
     Ok(())
 }
 
 // All groups in order.
-fn all_groups(alloc: Global, checked: &Checked, strata: &Strata, limits: &Limits) -> Mem<Vec<Group>>
-    requires { IsStrata (symbols checked.now.signature) strata.now }
+fn all_groups(alloc: Global, checked: &Checked, limits: &Limits) -> Mem<Vec<Group>>
     ensures now { IfOk result (λ gs. AllByRecursion (IsGroupNow (ceilings limits.now) checked.now) gs.items) }
     ensures heads { IfOk result (λ gs. map head_of gs.items ≡ groups_of checked.now) }
 {
     let mut groups = Vec::new(alloc);
-    add_stage(alloc, checked, strata, limits, Stage::Init, &mut groups)?;
+    add_stage(alloc, checked, limits, Stage::Init, &mut groups)?;
     let count = checked.model().actions().len() as u32;
     for a in 0..count {
-        add_stage(
-            alloc,
-            checked,
-            strata,
-            limits,
-            Stage::Action(a),
-            &mut groups,
-        )?;
+        add_stage(alloc, checked, limits, Stage::Action(a), &mut groups)?;
     }
-    groups.push(decide_group(alloc, checked, strata, limits, Stage::Final, About::Abort)?)?;
+    groups.push(decide_group(alloc, checked, limits, Stage::Final, About::Abort)?)?;
     Ok(groups)
 }
 
@@ -109,9 +85,8 @@ fn verdict_for(groups: &[Group]) -> Verdict
 pub fn report(alloc: Global, checked: &Checked, limits: &Limits) -> Mem<Report>
     ensures { IfOk result (IsReport (ceilings limits.now) checked.now) }
 {
-    let strata = strata_of(alloc, checked)?;
-    let groups = all_groups(alloc, checked, &strata, limits)?;
-    let axioms = decide_axioms(alloc, checked, &strata, limits)?;
+    let groups = all_groups(alloc, checked, limits)?;
+    let axioms = decide_axioms(alloc, checked, limits)?;
     let verdict = verdict_for(&groups);
     Ok(Report {
         axioms,

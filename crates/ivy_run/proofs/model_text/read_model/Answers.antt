@@ -10,7 +10,8 @@ use Rattle.rml_front.specs.Laws.{AnswersAreUnique}
 use Rattle.ivy_run.specs.ModelTexts.{IsTheFault}
 use Rattle.ivy_run.proofs.model_text.read_model.Goals as goal
 
-the_fault : AnswersAreUnique → (text : List ℕ) (refused : Refused Fault) → Because (IsFaultOf text) refused → Because (StandsBy (length text)) refused
+the_fault : AnswersAreUnique → (text : List ℕ) (refused : Refused Fault) → Because (IsFaultOf text) refused
+    → Because (StandsBy (length text)) refused
     → Because (IsTheFault text) refused
 the_fault unique text (For f) is place = record {
   is_fault = is;
