@@ -22,6 +22,6 @@ pub use lit::Lit;
 pub use lit_set::LitSet;
 pub use number::{literal_of, number_of};
 pub use reader::read_cnf;
-pub use text::{CnfFault, LineMode, Numeral, Stage};
+pub use text::{CnfFault, LineMode, Numeral};
 pub use words::{Word, Words};
 pub use writer::{push_decimal, push_literals, write_cnf};

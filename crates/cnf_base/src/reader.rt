@@ -4,10 +4,10 @@ ghost use Rattle.std.specs.Prelude.{◌≡◌, ◌<◌, ◌≤◌, ◌^◌, ℕ,
 ghost use Rattle.cnf_base.specs.Clauses.{entry_of};
 ghost use Rattle.cnf_base.specs.Formulas.{Formula, IsFormula};
 ghost use Rattle.cnf_base.specs.Reading.{read_of};
-ghost use Rattle.cnf_base.specs.WordByWord.{at_start, body_number, take_word, ended, read_by_words};
-ghost use Rattle.cnf_base.specs.Answers.{Answers};
+ghost use Rattle.cnf_base.specs.WordByWord.{at_start, body_number, take_word, ended, read_words, read_by_words};
+ghost use Rattle.cnf_base.specs.Answers.{Answers, StepsTo, ReadsOn};
 ghost use Rattle.cnf_base.specs.Places.{StandsBy};
-ghost use Rattle.cnf_base.specs.ReaderState.{state_of, is_literal, StepsTo, ReadsOn};
+ghost use Rattle.cnf_base.specs.ReaderState.{state_of, is_literal};
 ghost use Rattle.base.specs.Because.{Because};
 ghost use Rattle.base.specs.declared.refused.Refused.{Refused};
 ghost use Rattle.base.specs.declared.refused.Refused.TheVariants.{For};
@@ -57,7 +57,7 @@ impl Reading {
         at: u64,
     ) -> Result<(), Refused<CnfFault>>
         requires { IfSome number (λ n. n.value < 2 ^ 31) }
-        ensures { StepsTo (body_number (state_of self.old) number at) self.new result }
+        ensures { StepsTo (body_number (state_of self.old) number at) (state_of self.new) result }
     {
         let Some(number) = number else {
             return Err(fault(CnfFaultCode::BadNumber, at));
@@ -108,7 +108,8 @@ impl Reading {
         alloc: Global,
         words: &mut Words<'_>,
     ) -> Result<(), Refused<CnfFault>>
-        ensures taken { ReadsOn (state_of self.old) words.old self.new words.new result }
+        ensures taken { ReadsOn (read_words (state_of self.old) words.old)
+            (read_words (state_of self.new) words.new) result }
         ensures shorter { length words.new ≤ length words.old }
     {
         while let Stage::Body = self.stage {
@@ -131,7 +132,8 @@ impl Reading {
 
     // Takes a word.
     fn take_word(&mut self, alloc: Global, word: &[u8], at: u64) -> Result<(), Refused<CnfFault>>
-        ensures { StepsTo (take_word (state_of self.old) (record { at = at; text = word.now })) self.new result }
+        ensures { StepsTo (take_word (state_of self.old) (record { at = at; text = word.now }))
+            (state_of self.new) result }
     {
         match self.stage {
             Stage::Problem => {

@@ -22,5 +22,5 @@ pub use outcome::{Effect, Outcome};
 pub use reader::read_log;
 pub use refusal_code::RefusalCode;
 pub use sink::Sink;
-pub use text::{LogFault, Stage};
+pub use text::LogFault;
 pub use writer::{write_lines, write_log};

@@ -2,7 +2,7 @@
 // tightest loop, since hints are most of a log.
 ghost use Rattle.std.specs.Prelude.{◌≡◌, ◌<◌, ◌≤◌, ◌^◌, ℕ, List, [], ◌∷◌, ◌++◌, Ok, Some, length, OnOk, IfOk, IfErr};
 ghost use Rattle.std.specs.Prelude.{IfSome};
-ghost use Rattle.cnf_base.specs.Answers.{Answers};
+ghost use Rattle.cnf_base.specs.Answers.{Answers, StepsTo, ReadsOn};
 ghost use Rattle.cnf_base.specs.Numerals.{number_of};
 ghost use Rattle.lrat_log.specs.declared.line.Line.{Line};
 ghost use Rattle.lrat_log.specs.Logs.{IsLog, IsLogOver};
@@ -11,7 +11,7 @@ ghost use Rattle.lrat_log.specs.Reading.{read_of};
 ghost use Rattle.lrat_log.specs.WordByWord.{at_start, take_id, take_literal, take_second, take_hint, take_deleted};
 ghost use Rattle.lrat_log.specs.WordByWord.{take_word, with_addition, with_deletion, ended, read_words};
 ghost use Rattle.lrat_log.specs.WordByWord.{read_by_words};
-ghost use Rattle.lrat_log.specs.ReaderState.{state_of, is_for_ids, StepsTo, ReadsOn};
+ghost use Rattle.lrat_log.specs.ReaderState.{state_of, is_for_ids};
 ghost use Rattle.base.specs.Because.{Because};
 ghost use Rattle.base.specs.declared.refused.Refused.{Refused};
 ghost use Rattle.base.specs.declared.refused.Refused.TheVariants.{For};
@@ -59,7 +59,7 @@ impl Reading {
     }
 
     fn take_id(&mut self, number: Option<Numeral>, at: u64) -> Result<(), Refused<LogFault>>
-        ensures { StepsTo (take_id (state_of self.old) number at) self.new result }
+        ensures { StepsTo (take_id (state_of self.old) number at) (state_of self.new) result }
     {
         let Some(number) = number else {
             return Err(fault(LogFaultCode::BadNumber, at));
@@ -78,7 +78,7 @@ impl Reading {
 
     fn take_literal(&mut self, number: Option<Numeral>, at: u64) -> Result<(), Refused<LogFault>>
         requires { IfSome number (λ n. n.value < 2 ^ 31) }
-        ensures { StepsTo (take_literal (state_of self.old) number at) self.new result }
+        ensures { StepsTo (take_literal (state_of self.old) number at) (state_of self.new) result }
     {
         let Some(number) = number else {
             return Err(fault(LogFaultCode::BadNumber, at));
@@ -100,7 +100,8 @@ impl Reading {
     }
 
     fn take_second(&mut self, word: &[u8], at: u64) -> Result<(), Refused<LogFault>>
-        ensures { StepsTo (take_second (state_of self.old) (record { at = at; text = word.now })) self.new result }
+        ensures { StepsTo (take_second (state_of self.old) (record { at = at; text = word.now }))
+            (state_of self.new) result }
     {
         if word == b"d".as_slice() {
             self.stage = Stage::Deleted;
@@ -118,7 +119,7 @@ impl Reading {
         number: Option<Numeral>,
         at: u64,
     ) -> Result<(), Refused<LogFault>>
-        ensures { StepsTo (take_hint (state_of self.old) number at) self.new result }
+        ensures { StepsTo (take_hint (state_of self.old) number at) (state_of self.new) result }
     {
         let Some(number) = number else {
             return Err(fault(LogFaultCode::BadNumber, at));
@@ -141,7 +142,7 @@ impl Reading {
         number: Option<Numeral>,
         at: u64,
     ) -> Result<(), Refused<LogFault>>
-        ensures { StepsTo (take_deleted (state_of self.old) number at) self.new result }
+        ensures { StepsTo (take_deleted (state_of self.old) number at) (state_of self.new) result }
     {
         let Some(number) = number else {
             return Err(fault(LogFaultCode::BadNumber, at));
@@ -159,7 +160,8 @@ impl Reading {
     }
 
     fn push_id(&mut self, id: u64) -> Result<(), Refused<LogFault>>
-        ensures { StepsTo (Ok (record (state_of self.old) { ids = self.old.ids.items ++ id ∷ [] })) self.new result }
+        ensures { StepsTo (Ok (record (state_of self.old) { ids = self.old.ids.items ++ id ∷ [] }))
+            (state_of self.new) result }
     {
         match self.ids.push(id) {
             Ok(()) => Ok(()),
@@ -206,7 +208,7 @@ impl Reading {
     ) -> Result<(), Refused<LogFault>>
         requires { number.value < 2 ^ 31 }
         ensures { (text : List ℕ) → number_of text ≡ Some number
-            → StepsTo (take_word (state_of self.old) (record { at = at; text = text })) self.new result }
+            → StepsTo (take_word (state_of self.old) (record { at = at; text = text })) (state_of self.new) result }
     {
         match self.stage {
             Stage::Id => self.take_id(Some(number), at),
@@ -251,7 +253,8 @@ impl Reading {
         alloc: Global,
         words: &mut Words<'_>,
     ) -> Result<(), Refused<LogFault>>
-        ensures taken { ReadsOn (state_of self.old) words.old self.new words.new result }
+        ensures taken { ReadsOn (read_words (state_of self.old) words.old)
+            (read_words (state_of self.new) words.new) result }
         ensures shorter { length words.new ≤ length words.old }
     {
         while let Some((at, number)) = words.next_number() {
@@ -267,7 +270,8 @@ impl Reading {
     }
 
     fn take_word(&mut self, alloc: Global, word: &[u8], at: u64) -> Result<(), Refused<LogFault>>
-        ensures { StepsTo (take_word (state_of self.old) (record { at = at; text = word.now })) self.new result }
+        ensures { StepsTo (take_word (state_of self.old) (record { at = at; text = word.now }))
+            (state_of self.new) result }
     {
         match self.stage {
             Stage::Id => self.take_id(number_of(word), at),
