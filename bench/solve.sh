@@ -10,7 +10,7 @@ work=${WORK:-$(mktemp -d)}
 repeat=${REPEAT:-9}
 
 mkdir -p "$work/crates/solve_file/src"
-for crate in base cnf_base lrat_log cdcl_tables cdcl; do
+for crate in base cnf_base lrat_log renumbering cdcl_tables cdcl; do
     rm -rf "$work/crates/$crate"
     cp -a "$here/../crates/$crate" "$work/crates/"
 done
@@ -18,8 +18,9 @@ cat >"$work/crates.txt" <<'END'
 base:
 cnf_base: base smallvec indexmap itoa
 lrat_log: cnf_base base
+renumbering: lrat_log cnf_base base
 cdcl_tables: lrat_log cnf_base base smallvec
-cdcl: cdcl_tables lrat_log cnf_base base
+cdcl: cdcl_tables renumbering lrat_log cnf_base base
 solve_file: cdcl lrat_log cnf_base base
 END
 cat >"$work/crates/solve_file/src/main.rt" <<'END'

@@ -15,5 +15,7 @@ pub record IsAdded (old new : Watches) (place : ℕ) (p : Pair) : Type 0 where
   pub in_first : (p.first ≡ p.second → ⊥) → StandsIn (list_at new.lists.items p.first) place
   pub in_second : (p.first ≡ p.second → ⊥) → StandsIn (list_at new.lists.items p.second) place
   -- and nothing else
-  pub are_watches : (held : Held) → ((p.first ≡ p.second → ⊥) → (c : List ℕ) × (held (place + 1) ≡ Some (Clause c)) × IsPairOf c p)
-      → ((x : ℕ) → AreWatches held (pair_at new.pairs.items) (list_at old.lists.items x)) → (x : ℕ) → AreWatches held (pair_at new.pairs.items) (list_at new.lists.items x)
+  pub are_watches : (held : Held)
+      → ((p.first ≡ p.second → ⊥) → (c : List ℕ) × (held (place + 1) ≡ Some (Clause c)) × IsPairOf c p)
+      → ((x : ℕ) → AreWatches held (pair_at new.pairs.items) (list_at old.lists.items x)) → (x : ℕ)
+      → AreWatches held (pair_at new.pairs.items) (list_at new.lists.items x)

@@ -27,8 +27,11 @@ IsSolved f budget (Sat values) = IsModel f values
 IsSolved f budget (Unsat log) = IsRefutation f budget log
 IsSolved f budget (Spent log) = IsSpent f budget log
 
--- From a search: all variables are set and nothing is left to draw; the hints refute; or a clause is false above level 0.
+-- From a search: all variables are set and nothing is left to draw; the hints refute; or a clause is false above level
+-- 0.
 abbrev pub IsTurn : Search → Turn → Type 0
-IsTurn old (Satisfied s) = (s.state.clauses ≡ old.state.clauses) × (s.head ≡ length s.state.trail.steps) × AreAllSet s.state.trail
+IsTurn old (Satisfied s) = (s.state.clauses ≡ old.state.clauses) × (s.head ≡ length s.state.trail.steps)
+    × AreAllSet s.state.trail
 IsTurn old (Refuted hints) = IsResolvent (held_in old.state) [] hints.items
-IsTurn old (Conflict s id) = (s.state.clauses ≡ old.state.clauses) × (0 < length s.starts.items) × IsConflict (held_in s.state) s.state.trail.steps id
+IsTurn old (Conflict s id) = (s.state.clauses ≡ old.state.clauses) × (0 < length s.starts.items)
+    × IsConflict (held_in s.state) s.state.trail.steps id

@@ -10,5 +10,6 @@ use Rattle.cdcl.specs.TrailValue.{TrailValue}
 -- The literals of each clause have values, and each literal of the trail is a decision or has its reason.
 pub record IsHolding (clauses : List Entry) (t : TrailValue) : Type 0 where
   pub trail : IsTrail (held_by clauses) t.steps
-  pub small : (id : ℕ) (c : List ℕ) → held_by clauses id ≡ Some (Clause c) → All (λ l. (l < t.size) × (opposite l < t.size)) c
+  pub small : (id : ℕ) (c : List ℕ) → held_by clauses id ≡ Some (Clause c)
+      → All (λ l. (l < t.size) × (opposite l < t.size)) c
   pub few : length clauses < 2 ^ 31

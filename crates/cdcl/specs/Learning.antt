@@ -1,5 +1,6 @@
 -- What the analysis of a conflict needs and gives.
-use Rattle.std.specs.Prelude.{ℕ, zero, suc, ◌-◌, ◌<◌, ◌≤◌, ◌≡◌, ◌⊎◌, Bool, true, false, List, get_or, Option, Some, None, eqb}
+use Rattle.std.specs.Prelude.{ℕ, zero, suc, ◌-◌, ◌<◌, ◌≤◌, ◌≡◌, ◌⊎◌, Bool, true, false, List, get_or, Option, Some}
+use Rattle.std.specs.Prelude.{None, eqb}
 use Rattle.cnf_base.specs.Literals.{opposite, member}
 use Rattle.cdcl.specs.declared.trail.Step.{Step}
 use Rattle.cdcl.specs.Trail.{literal_at, IsBelow, IsFrom}
@@ -30,7 +31,8 @@ HasOneTop top t tops = (tops ≡ 0) ⊎ ((tops ≡ 1) × (t ≤ top))
 
 -- Each learnt literal was set at the top level, or before second.
 abbrev pub AreBeforeSecond : List Step → ℕ → List ℕ → ℕ → Type 0
-AreBeforeSecond trail top learnt second = (x : ℕ) → member x learnt ≡ true → IsFrom trail top (opposite x) ⊎ IsBelow trail second (opposite x)
+AreBeforeSecond trail top learnt second = (x : ℕ) → member x learnt ≡ true
+    → IsFrom trail top (opposite x) ⊎ IsBelow trail second (opposite x)
 
 -- The opposite of the literal just before second is learnt.
 abbrev pub IsSecond : List Step → List ℕ → ℕ → Type 0

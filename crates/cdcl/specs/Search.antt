@@ -5,11 +5,13 @@ use Rattle.cdcl.specs.declared.state.State.{State}
 use Rattle.cdcl.specs.Trail.{reason_at}
 use Rattle.cdcl.specs.State.{IsState, IsSafeAt, IsWatchingAt}
 
--- Starts are the places of the trail where a level begins, from level 1 on: at them, and only there, stand the decisions.
+-- Starts are the places of the trail where a level begins, from level 1 on: at them, and only there, stand the
+-- decisions.
 pub record AreStarts (trail : List Step) (starts : List ℕ) : Type 0 where
   pub rising : (i j : ℕ) → i < j → j < length starts → get_or starts i 0 < get_or starts j 0
   pub inside : (i : ℕ) → i < length starts → get_or starts i 0 < length trail
-  pub decided : (i : ℕ) → i < length trail → reason_at trail i ≡ 0 → (j : ℕ) × (j < length starts) × (get_or starts j 0 ≡ i)
+  pub decided : (i : ℕ) → i < length trail → reason_at trail i ≡ 0 → (j : ℕ) × (j < length starts)
+      × (get_or starts j 0 ≡ i)
 
 -- At each decision no held clause is false or unit under the trail below it; below head all consequences were drawn.
 pub record IsWatchingLevels (s : State) (starts : List ℕ) (head : ℕ) : Type 0 where

@@ -11,9 +11,6 @@ pub record IsSearch (s : Search) : Type 0 where
   pub marked : length s.marks.items ≡ s.state.trail.size
   pub clear : (l : ℕ) → is_marked s.marks.items l ≡ false
 
-abbrev pub AreRising : List ℕ → Type 0
-AreRising starts = (i j : ℕ) → i < j → j < length starts → get_or starts i 0 < get_or starts j 0
-
 -- The levels that begin at `second` or later are gone, and their literals with them.
 pub record WentBack (old new : Search) (second : ℕ) : Type 0 where
   pub clauses : new.state.clauses ≡ old.state.clauses

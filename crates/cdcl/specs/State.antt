@@ -21,7 +21,8 @@ lists_of s = list_at s.watches.lists.items
 -- The literals of each clause have values and lists, and each clause has a pair.
 pub record IsState (s : State) : Type 0 where
   pub trail : IsTrail (held_in s) s.trail.steps
-  pub small : (id : ℕ) (c : List ℕ) → held_in s id ≡ Some (Clause c) → All (λ l. (l < s.trail.size) × (opposite l < s.trail.size)) c
+  pub small : (id : ℕ) (c : List ℕ) → held_in s id ≡ Some (Clause c)
+      → All (λ l. (l < s.trail.size) × (opposite l < s.trail.size)) c
   pub paired : length s.watches.pairs.items ≡ length s.clauses
   pub listed : length s.watches.lists.items ≡ s.trail.size
   pub few : length s.clauses < 2 ^ 31
@@ -43,4 +44,5 @@ IsWatchingAt s head = IsWatching (held_in s) s.trail.steps head (pairs_of s) (li
 -- the list of the literal that became false at head was taken out, and its watches before n are to be visited
 pub record IsVisiting (s : State) (head : ℕ) (list : List Watch) (n : ℕ) : Type 0 where
   pub within : head < length s.trail.steps
-  pub visited : AreVisited (held_in s) s.trail.steps head (pairs_of s) (lists_of s) (opposite (literal_at s.trail.steps head)) list n
+  pub visited : AreVisited (held_in s) s.trail.steps head (pairs_of s) (lists_of s)
+      (opposite (literal_at s.trail.steps head)) list n

@@ -1,5 +1,6 @@
 -- The literals that are set, in the order in which they were set.
-use Rattle.std.specs.Prelude.{ℕ, zero, suc, ◌+◌, ◌<◌, ◌≤◌, ◌≡◌, ◌⊎◌, ◌||◌, eqb, Bool, true, false, if◌then◌else◌, List, length, get_or, Some}
+use Rattle.std.specs.Prelude.{ℕ, zero, suc, ◌+◌, ◌<◌, ◌≤◌, ◌≡◌, ◌⊎◌, ◌||◌, eqb, Bool, true, false, if◌then◌else◌, List}
+use Rattle.std.specs.Prelude.{length, get_or, Some}
 use Rattle.cnf_base.specs.declared.cnf.Entry.TheVariants.{Clause}
 use Rattle.cnf_base.specs.Literals.{opposite, member}
 use Rattle.lrat_log.specs.Held.{Held}

@@ -8,8 +8,10 @@ use Rattle.cdcl.specs.Trail.{IsBelow, IsFrom}
 
 -- hints are the hints from the first on
 pub record IsWalk (held : Held) (trail : List Step) (t : ℕ) (marked : ℕ → Bool) (learnt hints : List ℕ) : Type 0 where
-  -- each set between the marked literals with what is learnt false, and the trail below t with that, is refuted by the hints
-  pub chain : (set : ℕ → Bool) → ((l : ℕ) → marked l ≡ true → set l ≡ true) → ((l : ℕ) → member l learnt ≡ true → set (opposite l) ≡ true)
+  -- each set between the marked literals with what is learnt false, and the trail below t with that, is refuted by the
+  -- hints
+  pub chain : (set : ℕ → Bool) → ((l : ℕ) → marked l ≡ true → set l ≡ true)
+      → ((l : ℕ) → member l learnt ≡ true → set (opposite l) ≡ true)
       → ((l : ℕ) → set l ≡ true → IsBelow trail t l ⊎ (member (opposite l) learnt ≡ true)) → IsChain held hints set
   pub marked_below : (l : ℕ) → marked l ≡ true → IsBelow trail t l
   pub marked_drawn : (l : ℕ) → marked l ≡ true → StandsInHint held hints (opposite l)

@@ -81,9 +81,11 @@ pub record IsListed (lists : Lists) (f : ℕ) (list : List Watch) (w k : ℕ) : 
 
 -- The list of f, the opposite of the literal at head, was taken out. Its watches are visited from the last on: those
 -- before index n are to do.
-pub record AreVisited (held : Held) (trail : List Step) (head : ℕ) (pairs : Pairs) (lists : Lists) (f : ℕ) (list : List Watch) (n : ℕ) : Type 0 where
+pub record AreVisited (held : Held) (trail : List Step) (head : ℕ) (pairs : Pairs) (lists : Lists) (f : ℕ)
+    (list : List Watch) (n : ℕ) : Type 0 where
   pub todo : AreSafe held (was_set trail head) (is_set trail) pairs
-  pub done : (k : ℕ) (c : List ℕ) → held (k + 1) ≡ Some (Clause c) → (StandsBefore list n k → ⊥) → IsSafe (was_set trail (head + 1)) (is_set trail) c (pairs k)
+  pub done : (k : ℕ) (c : List ℕ) → held (k + 1) ≡ Some (Clause c) → (StandsBefore list n k → ⊥)
+      → IsSafe (was_set trail (head + 1)) (is_set trail) c (pairs k)
   pub listed : (k : ℕ) (c : List ℕ) → held (k + 1) ≡ Some (Clause c) → IsPairOf c (pairs k)
       → IsListed lists f list (pairs k).first k × IsListed lists f list (pairs k).second k
   pub watches : (w : ℕ) → AreWatches held pairs (lists w)

@@ -1,5 +1,6 @@
 // From a conflict back to a clause that follows.
-ghost use Rattle.std.specs.Prelude.{List, ◌≡◌, ◌≢◌, ◌⊎◌, ℕ, Bool, true, false, not, ◌==◌, ◌&&◌, ◌||◌, ◌+◌, ◌-◌, ◌*◌, ◌^◌, ◌<◌, ◌≤◌, [], ◌∷◌, ◌++◌, length, All, IfOk, OnOk, get_or, reverse, Some, min};
+ghost use Rattle.std.specs.Prelude.{List, ◌≡◌, ◌≢◌, ◌⊎◌, ℕ, true, false, not, ◌==◌, ◌&&◌, ◌||◌, ◌+◌, ◌<◌, ◌≤◌, []};
+ghost use Rattle.std.specs.Prelude.{◌^◌, length, All, IfOk, OnOk, reverse, Some, min};
 ghost use Rattle.cnf_base.specs.declared.cnf.Entry.TheVariants.{Clause};
 ghost use Rattle.cnf_base.specs.Literals.{opposite, member};
 ghost use Rattle.lrat_log.specs.Learnt.{IsResolvent, IsQuiet, IsLearnt};
@@ -79,7 +80,8 @@ fn mark_clause(
 ) -> usize
     requires small { All (λ l. (l < trail.now.size) × (opposite l < trail.now.size)) clause.now }
     requires size { length marks.old ≡ trail.now.size }
-    ensures { (l : ℕ) → is_marked marks.new l ≡ (is_marked marks.old l || (member (opposite l) clause.now && not (is_except except (opposite l)))) }
+    ensures { (l : ℕ) → is_marked marks.new l ≡
+        (is_marked marks.old l || (member (opposite l) clause.now && not (is_except except (opposite l)))) }
 {
     let mut open = 0usize;
     for l in clause {
@@ -143,8 +145,10 @@ fn is_reason_implied(
 /// Whether a marked literal is learnt and not resolved: always where it was decided.
 fn is_kept(step: &Step, met: Met, analysis: Analysis) -> bool
     ensures decision { step.now.reason ≡ 0 → result ≡ true }
-    ensures root { step.now.reason ≢ 0 → met.place < analysis.levels.top → met.place < analysis.levels.root → result ≡ false }
-    ensures only { step.now.reason ≢ 0 → analysis.levels.top ≤ met.place → analysis.decisions_only ≡ true → result ≡ false }
+    ensures root { step.now.reason ≢ 0 → met.place < analysis.levels.top → met.place < analysis.levels.root
+        → result ≡ false }
+    ensures only { step.now.reason ≢ 0 → analysis.levels.top ≤ met.place → analysis.decisions_only ≡ true
+        → result ≡ false }
 {
     let levels = analysis.levels;
     if step.reason == 0 {
@@ -208,15 +212,20 @@ fn analyse(
     requires size { length marks.old ≡ trail.now.size }
     requires clear { (l : ℕ) → is_marked marks.old l ≡ false }
     requires conflict { IsConflict (held_by clauses.now) trail.now.steps analysis.conflict }
-    requires decisions { (i : ℕ) → analysis.levels.top < i → i < length trail.now.steps → reason_at trail.now.steps i ≢ 0 }
+    requires decisions { (i : ℕ) → analysis.levels.top < i → i < length trail.now.steps
+        → reason_at trail.now.steps i ≢ 0 }
     ensures resolvent { IfOk result (λ w. IsResolvent (held_by clauses.now) w.literals.items (reverse w.hints.items)) }
     ensures tops { IfOk result (λ w. HasTops trail.now.steps analysis.levels.top w.literals.items w.tops) }
-    ensures some { IsQuiet (held_by clauses.now) (was_set trail.now.steps analysis.levels.top) → IfOk result (λ w. 0 < w.tops) }
-    ensures root { length trail.now.steps ≤ analysis.levels.root → length trail.now.steps ≤ analysis.levels.top → ((i : ℕ) → i < length trail.now.steps → reason_at trail.now.steps i ≢ 0) → IfOk result (λ w. w.literals.items ≡ []) }
+    ensures some { IsQuiet (held_by clauses.now) (was_set trail.now.steps analysis.levels.top)
+        → IfOk result (λ w. 0 < w.tops) }
+    ensures root { length trail.now.steps ≤ analysis.levels.root → length trail.now.steps ≤ analysis.levels.top
+        → ((i : ℕ) → i < length trail.now.steps → reason_at trail.now.steps i ≢ 0)
+        → IfOk result (λ w. w.literals.items ≡ []) }
     ensures second { IfOk result (λ w. AreBeforeSecond trail.now.steps analysis.levels.top w.literals.items w.second) }
     ensures second_at_most { IfOk result (λ w. w.second ≤ analysis.levels.top) }
     ensures second_stands { IfOk result (λ w. IsSecond trail.now.steps w.literals.items w.second) }
-    ensures below { IfOk result (λ w. (x : ℕ) → member x w.literals.items ≡ true → IsBelow trail.now.steps (length trail.now.steps) (opposite x)) }
+    ensures below { IfOk result (λ w. (x : ℕ) → member x w.literals.items ≡ true
+        → IsBelow trail.now.steps (length trail.now.steps) (opposite x)) }
     ensures one { analysis.decisions_only ≡ true → IfOk result (λ w. w.tops ≤ 1) }
     ensures clear { OnOk result ((l : ℕ) → is_marked marks.new l ≡ false) }
 {

@@ -4,14 +4,15 @@
 #![tactic(auto)]
 
 mod analyse;
-mod kept;
 mod load;
 mod pairing;
 mod propagate;
 mod search;
 mod solver;
+mod sparse;
 mod state;
 mod trail;
 mod truth;
 
-pub use solver::{Answer, Solved, solve, solve_into};
+pub use solver::{Answer, Solved};
+pub use sparse::{solve, solve_into};

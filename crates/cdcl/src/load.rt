@@ -1,12 +1,11 @@
 // How a search begins: all clauses held, and those of one literal set.
-ghost use Rattle.std.specs.Prelude.{List, ◌≡◌, ◌≢◌, ℕ, ◌+◌, ◌-◌, ◌*◌, ◌^◌, ◌<◌, ◌≤◌, [], ◌∷◌, ◌++◌, length, IfOk, OnOk, IfSome, IfNone, All};
+ghost use Rattle.std.specs.Prelude.{List, ◌≡◌, ℕ, ◌+◌, ◌*◌, ◌^◌, ◌<◌, ◌≤◌, [], ◌∷◌, ◌++◌, length, IfOk, OnOk, IfSome};
+ghost use Rattle.std.specs.Prelude.{IfNone, All};
 ghost use Rattle.cnf_base.specs.declared.cnf.Entry.TheVariants.{Clause, True};
 ghost use Rattle.cnf_base.specs.Literals.{opposite};
 ghost use Rattle.cnf_base.specs.Clauses.{IsClause};
 ghost use Rattle.cnf_base.specs.Formulas.{IsFormula};
-ghost use Rattle.lrat_log.specs.Held.{held_of};
-ghost use Rattle.lrat_log.specs.Learnt.{IsResolvent};
-ghost use Rattle.cdcl.specs.Solver.{IsSearch, IsRefuted};
+ghost use Rattle.cdcl.specs.Solver.{IsRefuted};
 ghost use Rattle.cdcl.specs.Loading.{IsAtRoot, IsLoaded};
 ghost use Rattle.cdcl.specs.Watch.{IsPairOf};
 
@@ -99,7 +98,8 @@ impl Search {
     fn add_watched(&mut self, clause: &[Lit], pair: Pair) -> Mem<()>
         requires root { IsAtRoot self.old }
         requires pair { IsPairOf clause.now pair }
-        requires small { All (λ l. (l < self.old.state.trail.size) × (opposite l < self.old.state.trail.size)) clause.now }
+        requires small { All (λ l. (l < self.old.state.trail.size)
+            × (opposite l < self.old.state.trail.size)) clause.now }
         requires room { length self.old.state.clauses + 1 < 2 ^ 31 }
         ensures clauses { OnOk result (self.new.state.clauses ≡ self.old.state.clauses ++ Clause clause.now ∷ []) }
         ensures size { OnOk result (self.new.state.trail.size ≡ self.old.state.trail.size) }
@@ -125,7 +125,8 @@ impl Search {
     fn add_clause(&mut self, clause: &[Lit]) -> Mem<Option<u32>>
         requires root { IsAtRoot self.old }
         requires clause { IsClause clause.now }
-        requires small { All (λ l. (l < self.old.state.trail.size) × (opposite l < self.old.state.trail.size)) clause.now }
+        requires small { All (λ l. (l < self.old.state.trail.size)
+            × (opposite l < self.old.state.trail.size)) clause.now }
         requires room { length self.old.state.clauses + 1 < 2 ^ 31 }
         ensures clauses { OnOk result (self.new.state.clauses ≡ self.old.state.clauses ++ Clause clause.now ∷ []) }
         ensures size { IfOk result (λ r. IfNone r (self.new.state.trail.size ≡ self.old.state.trail.size)) }
@@ -154,7 +155,8 @@ impl Search {
 
     fn add_entry(&mut self, entry: &Entry) -> Mem<Option<u32>>
         requires root { IsAtRoot self.old }
-        requires entry { (c : List ℕ) → entry.now ≡ Clause c → IsClause c × All (λ l. (l < self.old.state.trail.size) × (opposite l < self.old.state.trail.size)) c }
+        requires entry { (c : List ℕ) → entry.now ≡ Clause c → IsClause c
+            × All (λ l. (l < self.old.state.trail.size) × (opposite l < self.old.state.trail.size)) c }
         requires room { length self.old.state.clauses + 1 < 2 ^ 31 }
         ensures clauses { OnOk result (self.new.state.clauses ≡ self.old.state.clauses ++ entry.now ∷ []) }
         ensures size { IfOk result (λ r. IfNone r (self.new.state.trail.size ≡ self.old.state.trail.size)) }

@@ -1,23 +1,23 @@
 // Unit propagation.
-ghost use Rattle.std.specs.Prelude.{List, ◌≡◌, ◌≢◌, ◌⊎◌, ℕ, Bool, true, false, ◌+◌, ◌-◌, ◌*◌, ◌^◌, ◌<◌, ◌≤◌, [], ◌∷◌, ◌++◌, length, All, IfOk, OnOk, MatchOption, IfSome, IfNone, get_or, set, Some};
-ghost use Rattle.cnf_base.specs.declared.cnf.Entry.TheVariants.{Clause};
-ghost use Rattle.cnf_base.specs.Literals.{opposite, member};
-ghost use Rattle.cdcl.specs.Trail.{is_set, literal_at, IsTrail, IsConflict};
-ghost use Rattle.lrat_log.specs.Held.{held_by};
+ghost use Rattle.std.specs.Prelude.{◌≡◌, ℕ, ◌+◌, ◌<◌, ◌≤◌, length, All, IfOk, OnOk, MatchOption, IfSome, IfNone, set};
+ghost use Rattle.std.specs.Prelude.{Some};
+ghost use Rattle.cnf_base.specs.Literals.{opposite};
+ghost use Rattle.cdcl.specs.Trail.{is_set, IsConflict};
 ghost use Rattle.cdcl.specs.Visit.{AreFalseBut, IsOpen};
 ghost use Rattle.cdcl.specs.State.{held_in, IsState, Grows, IsVisiting, IsWatchingAt};
 
 use crate::state::State;
 use crate::trail::Trail;
 use base::Mem;
-use cdcl_tables::{Pair, Watch, WatchList};
+use cdcl_tables::{Watch, WatchList, other_of};
 use cnf_base::Lit;
 use std::alloc::Global;
 
 /// A literal of a clause that is not false and neither of two.
 pub fn open_literal(trail: &Trail, clause: &[Lit], one: Lit, other: Lit) -> Option<Lit>
     requires { All (λ l. (l < trail.now.size) × (opposite l < trail.now.size)) clause.now }
-    ensures { MatchOption result (AreFalseBut (is_set trail.now.steps) clause.now one other) (IsOpen (is_set trail.now.steps) clause.now one other) }
+    ensures { MatchOption result (AreFalseBut (is_set trail.now.steps) clause.now one other)
+        (IsOpen (is_set trail.now.steps) clause.now one other) }
 {
     for l in clause {
         if *l != one && *l != other && !trail.is_set(l.opposite()) {
@@ -25,18 +25,6 @@ pub fn open_literal(trail: &Trail, clause: &[Lit], one: Lit, other: Lit) -> Opti
         }
     }
     None
-}
-
-/// The literal of a pair beside one of them.
-fn other_of(pair: Pair, one: Lit) -> Lit
-    ensures stands { (result ≡ pair.first) ⊎ (result ≡ pair.second) }
-    ensures different { (pair.first ≡ pair.second → ⊥) → result ≢ one }
-{
-    if pair.first == one {
-        pair.second
-    } else {
-        pair.first
-    }
 }
 
 impl State {

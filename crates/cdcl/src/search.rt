@@ -1,6 +1,6 @@
 // The search: decisions, and the way back from a conflict.
-ghost use Rattle.std.specs.Prelude.{List, ◌≡◌, ◌≢◌, ℕ, true, false, ◌+◌, ◌-◌, ◌*◌, ◌^◌, ◌<◌, ◌≤◌, [], ◌∷◌, ◌++◌, length, IfOk, OnOk, IfSome, IfNone, get_or, take};
-ghost use Rattle.std.specs.Prelude.{reverse, All, MatchOption};
+ghost use Rattle.std.specs.Prelude.{◌≡◌, ◌≢◌, ℕ, false, ◌+◌, ◌-◌, ◌^◌, ◌<◌, ◌≤◌, [], ◌∷◌, ◌++◌, length, IfOk, OnOk};
+ghost use Rattle.std.specs.Prelude.{IfSome, IfNone, get_or, reverse, All, MatchOption};
 ghost use Rattle.cnf_base.specs.declared.cnf.Entry.TheVariants.{Clause};
 ghost use Rattle.cnf_base.specs.Literals.{opposite};
 ghost use Rattle.lrat_log.specs.Learnt.{IsUnit, IsLearnt, IsResolvent};
@@ -9,13 +9,13 @@ ghost use Rattle.cdcl.specs.Learning.{is_marked, IsSecond};
 ghost use Rattle.cdcl.specs.State.{held_in, IsState};
 ghost use Rattle.cdcl.specs.Found.{IsFound};
 ghost use Rattle.cdcl.specs.Assigned.{IsUnset, AreAllSet};
-ghost use Rattle.cdcl.specs.Solver.{IsSearch, AreRising, WentBack, IsCut};
+ghost use Rattle.cdcl.specs.Solver.{IsSearch, WentBack, IsCut};
 
 use crate::analyse::{Learnt, Levels, learn, refute};
 use crate::state::State;
 use crate::trail::Trail;
 use base::Mem;
-use cdcl_tables::{Order, Phases, Restarts};
+use cdcl_tables::{Order, Phases, Restarts, pop_starts};
 use cnf_base::Lit;
 use std::alloc::Global;
 use std::marker::Model;
@@ -49,26 +49,6 @@ impl Model for Solver {
     ghost invariant = { λ a. IsSearch a.search };
 }
 
-/// Takes off the starts that are not before a place, at least one; the answer is the lowest of them.
-fn pop_starts(starts: &mut Vec<usize>, second: usize) -> usize
-    requires some { 0 < length starts.old.items }
-    requires last { second ≤ get_or starts.old.items (length starts.old.items - 1) 0 }
-    requires rising { AreRising starts.old.items }
-    ensures fewer { length starts.new.items < length starts.old.items }
-    ensures starts { starts.new.items ≡ take (length starts.new.items) starts.old.items }
-    ensures to { result ≡ get_or starts.old.items (length starts.new.items) 0 }
-    ensures above { second ≤ result }
-    ensures before { (i : ℕ) → i < length starts.new.items → get_or starts.old.items i 0 < second }
-{
-    let mut level = starts.len() - 1;
-    while level > 0 && starts[level - 1] >= second {
-        level -= 1;
-    }
-    let to = starts[level];
-    starts.truncate(level);
-    to
-}
-
 /// An unset variable, if there is one. Only where the order is empty, so once a search, are all looked at.
 fn next_unset(order: &mut Order, trail: &Trail) -> Option<u32>
     ensures { MatchOption result (AreAllSet trail.now) (IsUnset trail.now) }
@@ -92,7 +72,8 @@ impl Search {
         ensures solver { OnOk result (IsSearch self.new) }
         ensures clauses { OnOk result (self.new.state.clauses ≡ self.old.state.clauses) }
         ensures size { OnOk result (self.new.state.trail.size ≡ self.old.state.trail.size) }
-        ensures fewer { OnOk result (free (is_set self.new.state.trail.steps) self.old.state.trail.size + 1 ≡ free (is_set self.old.state.trail.steps) self.old.state.trail.size) }
+        ensures fewer { OnOk result (free (is_set self.new.state.trail.steps) self.old.state.trail.size + 1 ≡ free
+            (is_set self.old.state.trail.steps) self.old.state.trail.size) }
     {
         let literal = self.phases.literal(variable);
         self.starts.push(self.state.trail.len())?;
@@ -105,8 +86,10 @@ impl Search {
         ensures solver { OnOk result (IsSearch self.new) }
         ensures clauses { OnOk result (self.new.state.clauses ≡ self.old.state.clauses) }
         ensures size { OnOk result (self.new.state.trail.size ≡ self.old.state.trail.size) }
-        ensures fewer { OnOk result (free (is_set self.new.state.trail.steps) self.old.state.trail.size ≤ free (is_set self.old.state.trail.steps) self.old.state.trail.size) }
-        ensures conflict { IfOk result (λ r. IfSome r (λ id. IsConflict (held_in self.new.state) self.new.state.trail.steps id)) }
+        ensures fewer { OnOk result (free (is_set self.new.state.trail.steps) self.old.state.trail.size ≤ free
+            (is_set self.old.state.trail.steps) self.old.state.trail.size) }
+        ensures conflict { IfOk result (λ r. IfSome r
+            (λ id. IsConflict (held_in self.new.state) self.new.state.trail.steps id)) }
         ensures drawn { IfOk result (λ r. IfNone r (self.new.head ≡ length self.new.state.trail.steps)) }
     {
         let conflict = self.state.propagate(alloc, &mut self.head)?;
@@ -119,7 +102,8 @@ impl Search {
         ensures solver { OnOk result (IsSearch self.new) }
         ensures clauses { OnOk result (self.new.state.clauses ≡ self.old.state.clauses) }
         ensures size { OnOk result (self.new.state.trail.size ≡ self.old.state.trail.size) }
-        ensures conflict { IfOk result (λ r. IfSome r (λ id. IsConflict (held_in self.new.state) self.new.state.trail.steps id)) }
+        ensures conflict { IfOk result (λ r. IfSome r
+            (λ id. IsConflict (held_in self.new.state) self.new.state.trail.steps id)) }
         ensures drawn { IfOk result (λ r. IfNone r (self.new.head ≡ length self.new.state.trail.steps)) }
         ensures set { IfOk result (λ r. IfNone r (AreAllSet self.new.state.trail)) }
     {
@@ -168,7 +152,8 @@ impl Search {
         requires solver { IsSearch self.old }
         requires drawn { self.old.head ≡ length self.old.state.trail.steps }
         requires unit { IsUnit (is_set self.old.state.trail.steps) literals.now (get_or literals.now 0 0) }
-        requires small { All (λ l. (l < self.old.state.trail.size) × (opposite l < self.old.state.trail.size)) literals.now }
+        requires small { All (λ l. (l < self.old.state.trail.size)
+            × (opposite l < self.old.state.trail.size)) literals.now }
         requires second { second ≤ length self.old.state.trail.steps }
         requires stands { IsSecond self.old.state.trail.steps literals.now second }
         requires before { (i : ℕ) → i < length self.old.starts.items → get_or self.old.starts.items i 0 < second }
@@ -217,7 +202,8 @@ impl Search {
         requires some { 0 < length self.old.starts.items }
         requires room { length self.old.state.clauses + 1 < 2 ^ 31 }
         ensures solver { OnOk result (IsSearch self.new) }
-        ensures clauses { IfOk result (λ w. self.new.state.clauses ≡ self.old.state.clauses ++ Clause w.literals.items ∷ []) }
+        ensures clauses { IfOk result (λ w.
+            self.new.state.clauses ≡ self.old.state.clauses ++ Clause w.literals.items ∷ []) }
         ensures learnt { IfOk result (λ w. IsLearnt (held_in self.old.state) w.literals.items (reverse w.hints.items)) }
     {
         let learnt = self.analyse(alloc, conflict)?;
@@ -245,7 +231,8 @@ impl Search {
         requires marked { length self.old.marks.items ≡ self.old.state.trail.size }
         requires clear { (l : ℕ) → is_marked self.old.marks.items l ≡ false }
         requires conflict { IsConflict (held_in self.old.state) self.old.state.trail.steps conflict }
-        requires decisions { (i : ℕ) → i < length self.old.state.trail.steps → reason_at self.old.state.trail.steps i ≢ 0 }
+        requires decisions { (i : ℕ) → i < length self.old.state.trail.steps
+            → reason_at self.old.state.trail.steps i ≢ 0 }
         ensures same { OnOk result (self.new.state ≡ self.old.state) }
         ensures resolvent { IfOk result (λ hints. IsResolvent (held_in self.new.state) [] hints.items) }
     {

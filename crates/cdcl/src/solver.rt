@@ -1,7 +1,7 @@
 // The solver.
-ghost use Rattle.std.specs.Prelude.{List, ◌≡◌, ◌≢◌, ℕ, Bool, true, false, ◌+◌, ◌-◌, ◌*◌, ◌^◌, ◌<◌, ◌≤◌, [], ◌∷◌, ◌++◌, length, IfOk, OnOk, OnErr, get_or, reverse};
+ghost use Rattle.std.specs.Prelude.{List, ◌≡◌, ◌+◌, ◌-◌, ◌<◌, ◌≤◌, [], length, IfOk, OnOk, OnErr, reverse};
 ghost use Rattle.cnf_base.specs.declared.cnf.Entry.{Entry};
-ghost use Rattle.cnf_base.specs.Formulas.{value_of, IsModel};
+ghost use Rattle.cnf_base.specs.Formulas.{IsModel};
 ghost use Rattle.lrat_log.specs.declared.line.Line.{Line};
 ghost use Rattle.lrat_log.specs.declared.line.Line.TheVariants.{Add};
 ghost use Rattle.lrat_log.specs.Held.{held_by};
@@ -9,20 +9,19 @@ ghost use Rattle.lrat_log.specs.Accepted.{IsAccepted};
 ghost use Rattle.lrat_log.specs.Learnt.{IsResolvent};
 ghost use Rattle.lrat_log.specs.Logs.{IsLogOver};
 ghost use Rattle.lrat_log.specs.Refutations.{IsRefutation};
-ghost use Rattle.cdcl.specs.Trail.{is_set, IsConflict};
+ghost use Rattle.cdcl.specs.Trail.{IsConflict};
 ghost use Rattle.cdcl.specs.State.{held_in};
 ghost use Rattle.cdcl.specs.Assigned.{AreAllSet};
 ghost use Rattle.cdcl.specs.Logged.{IsLogged};
-ghost use Rattle.cdcl.specs.Answered.{IsAnswer, IsSolved, IsTurn};
+ghost use Rattle.cdcl.specs.Answered.{IsAnswer, IsTurn};
 
 use crate::analyse::Learnt;
-use crate::kept::Kept;
 use crate::load::{Loaded, load};
 use crate::search::Solver;
 use crate::truth::truth_values;
 use base::{Mem, Row};
 use cnf_base::{Cnf, Values};
-use lrat_log::{Line, Log, Sink, growth_laws, learnt_laws, range_laws};
+use lrat_log::{Line, Log, Sink, growth_laws, learnt_laws};
 use std::alloc::Global;
 
 /// What a search under a budget of learnt clauses ends with: truth values that satisfy the formula, a refutation, or
@@ -130,12 +129,14 @@ fn learn_line<S: Sink>(
 
 /// Hands the empty clause over, under the next id.
 fn refute<S: Sink>(alloc: Global, sink: &mut S, hints: Vec<u64>, id: u64) -> Mem<()>
-    requires logged { (held : List Entry) × IsLogged (S.formula sink.old) held (S.lines sink.old) × IsResolvent (held_by held) [] hints.items }
+    requires logged { (held : List Entry) × IsLogged (S.formula sink.old) held (S.lines sink.old)
+        × IsResolvent (held_by held) [] hints.items }
     requires id { id ≡ length (S.formula sink.old).clauses + length (S.lines sink.old) + 1 }
     requires room { length (S.formula sink.old).clauses + length (S.lines sink.old) ≤ 2147483646 }
     ensures formula { S.formula sink.new ≡ S.formula sink.old }
     ensures refuted { OnOk result (IsRefutation (S.formula sink.old) (length (S.lines sink.old)) (S.lines sink.new)) }
-    ensures range { OnOk result (IsLogOver (S.formula sink.old).variables (length (S.formula sink.old).clauses) (S.lines sink.new)) }
+    ensures range { OnOk result (IsLogOver (S.formula sink.old).variables (length (S.formula sink.old).clauses)
+        (S.lines sink.new)) }
     ensures kept { OnErr result (S.lines sink.new ≡ S.lines sink.old) }
 {
     growth_laws();
@@ -149,10 +150,8 @@ fn refute<S: Sink>(alloc: Global, sink: &mut S, hints: Vec<u64>, id: u64) -> Mem
     Ok(())
 }
 
-/// Searches for truth values that satisfy the formula of a sink, and hands each line of the log over as it is made.
-/// With each answer comes its evidence: the truth values, or the lines that were handed over, which refute the formula,
-/// or are just so many learnt clauses as the budget has. After want of memory too they are lines that are accepted.
-pub fn solve_into<S: Sink>(alloc: Global, sink: &mut S, budget: u64) -> Mem<Answer>
+/// As `solve_into`, with tables that go by the greatest variable of the formula.
+pub fn search_into<S: Sink>(alloc: Global, sink: &mut S, budget: u64) -> Mem<Answer>
     requires begins { S.lines sink.old ≡ [] }
     requires few { (S.formula sink.old).variables ≤ 2147483647 }
     requires room { length (S.formula sink.old).clauses + budget ≤ 2147483646 }
@@ -189,20 +188,4 @@ pub fn solve_into<S: Sink>(alloc: Global, sink: &mut S, budget: u64) -> Mem<Answ
         }
     }
     unreachable!()
-}
-
-/// As `solve_into`, with a log of the lines.
-pub fn solve(alloc: Global, cnf: &Cnf, budget: u64) -> Mem<Solved>
-    requires few { cnf.now.variables ≤ 2147483647 }
-    requires room { length cnf.now.clauses + budget ≤ 2147483646 }
-    ensures { IfOk result (IsSolved cnf.now budget) }
-{
-    range_laws();
-    let mut kept = Kept::new(alloc, cnf);
-    let solved = match solve_into(alloc, &mut kept, budget)? {
-        Answer::Sat(values) => Solved::Sat(values),
-        Answer::Unsat => Solved::Unsat(kept.into_log()),
-        Answer::Spent => Solved::Spent(kept.into_log()),
-    };
-    Ok(solved)
 }

@@ -1,8 +1,4 @@
 // The state of a search.
-ghost use Rattle.std.specs.Prelude.{List, ◌≡◌, ℕ, ◌+◌, ◌-◌, ◌^◌, ◌<◌, ◌≤◌, [], ◌∷◌, ◌++◌, length, OnOk, get_or};
-ghost use Rattle.cnf_base.specs.declared.cnf.Entry.TheVariants.{Clause, True};
-ghost use Rattle.cnf_base.specs.Literals.{opposite};
-
 use crate::pairing::watch;
 use crate::trail::Trail;
 use base::Mem;
@@ -18,7 +14,7 @@ pub struct State {
 }
 
 impl State {
-    ghost use Rattle.std.specs.Prelude.{List, ◌≡◌, ℕ, ◌+◌, ◌-◌, ◌^◌, ◌<◌, ◌≤◌, [], ◌∷◌, ◌++◌, length, OnOk, get_or};
+    ghost use Rattle.std.specs.Prelude.{◌≡◌, ◌+◌, ◌-◌, ◌^◌, ◌<◌, ◌≤◌, [], ◌∷◌, ◌++◌, length, OnOk};
     ghost use Rattle.cnf_base.specs.declared.cnf.Entry.TheVariants.{Clause, True};
     ghost use Rattle.cnf_base.specs.Literals.{opposite};
     ghost use Rattle.cdcl.specs.Added.{IsAdded};
@@ -47,7 +43,8 @@ impl State {
         requires room { length self.old.clauses < 2 ^ 31 }
         ensures clauses { OnOk result (self.new.clauses ≡ self.old.clauses ++ True ∷ []) }
         ensures trail { OnOk result (self.new.trail ≡ self.old.trail) }
-        ensures added { OnOk result (IsAdded self.old.watches self.new.watches (length self.old.clauses) (record { first = 2; second = 2 })) }
+        ensures added { OnOk result (IsAdded self.old.watches self.new.watches (length self.old.clauses)
+            (record { first = 2; second = 2 })) }
     {
         let place = self.clauses.len() as u32;
         self.clauses.push_true()?;

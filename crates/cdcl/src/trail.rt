@@ -1,5 +1,6 @@
 // The literals that are set, in the order in which they were set.
-ghost use Rattle.std.specs.Prelude.{List, ◌≡◌, ℕ, false, ◌+◌, ◌-◌, ◌*◌, ◌^◌, ◌<◌, ◌≤◌, [], ◌∷◌, ◌++◌, length, IfOk, OnOk, MatchOption, get_or, take};
+ghost use Rattle.std.specs.Prelude.{◌≡◌, false, ◌+◌, ◌-◌, ◌*◌, ◌^◌, ◌<◌, ◌≤◌, [], ◌∷◌, ◌++◌, length, IfOk, OnOk};
+ghost use Rattle.std.specs.Prelude.{MatchOption, get_or, take};
 ghost use Rattle.cnf_base.specs.Literals.{opposite};
 ghost use Rattle.cdcl.specs.Trail.{no_step, is_set};
 ghost use Rattle.std.specs.Bool.{OnTrue, OnFalse};
@@ -26,12 +27,10 @@ pub struct Trail {
 }
 
 impl Model for Trail {
-    ghost use Rattle.cnf_base.specs.Literals.{opposite};
     ghost use Rattle.cdcl.specs.TrailValue.{TrailValue};
 
     ghost Value = { TrailValue };
 
-    ghost use Rattle.cnf_base.specs.Literals.{opposite};
     ghost use Rattle.cdcl.specs.TrailView.{value_of_trail, IsInside};
 
     ghost view = { value_of_trail };
@@ -84,7 +83,8 @@ impl Trail {
     pub fn push(&mut self, literal: Lit, reason: u32) -> Mem<()>
         requires small { literal < self.old.size }
         requires unset { is_set self.old.steps literal ≡ false }
-        ensures steps { OnOk result (self.new.steps ≡ self.old.steps ++ record { literal = literal; reason = reason } ∷ []) }
+        ensures steps { OnOk result (self.new.steps ≡ self.old.steps ++
+            record { literal = literal; reason = reason } ∷ []) }
         ensures size { self.new.size ≡ self.old.size }
     {
         let place = self.steps.len();

@@ -1,5 +1,5 @@
 // The truth values that a trail gives.
-ghost use Rattle.std.specs.Prelude.{List, ◌≡◌, ℕ, ◌+◌, ◌*◌, ◌^◌, ◌<◌, ◌≤◌, [], ◌∷◌, ◌++◌, length, IfOk};
+ghost use Rattle.std.specs.Prelude.{◌≡◌, ℕ, ◌+◌, ◌*◌, ◌^◌, ◌<◌, ◌≤◌, length, IfOk};
 ghost use Rattle.cnf_base.specs.Formulas.{value_of};
 ghost use Rattle.cdcl.specs.Trail.{is_set};
 
@@ -12,7 +12,8 @@ use std::alloc::Global;
 pub fn truth_values(alloc: Global, trail: &Trail, variables: u32) -> Mem<Values>
     requires { variables < 2 ^ 31 }
     ensures len { IfOk result (λ v. length v ≡ variables) }
-    ensures values { IfOk result (λ v. (i : ℕ) → 0 < i → i ≤ variables → 2 * i < trail.now.size → value_of v i ≡ is_set trail.now.steps (2 * i)) }
+    ensures values { IfOk result (λ v. (i : ℕ) → 0 < i → i ≤ variables → 2 * i < trail.now.size
+        → value_of v i ≡ is_set trail.now.steps (2 * i)) }
 {
     let mut values = Vec::with_capacity(alloc, variables as usize)?;
     for index in 0..variables {

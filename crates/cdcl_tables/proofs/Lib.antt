@@ -1,2 +1,3 @@
 pub mod Spans
 pub mod Empty
+pub mod Rising

@@ -6,4 +6,5 @@ use Rattle.cnf_base.specs.Literals.{variable_of, member}
 
 -- the variables of each of the first i clauses are at most n
 abbrev pub AreUpTo : ℕ → List Entry → ℕ → Type 0
-AreUpTo n es i = (k : ℕ) (c : List ℕ) → k < i → get_or es k True ≡ Clause c → (l : ℕ) → member l c ≡ true → variable_of l ≤ n
+AreUpTo n es i = (k : ℕ) (c : List ℕ) → k < i → get_or es k True ≡ Clause c → (l : ℕ) → member l c ≡ true
+    → variable_of l ≤ n

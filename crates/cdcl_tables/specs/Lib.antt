@@ -1,3 +1,4 @@
 pub mod ClausesView
 pub mod Extent
+pub mod Levels
 pub mod Nothing

@@ -1,7 +1,8 @@
 // The two watched literals of each clause, and for each literal the clauses that watch it (Moskewicz, Madigan, Zhao,
 // Zhang and Malik, "Chaff", 2001). What holds between pairs and lists is said by the search, in `cdcl` and in
 // docs/WATCHES.md; the calls here say which entry they write.
-ghost use Rattle.std.specs.Prelude.{List, ◌≡◌, ℕ, ◌+◌, ◌-◌, ◌*◌, ◌^◌, ◌<◌, ◌≤◌, [], ◌∷◌, ◌++◌, length, IfOk, OnOk, OnErr, get_or, set, take};
+ghost use Rattle.std.specs.Prelude.{List, ◌≡◌, ◌≢◌, ◌⊎◌, ℕ, ◌+◌, ◌-◌, ◌<◌, [], ◌∷◌, ◌++◌, length, IfOk, OnOk, OnErr};
+ghost use Rattle.std.specs.Prelude.{get_or, set};
 ghost use Rattle.cdcl_tables.specs.Nothing.{no_watch, no_pair};
 
 use base::Mem;
@@ -16,6 +17,18 @@ use std::mem;
 pub struct Pair {
     pub first: Lit,
     pub second: Lit,
+}
+
+/// The literal of a pair beside one of them.
+pub fn other_of(pair: Pair, one: Lit) -> Lit
+    ensures stands { (result ≡ pair.first) ⊎ (result ≡ pair.second) }
+    ensures different { (pair.first ≡ pair.second → ⊥) → result ≢ one }
+{
+    if pair.first == one {
+        pair.second
+    } else {
+        pair.first
+    }
 }
 
 /// The place of a clause that watches a literal, and a literal of it that may be true already.
@@ -81,8 +94,10 @@ impl WatchList {
     pub fn remove(&mut self, i: usize)
         requires { i < length self.old }
         ensures len { length self.new + 1 ≡ length self.old }
-        ensures moved { i + 1 < length self.old → get_or self.new i no_watch ≡ get_or self.old (length self.old - 1) no_watch }
-        ensures kept { (k : ℕ) → k < length self.new → (k ≡ i → ⊥) → get_or self.new k no_watch ≡ get_or self.old k no_watch }
+        ensures moved { i + 1 < length self.old
+            → get_or self.new i no_watch ≡ get_or self.old (length self.old - 1) no_watch }
+        ensures kept { (k : ℕ) → k < length self.new → (k ≡ i → ⊥)
+            → get_or self.new k no_watch ≡ get_or self.old k no_watch }
     {
         self.watches.swap_remove(i);
     }
@@ -107,7 +122,8 @@ pub struct Watches {
 }
 
 impl Watches {
-    ghost use Rattle.std.specs.Prelude.{List, ◌≡◌, ℕ, ◌+◌, ◌-◌, ◌*◌, ◌^◌, ◌<◌, ◌≤◌, [], ◌∷◌, ◌++◌, length, IfOk, OnOk, OnErr, get_or, set, take};
+    ghost use Rattle.std.specs.Prelude.{List, ◌≡◌, ℕ, ◌+◌, ◌-◌, ◌<◌, [], ◌∷◌, ◌++◌, length, IfOk, OnOk, OnErr, get_or};
+    ghost use Rattle.std.specs.Prelude.{set};
     ghost use Rattle.cdcl_tables.specs.Nothing.{no_watch, no_pair};
 
     /// No pair, and an empty list for each literal of a code below `literals`.
@@ -133,8 +149,10 @@ impl Watches {
     pub fn move_to(&mut self, place: u32, first: Lit, second: Lit) -> Mem<()>
         requires place { place < length self.old.pairs.items }
         requires first { first < length self.old.lists.items }
-        ensures pairs { OnOk result (self.new.pairs.items ≡ set self.old.pairs.items place (record { first = first; second = second })) }
-        ensures lists { OnOk result (self.new.lists.items ≡ set self.old.lists.items first (get_or self.old.lists.items first [] ++ record { place = place; blocker = second } ∷ [])) }
+        ensures pairs { OnOk result (self.new.pairs.items ≡ set self.old.pairs.items place
+            (record { first = first; second = second })) }
+        ensures lists { OnOk result (self.new.lists.items ≡ set self.old.lists.items first
+            (get_or self.old.lists.items first [] ++ record { place = place; blocker = second } ∷ [])) }
     {
         let watch = Watch {
             place,
@@ -167,7 +185,8 @@ impl Watches {
     /// Puts a watch into the list of a literal.
     pub fn push(&mut self, literal: Lit, watch: Watch) -> Mem<()>
         requires { literal < length self.old.lists.items }
-        ensures lists { OnOk result (self.new.lists.items ≡ set self.old.lists.items literal (get_or self.old.lists.items literal [] ++ watch ∷ [])) }
+        ensures lists { OnOk result (self.new.lists.items ≡ set self.old.lists.items literal
+            (get_or self.old.lists.items literal [] ++ watch ∷ [])) }
         ensures pairs { OnOk result (self.new.pairs.items ≡ self.old.pairs.items) }
     {
         self.lists[literal.code() as usize].push(watch)

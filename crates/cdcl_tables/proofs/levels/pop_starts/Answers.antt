@@ -1,8 +1,8 @@
 use Rattle.std.proofs.Common.{◌<◌, arith}
 use Rattle.std.proofs.lemmas.Grind.{common_steps}
-use Rattle.cdcl.proofs.Backing.{before_second}
-use Rattle.cdcl.proofs.search.pop_starts.Goals as goal
-use Rattle.cdcl.proofs.search.pop_starts.Goals.{then-loop-level-test+else-index-second, else-loop-level-test}
+use Rattle.cdcl_tables.proofs.Rising.{before_second}
+use Rattle.cdcl_tables.proofs.levels.pop_starts.Goals as goal
+use Rattle.cdcl_tables.proofs.levels.pop_starts.Goals.{then-loop-level-test+else-index-second, else-loop-level-test}
 
 pub returns-clause-before : goal.returns-clause-before
 returns-clause-before c i h =

@@ -6,7 +6,7 @@ use Rattle.lrat_log.specs.Learnt.{IsResolvent}
 use Rattle.cdcl.specs.Logged.{IsLogged}
 use Rattle.cdcl.proofs.Begins.{logged_begins}
 use Rattle.cdcl.proofs.Spending.{unrefuted}
-use Rattle.cdcl.proofs.solver.solve_into.Goals as goal
+use Rattle.cdcl.proofs.solver.search_into.Goals as goal
 
 pub refute-requires-clause-logged : goal.refute-requires-clause-logged
 refute-requires-clause-logged g c =

@@ -1,6 +1,6 @@
 use Rattle.std.proofs.Common.{◌≡◌, ◌≤◌, length}
 use Rattle.cdcl.specs.Logged.{IsLogged}
-use Rattle.cdcl.proofs.solver.solve_into.Given as goal
+use Rattle.cdcl.proofs.solver.search_into.Given as goal
 
 abbrev pub invariant-loop-spent : goal.invariant-loop-spent
 invariant-loop-spent g l = record {

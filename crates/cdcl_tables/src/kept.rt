@@ -1,5 +1,5 @@
 // A sink that keeps the lines.
-ghost use Rattle.std.specs.Prelude.{◌≡◌, [], IfOk};
+ghost use Rattle.std.specs.Prelude.{◌≡◌, []};
 ghost use Rattle.lrat_log.specs.Logs.{IsLog};
 
 use base::{Mem, Row};

@@ -1,5 +1,5 @@
 use Rattle.std.proofs.Common.{◌≤◌, ◌<◌, length, get_or}
-use Rattle.cdcl.proofs.search.pop_starts.Given as goal
+use Rattle.cdcl_tables.proofs.levels.pop_starts.Given as goal
 
 abbrev pub invariant-loop-level : goal.invariant-loop-level
 invariant-loop-level l = record {
