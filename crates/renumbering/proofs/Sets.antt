@@ -116,11 +116,21 @@ module _ (most : ℕ) (names : List ℕ) (rising : AreRising most 0 names) where
 
   module _ (dense held : Held) (alike : IsHeldAs names dense held) where
     named_stands : (hints : List ℕ) (l : ℕ) → StandsInHint dense hints l → StandsInHint held hints (named names l)
-    named_stands hints l s = (s.0, map (named names) s.1, s.2, held_clause names dense held s.0 s.1 alike s.3, map_member (named names) s.1 l s.4)
+    named_stands hints l s = (
+      s.0,
+      map (named names) s.1,
+      s.2,
+      held_clause names dense held s.0 s.1 alike s.3,
+      map_member (named names) s.1 l s.4,
+    )
 
     named_chain : (hints : List ℕ) (s t : ℕ → Bool) → AreSetAs names s t → IsChain dense hints s → IsChain held hints t
     named_chain [] s t a k = k
-    named_chain (h ∷ []) s t a k = (map (named names) k.0, held_clause names dense held h k.0 alike k.1, named_false s t k.0 a (alike.over h k.0 k.1) k.2)
+    named_chain (h ∷ []) s t a k = (
+      map (named names) k.0,
+      held_clause names dense held h k.0 alike k.1,
+      named_false s t k.0 a (alike.over h k.0 k.1) k.2,
+    )
     named_chain (h ∷ (g ∷ gs)) s t a k = (
       map (named names) k.0,
       named names k.1,

@@ -11,7 +11,8 @@ use Rattle.renumbering.proofs.back.hand_over.Goals as goal
 
 pub line_back-requires-clause-line : goal.line_back-requires-clause-line
 line_back-requires-clause-line g c = line_at
-    (length c.args.names.now) c.requires.dense.0 c.args.lines.now c.loop-line.line-index c.line-item.result c.requires.dense.1 (omega arith) c.line-item.is
+    (length c.args.names.now) c.requires.dense.0 c.args.lines.now c.loop-line.line-index c.line-item.result
+    c.requires.dense.1 (omega arith) c.line-item.is
 
 pub returns-in_err-line_back-clause-range : goal.returns-in_err-line_back-clause-range
 returns-in_err-line_back-clause-range g c =

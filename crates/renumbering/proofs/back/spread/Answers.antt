@@ -21,5 +21,6 @@ index_mut-requires c =
 pub loop-i-preserved : goal.loop-i-preserved
 loop-i-preserved c = record {
   len = rw length-set c.loop-i.invariant.len;
-  value = spread_more c.args.variables c.args.names.now c.args.values.now c.loop-i.spread.items c.loop-i.i c.requires.rising (omega arith) (let n = c.loop-i.invariant.len in omega arith) c.loop-i.invariant.value;
+  value = spread_more c.args.variables c.args.names.now c.args.values.now c.loop-i.spread.items c.loop-i.i
+      c.requires.rising (omega arith) (let n = c.loop-i.invariant.len in omega arith) c.loop-i.invariant.value;
 }

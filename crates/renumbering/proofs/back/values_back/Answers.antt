@@ -11,6 +11,8 @@ returns c =
     let same = subst (λ (ns : List ℕ). (i : ℕ) → i < length ns
     → get_or all (get_or ns i 0 - 1) false ≡ get_or c.args.values.now i false) c.as_slice.ensures.value
     (subst (λ (vs : List Bool). (i : ℕ) → i < length c.as_slice.result.now
-    → get_or all (get_or c.as_slice.result.now i 0 - 1) false ≡ get_or vs i false) c.as_slice-2.ensures c.in_ok-all.ensures.value) in
+    → get_or all (get_or c.as_slice.result.now i 0 - 1) false ≡ get_or vs i false)
+    c.as_slice-2.ensures c.in_ok-all.ensures.value) in
     subst (IsModel f) (sym c.from_vec.ensures)
-    (model_back f c.args.dense.now.cnf c.args.dense.now.names.items c.requires.dense c.args.values.now all same n c.requires.model)
+    (model_back f c.args.dense.now.cnf c.args.dense.now.names.items c.requires.dense c.args.values.now all same n
+    c.requires.model)

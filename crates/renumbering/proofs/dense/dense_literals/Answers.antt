@@ -13,5 +13,6 @@ loop-literal-preserved c =
           ∙ taken_push f done c.args.clause.now c.loop-literal.literal-index c.in-Some.own c.literal-item.result
           (omega arith) c.literal-item.is c.in-Some.ensures.name c.loop-literal.invariant.name;
       range = subst (AreLiterals (length c.args.names.now)) (sym c.in_ok-push-in-Some.ensures.items)
-          (literals_push (length c.args.names.now) done c.in-Some.own c.loop-literal.invariant.range c.in-Some.ensures.range);
+          (literals_push (length c.args.names.now) done c.in-Some.own c.loop-literal.invariant.range
+          c.in-Some.ensures.range);
     }
