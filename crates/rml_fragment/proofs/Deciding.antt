@@ -1,5 +1,26 @@
 -- A model has a fault or none: each kind of fault has a first, or there is none of the kind.
-use Rattle.std.proofs.Common.{◌≡◌, ◌⊎◌, ◌<◌, ℕ, true, false, List, [], ◌∷◌, length, Option, Some, None, refl, sym, ◌∙◌, ap, inl, inr, arith}
+use Rattle.std.proofs.Common.{
+  ◌≡◌,
+  ◌⊎◌,
+  ◌<◌,
+  ℕ,
+  true,
+  false,
+  List,
+  [],
+  ◌∷◌,
+  length,
+  Option,
+  Some,
+  None,
+  refl,
+  sym,
+  ◌∙◌,
+  ap,
+  inl,
+  inr,
+  arith,
+}
 use Rattle.std.specs.Prelude.{slice_get}
 use Rattle.std.proofs.lemmas.Bool.{cases_lt}
 use Rattle.fol_sig.specs.Symbols.{symbols}
@@ -94,10 +115,11 @@ quantifiers (at ∷ places) =
     (quantifiers places)
 
 many : (block : CommandTree) (at : ℕ) → Found (λ f. (f.at ≡ at) × HasManyPaths block f.code)
-many block at = fault_where fault_code.TooManyPaths at (4096 < length (paths_of block)) (elim (cases_lt 4096 (length (paths_of block))) [
-  | inl lt ↦ inl lt
-  | inr le ↦ inr (λ lt. omega (arith, lt, le))
-])
+many block at = fault_where fault_code.TooManyPaths at (4096 < length (paths_of block))
+    (elim (cases_lt 4096 (length (paths_of block))) [
+      | inl lt ↦ inl lt
+      | inr le ↦ inr (λ lt. omega (arith, lt, le))
+    ])
 
 -- the fault at the place of the function that is the first to close a cycle
 closes_at : FirstCycleIsOne → (m : ModelTree) (f : ℕ) → IsFirstCycle (symbols m.signature) f → (place : Option ℕ)
@@ -128,15 +150,18 @@ module _ (one : FirstCycleIsOne) (has_first : CycleHasFirst) (decided : Fragment
 
   sentences : Found (SentenceBreaks m)
   sentences =
-      either (AxiomMisses m) _ (placed (Misses demand.ExistsForall) (misses decided demand.ExistsForall) m.axioms m.places.axioms)
-      (either (ConjectureMisses m) _ (placed (Misses demand.Universal) (misses decided demand.Universal) m.conjectures m.places.conjectures)
+      either (AxiomMisses m) _ (placed (Misses demand.ExistsForall) (misses decided demand.ExistsForall) m.axioms
+      m.places.axioms)
+      (either (ConjectureMisses m) _ (placed (Misses demand.Universal) (misses decided demand.Universal) m.conjectures
+      m.places.conjectures)
       (either (ConditionMisses m.places.conditions) (QuantifierStands m.places.quantifiers)
       (conditions decided m.places.conditions) (quantifiers m.places.quantifiers)))
 
   long_blocks : Found (HasLongBlock m)
   long_blocks =
       either (λ f. (f.at ≡ m.places.init) × HasManyPaths m.init f.code) _ (many m.init m.places.init)
-      (either (SomePlaced HasManyPaths m.actions m.places.actions) (λ f. (f.at ≡ m.places.last) × HasManyPaths m.last f.code)
+      (either (SomePlaced HasManyPaths m.actions m.places.actions)
+      (λ f. (f.at ≡ m.places.last) × HasManyPaths m.last f.code)
       (placed HasManyPaths many m.actions m.places.actions) (many m.last m.places.last))
 
   pub some : ((f : Fault) × IsFault m f) ⊎ ((f : Fault) → IsFault m f → ⊥)

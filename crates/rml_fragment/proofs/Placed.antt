@@ -1,6 +1,7 @@
 -- A walk along things and their places in one order, for the first thing that breaks a rule.
 use Rattle.std.proofs.Common.{
   ◌≡◌,
+  ◌⊎◌,
   ℕ,
   ◌-◌,
   ◌<◌,
@@ -31,7 +32,7 @@ use Rattle.rml_fragment.specs.First.{IsFirstOf, SomePlaced}
 use Rattle.rml_fragment.specs.Faults.{Misses}
 use Rattle.rml_fragment.specs.Search.{earlier, fault_unless, IsFirstSoFar}
 use Rattle.rml_fragment.specs.declared.demand.Demand.{Demand}
-use Rattle.rml_fragment.proofs.FirstFault.{step, done, unless-first}
+use Rattle.rml_fragment.proofs.FirstFault.{first-earlier, step, done, unless-first}
 
 all_but_none : {A : Type 0} (xs : List A) → take (length xs) xs ≡ xs
 all_but_none xs = grind (arith, common_steps)
@@ -82,3 +83,16 @@ missed d p met code at o so same is =
     subst (λ (r : Option Fault). IsFirstOf (λ f. (f.at ≡ at) × Misses d p f.code) r)
     (sym (is ∙ ap (λ (c : FaultCode). fault_unless met c at) same))
     (unless-first met (code_of d) at (Meets d p) so)
+
+-- the same of things and places that are the same
+pub along : {A : Type 0} (Breaks : A → FaultCode → Type 0) (xs ys : List A) (ns ms : List ℕ) (o : Option Fault)
+    → xs ≡ ys → ns ≡ ms → IsFirstOf (SomePlaced Breaks xs ns) o → IsFirstOf (SomePlaced Breaks ys ms) o
+along Breaks xs ys ns ms o things places first =
+    subst (λ (zs : List _). IsFirstOf (SomePlaced Breaks zs ms) o) things
+    (subst (λ (ks : List ℕ). IsFirstOf (SomePlaced Breaks xs ks) o) places first)
+
+-- the earlier of the first faults of two kinds
+pub of_both : (P Q : Fault → Type 0) (a b o : Option Fault) → o ≡ earlier a b → IsFirstOf P a → IsFirstOf Q b
+    → IsFirstOf (λ f. P f ⊎ Q f) o
+of_both P Q a b o is p q =
+    subst (λ (r : Option Fault). IsFirstOf (λ f. P f ⊎ Q f) r) (sym is) (first-earlier P Q a b p q)

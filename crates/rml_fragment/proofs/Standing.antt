@@ -20,7 +20,8 @@ module _ (n : ℕ) (f : Fault) where
   at_one : (at : ℕ) → f.at ≡ at → at ≤ n → f.at ≤ n
   at_one at e h = omega (arith, e, h)
 
-  placed : {A : Type 0} (Wrong : A → FaultCode → Type 0) (xs : List A) (places : List ℕ) → AllByRecursion In places → SomePlaced Wrong xs places f → f.at ≤ n
+  placed : {A : Type 0} (Wrong : A → FaultCode → Type 0) (xs : List A) (places : List ℕ) → AllByRecursion In places
+      → SomePlaced Wrong xs places f → f.at ≤ n
   placed Wrong [] places h s = absurd s
   placed Wrong (x ∷ xs) [] h s = absurd s
   placed Wrong (x ∷ xs) (at ∷ places) h (inl s) = at_one at s.0 h.0
@@ -31,12 +32,14 @@ module _ (n : ℕ) (f : Fault) where
   picked (at ∷ places) zero h e = let g : Some at ≡ Some f.at = e in let i : at ≡ f.at = cc in omega (arith, i, h.0)
   picked (at ∷ places) (suc k) h e = picked places k h.1 e
 
-  at_condition : (cs : List Condition) → AllByRecursion (λ (c : Condition). c.at ≤ n) cs → SomeOf (λ (c : Condition). (f.at ≡ c.at) × Misses (demand_of c.word) c.sentence f.code) cs → f.at ≤ n
+  at_condition : (cs : List Condition) → AllByRecursion (λ (c : Condition). c.at ≤ n) cs
+      → SomeOf (λ (c : Condition). (f.at ≡ c.at) × Misses (demand_of c.word) c.sentence f.code) cs → f.at ≤ n
   at_condition [] h s = absurd s
   at_condition (c ∷ cs) h (inl s) = at_one c.at s.0 h.0
   at_condition (c ∷ cs) h (inr s) = at_condition cs h.1 s
 
-  at_quantifier : (places : List ℕ) → AllByRecursion In places → SomeOf (λ (at : ℕ). (f.at ≡ at) × (f.code ≡ fault_code.NotQuantifierFree)) places → f.at ≤ n
+  at_quantifier : (places : List ℕ) → AllByRecursion In places
+      → SomeOf (λ (at : ℕ). (f.at ≡ at) × (f.code ≡ fault_code.NotQuantifierFree)) places → f.at ≤ n
   at_quantifier [] h s = absurd s
   at_quantifier (at ∷ places) h (inl s) = at_one at s.0 h.0
   at_quantifier (at ∷ places) h (inr s) = at_quantifier places h.1 s
@@ -44,7 +47,8 @@ module _ (n : ℕ) (f : Fault) where
   break_stands : (m : ModelTree) → ArePlacesWithin n m.places → Breaks m f → f.at ≤ n
   break_stands m h (inl c) = picked m.places.functions c.function h.functions c.at
   break_stands m h (inr (inl s)) = placed (Misses demand.ExistsForall) m.axioms m.places.axioms h.axioms s
-  break_stands m h (inr (inr (inl s))) = placed (Misses demand.Universal) m.conjectures m.places.conjectures h.conjectures s
+  break_stands m h (inr (inr (inl s))) =
+      placed (Misses demand.Universal) m.conjectures m.places.conjectures h.conjectures s
   break_stands m h (inr (inr (inr (inl s)))) = at_condition m.places.conditions h.conditions s
   break_stands m h (inr (inr (inr (inr s)))) = at_quantifier m.places.quantifiers h.quantifiers s
 

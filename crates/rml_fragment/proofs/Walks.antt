@@ -1,6 +1,31 @@
 -- Whether a function closes a cycle with those before it is decided: the walks between two sorts are found by letting
 -- one function more take part at a time.
-use Rattle.std.proofs.Common.{◌≡◌, ◌⊎◌, ℕ, zero, suc, ◌+◌, ◌<◌, ◌≤◌, Bool, true, false, ◌||◌, ◌==◌, List, [], ◌∷◌, refl, sym, ap, subst, inl, inr, add-one, arith}
+use Rattle.std.proofs.Common.{
+  ◌≡◌,
+  ◌⊎◌,
+  ℕ,
+  zero,
+  suc,
+  ◌+◌,
+  ◌<◌,
+  ◌≤◌,
+  Bool,
+  true,
+  false,
+  ◌||◌,
+  ◌==◌,
+  List,
+  [],
+  ◌∷◌,
+  refl,
+  sym,
+  ap,
+  subst,
+  inl,
+  inr,
+  add-one,
+  arith,
+}
 use Rattle.std.proofs.lemmas.Bool.{cases_lt, cases_eq, or_cases, eqb-true, eq-eqb}
 use Rattle.fol_sig.specs.Symbols.{Symbols}
 use Rattle.fol_sig.specs.Strata.{has, IsWalk, IsOnCycle, IsFirstCycle, with_functions}
@@ -59,7 +84,8 @@ module _ (sig : Symbols) where
       (f ∷ onward.0, (v.0, v.1, onward.1))
 
   -- a walk takes the last function or it does not
-  parted : (n a : ℕ) (fs : List ℕ) (b : ℕ) → IsWalk (with_functions sig (suc n)) a fs b → Leads n a b ⊎ LeadsThrough n a b
+  parted : (n a : ℕ) (fs : List ℕ) (b : ℕ) → IsWalk (with_functions sig (suc n)) a fs b → Leads n a b
+      ⊎ LeadsThrough n a b
   parted n a [] b w = inl ([], w)
   parted n a (f ∷ fs) b w = at (cases_lt f n) (parted n (sig.into_of f) fs b w.2)
     where
@@ -69,7 +95,13 @@ module _ (sig : Symbols) where
       at (inl lt) (inr onward) = inr (onward.0, onward.1, (f ∷ onward.2.0, (lt, w.1, onward.2.1)), onward.3)
       at (inr le) (inl onward) =
           let e : f ≡ n = omega (arith, w.0) in
-          inr (a, subst (λ (g : ℕ). has (sig.from_of g) a ≡ true) e w.1, ([], refl), subst (λ (g : ℕ). Leads n (sig.into_of g) b) e onward)
+          inr (
+            a,
+            subst (λ (g : ℕ). has (sig.from_of g) a ≡ true) e w.1,
+            ([], refl),
+            subst
+                (λ (g : ℕ). Leads n (sig.into_of g) b) e onward,
+          )
       at (inr le) (inr onward) =
           let e : f ≡ n = omega (arith, w.0) in
           inr (a, subst (λ (g : ℕ). has (sig.from_of g) a ≡ true) e w.1, ([], refl), onward.3)
@@ -80,13 +112,15 @@ module _ (sig : Symbols) where
       nowhere : (fs : List ℕ) → IsWalk (with_functions sig zero) a fs b → (a ≡ b → ⊥) → ⊥
       nowhere [] w other = other w
       nowhere (f ∷ fs) w other = omega (arith, w.0)
-  leads (suc n) a b = at (leads n a b) (among (λ k. Leads n a k) (leads n a) (sig.from_of n)) (leads n (sig.into_of n) b)
+  leads (suc n) a b = at (leads n a b) (among (λ k. Leads n a k) (leads n a) (sig.from_of n))
+      (leads n (sig.into_of n) b)
     where
       longer : (x y : ℕ) → Leads n x y → Leads (suc n) x y
       longer x y w = (w.0, walk_more sig n (suc n) x w.0 y (omega arith) w.1)
 
       at : Decided (Leads n a b)
-          → ((k : ℕ) × (has (sig.from_of n) k ≡ true) × Leads n a k) ⊎ ((k : ℕ) → has (sig.from_of n) k ≡ true → Leads n a k → ⊥)
+          → ((k : ℕ) × (has (sig.from_of n) k ≡ true) × Leads n a k)
+          ⊎ ((k : ℕ) → has (sig.from_of n) k ≡ true → Leads n a k → ⊥)
           → Decided (Leads n (sig.into_of n) b) → Decided (Leads (suc n) a b)
       at (inl w) before behind = inl (longer a b w)
       at (inr never) (inl before) (inl behind) =

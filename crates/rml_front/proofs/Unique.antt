@@ -1,5 +1,5 @@
--- A text has one answer.
-use Rattle.std.proofs.Common.{◌≡◌, ℕ, inl, inr, List, Some, sym, subst, ap, ◌∙◌}
+-- A text has one answer: the phases have one each.
+use Rattle.std.proofs.Common.{◌≡◌, ◌⊎◌, ℕ, inl, inr, List, Option, Some, None, refl, sym, subst, ap, ◌∙◌}
 use Rattle.rml_lex.specs.declared.token.Token.{Token}
 use Rattle.rml_lex.specs.declared.token.Fault.{Fault}
 use Rattle.rml_lex.specs.Tokens.{AreTokens}
@@ -14,19 +14,54 @@ use Rattle.rml_front.specs.Texts.{IsTreeOf, IsResolved, IsModelOf, IsGrammarFaul
 use Rattle.rml_front.specs.Laws.{AnswersAreUnique}
 
 -- what the phases promise, each of its own
-record Phases : Type 0 where
-  one_tokens : (text : List ℕ) (a b : List Token) → AreTokens text a → AreTokens text b → a ≡ b
-  tokens_or_fault : (text : List ℕ) (a : List Token) (f : Fault) → AreTokens text a → bytes.IsFault text f → ⊥
-  one_byte_fault : (text : List ℕ) (f g : Fault) → bytes.IsFault text f → bytes.IsFault text g → f ≡ g
-  one_tree : (text : List ℕ) (ts : List Token) (a b : List ItemTree) → IsTree text ts a → IsTree text ts b → a ≡ b
-  one_grammar_fault : (text : List ℕ) (ts : List Token) (f g : Fault) → grammar.IsFault text ts f → grammar.IsFault text ts g → f ≡ g
-  tree_or_fault : (text : List ℕ) (ts : List Token) (tree : List ItemTree) (f : Fault) → IsTree text ts tree → grammar.IsFault text ts f → ⊥
-  one_fragment_fault : (m : ModelTree) (f g : Fault) → fragment.IsFault m f → fragment.IsFault m g → f ≡ g
+pub record Phases : Type 0 where
+  pub some_tokens : (text : List ℕ) → ((a : List Token) × AreTokens text a) ⊎ ((f : Fault) × bytes.IsFault text f)
+  pub one_tokens : (text : List ℕ) (a b : List Token) → AreTokens text a → AreTokens text b → a ≡ b
+  pub tokens_or_fault : (text : List ℕ) (a : List Token) (f : Fault) → AreTokens text a → bytes.IsFault text f → ⊥
+  pub one_byte_fault : (text : List ℕ) (f g : Fault) → bytes.IsFault text f → bytes.IsFault text g → f ≡ g
+  pub some_tree : (text : List ℕ) (ts : List Token)
+      → ((tree : List ItemTree) × IsTree text ts tree) ⊎ ((f : Fault) × grammar.IsFault text ts f)
+  pub one_tree : (text : List ℕ) (ts : List Token) (a b : List ItemTree) → IsTree text ts a → IsTree text ts b → a ≡ b
+  pub one_grammar_fault : (text : List ℕ) (ts : List Token) (f g : Fault)
+      → grammar.IsFault text ts f → grammar.IsFault text ts g → f ≡ g
+  pub tree_or_fault : (text : List ℕ) (ts : List Token) (tree : List ItemTree) (f : Fault)
+      → IsTree text ts tree → grammar.IsFault text ts f → ⊥
+  pub some_fragment_fault : (m : ModelTree)
+      → ((f : Fault) × fragment.IsFault m f) ⊎ ((f : Fault) → fragment.IsFault m f → ⊥)
+  pub one_fragment_fault : (m : ModelTree) (f g : Fault) → fragment.IsFault m f → fragment.IsFault m g → f ≡ g
 
 module _ (p : Phases) (text : List ℕ) where
+  abbrev HasAnswer : Type 0
+  HasAnswer = ((m : ModelTree) × IsModelOf text m) ⊎ ((f : Fault) × IsFaultOf text f)
+
+  of_model : (t : List ItemTree) → IsResolved text t
+      → ((f : Fault) × fragment.IsFault (model_of text t) f) ⊎ ((f : Fault) → fragment.IsFault (model_of text t) f → ⊥)
+      → HasAnswer
+  of_model t resolved (inl (f, is)) = inr (f, inr (inr (inr (record { tree = t; resolved = resolved; fault = is }))))
+  of_model t resolved (inr never) =
+      inl (model_of text t, record { tree = t; resolved = resolved; model = refl; faultless = never })
+
+  of_names : (t : List ItemTree) → IsTreeOf text t → (o : Option Fault) → fault_of text t ≡ o → HasAnswer
+  of_names t read (Some f) is = inr (f, inr (inr (inl (record { tree = t; read = read; fault = is }))))
+  of_names t read None is = of_model t (record { read = read; right = is }) (p.some_fragment_fault (model_of text t))
+
+  of_tree : (ts : List Token) → AreTokens text ts
+      → ((t : List ItemTree) × IsTree text ts t) ⊎ ((f : Fault) × grammar.IsFault text ts f) → HasAnswer
+  of_tree ts are (inl (t, is)) =
+      of_names t (record { tokens = ts; are_tokens = are; is_tree = is }) (fault_of text t) refl
+  of_tree ts are (inr (f, is)) = inr (f, inr (inl (record { tokens = ts; are_tokens = are; fault = is })))
+
+  of_tokens : ((ts : List Token) × AreTokens text ts) ⊎ ((f : Fault) × bytes.IsFault text f) → HasAnswer
+  of_tokens (inl (ts, are)) = of_tree ts are (p.some_tree text ts)
+  of_tokens (inr (f, is)) = inr (f, inl is)
+
+  some_answer : HasAnswer
+  some_answer = of_tokens (p.some_tokens text)
+
   same_tree : (a b : List ItemTree) → IsTreeOf text a → IsTreeOf text b → a ≡ b
   same_tree a b x y =
-      p.one_tree text y.tokens a b (subst (λ (ts : List Token). IsTree text ts a) (p.one_tokens text x.tokens y.tokens x.are_tokens y.are_tokens) x.is_tree) y.is_tree
+      let tokens = p.one_tokens text x.tokens y.tokens x.are_tokens y.are_tokens in
+      p.one_tree text y.tokens a b (subst (λ (ts : List Token). IsTree text ts a) tokens x.is_tree) y.is_tree
 
   same_fault : (t : List ItemTree) (f g : Fault) → fault_of text t ≡ Some f → fault_of text t ≡ Some g → f ≡ g
   same_fault t f g x y = cc
@@ -37,7 +72,9 @@ module _ (p : Phases) (text : List ℕ) where
 
   no_grammar : (t : List ItemTree) (f : Fault) → IsTreeOf text t → IsGrammarFault text f → ⊥
   no_grammar t f x y =
-      p.tree_or_fault text x.tokens t f x.is_tree (subst (λ (ts : List Token). grammar.IsFault text ts f) (p.one_tokens text y.tokens x.tokens y.are_tokens x.are_tokens) y.fault)
+      let tokens = p.one_tokens text y.tokens x.tokens y.are_tokens x.are_tokens in
+      p.tree_or_fault text x.tokens t f x.is_tree
+      (subst (λ (ts : List Token). grammar.IsFault text ts f) tokens y.fault)
 
   -- what is resolved has no fault of its names
   no_name : (t : List ItemTree) (f : Fault) → IsResolved text t → IsNameFault text f → ⊥
@@ -47,14 +84,16 @@ module _ (p : Phases) (text : List ℕ) where
       let h = x.right in cc
 
   one_model : (a b : ModelTree) → IsModelOf text a → IsModelOf text b → a ≡ b
-  one_model a b x y = x.model ∙ ap (model_of text) (same_tree x.tree y.tree x.resolved.read y.resolved.read) ∙ sym y.model
+  one_model a b x y =
+      x.model ∙ ap (model_of text) (same_tree x.tree y.tree x.resolved.read y.resolved.read) ∙ sym y.model
 
   not_both : (m : ModelTree) (f : Fault) → IsModelOf text m → IsFaultOf text f → ⊥
   not_both m f x (inl y) = no_bytes x.tree f x.resolved.read y
   not_both m f x (inr (inl y)) = no_grammar x.tree f x.resolved.read y
   not_both m f x (inr (inr (inl y))) = no_name x.tree f x.resolved y
   not_both m f x (inr (inr (inr y))) =
-      let e : model_of text y.tree ≡ m = ap (model_of text) (same_tree y.tree x.tree y.resolved.read x.resolved.read) ∙ sym x.model in
+      let trees = same_tree y.tree x.tree y.resolved.read x.resolved.read in
+      let e : model_of text y.tree ≡ m = ap (model_of text) trees ∙ sym x.model in
       x.faultless f (subst (λ (n : ModelTree). fragment.IsFault n f) e y.fault)
 
   one_fault : (f g : Fault) → IsFaultOf text f → IsFaultOf text g → f ≡ g
@@ -64,27 +103,25 @@ module _ (p : Phases) (text : List ℕ) where
   one_fault f g (inl x) (inr (inr (inr y))) = absurd (no_bytes y.tree f y.resolved.read x)
   one_fault f g (inr (inl x)) (inl y) = absurd (p.tokens_or_fault text x.tokens g x.are_tokens y)
   one_fault f g (inr (inl x)) (inr (inl y)) =
-      p.one_grammar_fault text y.tokens f g (subst (λ (ts : List Token). grammar.IsFault text ts f) (p.one_tokens text x.tokens y.tokens x.are_tokens y.are_tokens) x.fault) y.fault
+      let tokens = p.one_tokens text x.tokens y.tokens x.are_tokens y.are_tokens in
+      p.one_grammar_fault text y.tokens f g (subst (λ (ts : List Token). grammar.IsFault text ts f) tokens x.fault)
+      y.fault
   one_fault f g (inr (inl x)) (inr (inr (inl y))) = absurd (no_grammar y.tree f y.read x)
   one_fault f g (inr (inl x)) (inr (inr (inr y))) = absurd (no_grammar y.tree f y.resolved.read x)
   one_fault f g (inr (inr (inl x))) (inl y) = absurd (no_bytes x.tree g x.read y)
   one_fault f g (inr (inr (inl x))) (inr (inl y)) = absurd (no_grammar x.tree g x.read y)
   one_fault f g (inr (inr (inl x))) (inr (inr (inl y))) =
-      same_fault y.tree f g (subst (λ (u : List ItemTree). fault_of text u ≡ Some f) (same_tree x.tree y.tree x.read y.read) x.fault) y.fault
+      let trees = same_tree x.tree y.tree x.read y.read in
+      same_fault y.tree f g (subst (λ (u : List ItemTree). fault_of text u ≡ Some f) trees x.fault) y.fault
   one_fault f g (inr (inr (inl x))) (inr (inr (inr y))) = absurd (no_name y.tree f y.resolved x)
   one_fault f g (inr (inr (inr x))) (inl y) = absurd (no_bytes x.tree g x.resolved.read y)
   one_fault f g (inr (inr (inr x))) (inr (inl y)) = absurd (no_grammar x.tree g x.resolved.read y)
   one_fault f g (inr (inr (inr x))) (inr (inr (inl y))) = absurd (no_name x.tree g x.resolved y)
   one_fault f g (inr (inr (inr x))) (inr (inr (inr y))) =
-      let e : model_of text x.tree ≡ model_of text y.tree = ap (model_of text) (same_tree x.tree y.tree x.resolved.read y.resolved.read) in
-      p.one_fragment_fault (model_of text y.tree) f g (subst (λ (n : ModelTree). fragment.IsFault n f) e x.fault) y.fault
+      let trees = same_tree x.tree y.tree x.resolved.read y.resolved.read in
+      let e : model_of text x.tree ≡ model_of text y.tree = ap (model_of text) trees in
+      p.one_fragment_fault (model_of text y.tree) f g (subst (λ (n : ModelTree). fragment.IsFault n f) e x.fault)
+      y.fault
 
-pub answers_are_unique : ((text : List ℕ) (a b : List Token) → AreTokens text a → AreTokens text b → a ≡ b) → ((text : List ℕ) (a : List Token) (f : Fault) → AreTokens text a → bytes.IsFault text f → ⊥)
-    → ((text : List ℕ) (f g : Fault) → bytes.IsFault text f → bytes.IsFault text g → f ≡ g)
-    → ((text : List ℕ) (ts : List Token) (a b : List ItemTree) → IsTree text ts a → IsTree text ts b → a ≡ b)
-    → ((text : List ℕ) (ts : List Token) (f g : Fault) → grammar.IsFault text ts f → grammar.IsFault text ts g → f ≡ g)
-    → ((text : List ℕ) (ts : List Token) (tree : List ItemTree) (f : Fault) → IsTree text ts tree → grammar.IsFault text ts f → ⊥)
-    → ((m : ModelTree) (f g : Fault) → fragment.IsFault m f → fragment.IsFault m g → f ≡ g) → AnswersAreUnique
-answers_are_unique a b c d e f g =
-    let p : Phases = record { one_tokens = a; tokens_or_fault = b; one_byte_fault = c; one_tree = d; one_grammar_fault = e; tree_or_fault = f; one_fragment_fault = g } in
-    record { model = one_model p; fault = one_fault p; not_both = not_both p }
+pub answers_are_unique : Phases → AnswersAreUnique
+answers_are_unique p = record { some = some_answer p; model = one_model p; fault = one_fault p; not_both = not_both p }

@@ -1,11 +1,12 @@
 -- What follows from the definitions of the model and the fault of a text.
-use Rattle.std.specs.Prelude.{◌≡◌, ℕ, List}
+use Rattle.std.specs.Prelude.{◌≡◌, ◌⊎◌, ℕ, List}
 use Rattle.rml_lex.specs.declared.token.Fault.{Fault}
 use Rattle.rml_command.specs.Models.{ModelTree}
 use Rattle.rml_front.specs.Texts.{IsModelOf, IsFaultOf}
 
--- a text has at most one model, at most one fault, and never both
+-- a text has one model or one fault, and never both
 pub record AnswersAreUnique : Type 0 where
+  pub some : (text : List ℕ) → ((m : ModelTree) × IsModelOf text m) ⊎ ((f : Fault) × IsFaultOf text f)
   pub model : (text : List ℕ) (a b : ModelTree) → IsModelOf text a → IsModelOf text b → a ≡ b
   pub fault : (text : List ℕ) (f g : Fault) → IsFaultOf text f → IsFaultOf text g → f ≡ g
   pub not_both : (text : List ℕ) (m : ModelTree) (f : Fault) → IsModelOf text m → IsFaultOf text f → ⊥

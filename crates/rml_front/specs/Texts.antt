@@ -10,7 +10,6 @@ use Rattle.rml_syntax.specs.Faults.{IsTree}
 use Rattle.rml_syntax.specs.Faults as grammar
 use Rattle.rml_sorts.specs.Items.{model_of, fault_of}
 use Rattle.rml_command.specs.Models.{ModelTree}
-use Rattle.rml_command.specs.Fragment.{IsChecked}
 use Rattle.rml_fragment.specs.Faults as fragment
 
 -- the bytes are these tokens, and the tokens this tree
@@ -24,13 +23,12 @@ pub record IsResolved (text : List ℕ) (tree : List ItemTree) : Type 0 where
   pub read : IsTreeOf text tree
   pub right : fault_of text tree ≡ None
 
--- The model of a text: no phase has a fault, so it is in the fragment, and its blocks have few paths.
+-- The model of a text: no phase has a fault.
 pub record IsModelOf (text : List ℕ) (m : ModelTree) : Type 0 where
   pub tree : List ItemTree
   pub resolved : IsResolved text tree
   pub model : m ≡ model_of text tree
   pub faultless : (f : Fault) → fragment.IsFault m f → ⊥
-  pub checked : IsChecked m
 
 -- a fault of the grammar
 pub record IsGrammarFault (text : List ℕ) (f : Fault) : Type 0 where

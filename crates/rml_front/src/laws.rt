@@ -1,7 +1,7 @@
 // What follows from the definitions alone.
 ghost use Rattle.rml_front.specs.Laws.{AnswersAreUnique};
 
-/// A text has one model at most, or one fault, and never both.
+/// A text has one model or one fault, and never both.
 pub fn text_law()
     ensures { AnswersAreUnique }
 {

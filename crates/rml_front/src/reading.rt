@@ -1,4 +1,5 @@
-// From the bytes of a text to its model.
+// From the bytes of a text to its model, phase by phase: each takes what the phase before it found, and the first fault
+// ends the reading, so that a text has the fault of the earliest phase that finds one.
 ghost use Rattle.std.specs.Prelude.{length, IfOk, IfErr};
 ghost use Rattle.base.specs.Because.{Because};
 ghost use Rattle.rml_lex.specs.Tokens.{StandsBy};

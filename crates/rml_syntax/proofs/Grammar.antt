@@ -3,17 +3,147 @@ use Rattle.std.proofs.Common.{ℕ, zero, suc, true, false, List, [], ◌∷◌, 
 use Rattle.rml_lex.specs.declared.token.Kind.{Kind}
 use Rattle.rml_lex.specs.declared.token.Kind.TheVariants.{Word, Sign}
 use Rattle.rml_lex.specs.declared.token.Kind.TheVariants as kind
-use Rattle.rml_lex.specs.declared.token.Word.TheVariants.{Rml, Sort, Relation, Function, Variable, Axiom, Conjecture, Init, Action, Final, Skip, Abort, Assume, Assert, If, Else, Choose, Or, Insert, Remove, Put, Forall, Exists, True, False, Ite}
-use Rattle.rml_lex.specs.declared.token.Sign.TheVariants.{DoubleArrow, Arrow, Becomes, NotEqual, OpenBrace, CloseBrace, OpenParen, CloseParen, Comma, Semicolon, Colon, Dot, Equal, Not as Tilde, And as Ampersand, Or as Bar, Star}
+use Rattle.rml_lex.specs.declared.token.Word.TheVariants.{
+  Rml,
+  Sort,
+  Relation,
+  Function,
+  Variable,
+  Axiom,
+  Conjecture,
+  Init,
+  Action,
+  Final,
+  Skip,
+  Abort,
+  Assume,
+  Assert,
+  If,
+  Else,
+  Choose,
+  Or,
+  Insert,
+  Remove,
+  Put,
+  Forall,
+  Exists,
+  True,
+  False,
+  Ite,
+}
+use Rattle.rml_lex.specs.declared.token.Sign.TheVariants.{
+  DoubleArrow,
+  Arrow,
+  Becomes,
+  NotEqual,
+  OpenBrace,
+  CloseBrace,
+  OpenParen,
+  CloseParen,
+  Comma,
+  Semicolon,
+  Colon,
+  Dot,
+  Equal,
+  Not as Tilde,
+  And as Ampersand,
+  Or as Bar,
+  Star,
+}
 use Rattle.rml_syntax.specs.declared.tree.Quantifier.TheVariants as quantifier
 use Rattle.rml_syntax.specs.Piece.{Piece, nothing, ◌⊗◌, ◌⇒◌}
 use Rattle.rml_syntax.specs.Tree as node
-use Rattle.rml_syntax.specs.Tree.{ExprTree, CommandTree, ItemTree, name_of, or_none, applied, conditional, compared, negated, joined, implied, equivalent, binder_of, quantified, assumed, asserted, branched, choice, inserted, removed, putting, assigned}
+use Rattle.rml_syntax.specs.Tree.{
+  ExprTree,
+  CommandTree,
+  ItemTree,
+  name_of,
+  or_none,
+  applied,
+  conditional,
+  compared,
+  negated,
+  joined,
+  implied,
+  equivalent,
+  binder_of,
+  quantified,
+  assumed,
+  asserted,
+  branched,
+  choice,
+  inserted,
+  removed,
+  putting,
+  assigned,
+}
 use Rattle.rml_syntax.specs.Grammar as g
-use Rattle.rml_syntax.specs.Grammar.{Inner, between, behind, separated, named, level, no_inner, file}
-use Rattle.rml_syntax.specs.Reading.{Inners, piece, Reader, inners, name_at, names_at, named_at, parameters_at, binder_at, enclosed_at, arguments_at, prim_at, comparison_at, cmp_at, unary_at, and_at, or_at, imp_at, iff_at, expr_at, bound_at, exprs_at, three_at, block_at, otherwise_at, value_at, called_at, if_at, put_at, assign_at, cmd_at, cmd_starts, cmds_at, item_at, item_starts, items_at}
-use Rattle.rml_syntax.proofs.Exact.{Some_of, some_lexeme}
-use Rattle.rml_syntax.proofs.Pieces.{Good, Inside, IsNothing, a_lexeme, both, made, with_place, either, at_most_once, any_number, a_list, opening, wider, enclosing, leading, separating, some_both, some_made, some_placed, some_left, some_right, no_optional, no_many, no_listed}
+use Rattle.rml_syntax.specs.Grammar.{Inner, between, after, separated, named, level, no_inner, file}
+use Rattle.rml_syntax.specs.Reading.{
+  Inners,
+  piece,
+  Reader,
+  inners,
+  name_at,
+  names_at,
+  named_at,
+  parameters_at,
+  binder_at,
+  enclosed_at,
+  arguments_at,
+  prim_at,
+  comparison_at,
+  cmp_at,
+  unary_at,
+  and_at,
+  or_at,
+  imp_at,
+  iff_at,
+  expr_at,
+  bound_at,
+  exprs_at,
+  three_at,
+  block_at,
+  else_block_at,
+  value_at,
+  called_at,
+  if_at,
+  put_at,
+  assign_at,
+  cmd_at,
+  cmd_starts,
+  cmds_at,
+  item_at,
+  item_starts,
+  items_at,
+}
+use Rattle.rml_syntax.proofs.Exact.{Some_of, some_terminal}
+use Rattle.rml_syntax.proofs.Pieces.{
+  Good,
+  Inside,
+  IsNothing,
+  a_terminal,
+  both,
+  made,
+  with_place,
+  either,
+  at_most_once,
+  any_number,
+  a_list,
+  opening,
+  wider,
+  enclosing,
+  leading,
+  separating,
+  some_both,
+  some_made,
+  some_placed,
+  some_left,
+  some_right,
+  no_optional,
+  no_many,
+  no_listed,
+}
 
 -- ---- what a piece begins with, and what it may go on with
 
@@ -61,20 +191,22 @@ pub record Deeper (o r : Option Inners) (I J : Inner) : Type 0 where
   pub imp : Inside (piece (λ x. x.imp) o) (piece (λ x. x.imp) r) I.imp J.imp unary_starts after_imp false
   pub unary : Inside (piece (λ x. x.unary) o) (piece (λ x. x.unary) r) I.unary J.unary unary_starts after_cmp false
   pub bound : Inside (piece (λ x. x.bound) o) (piece (λ x. x.bound) r) I.bound J.bound (kind.Name ∷ []) after_expr false
-  pub names : Inside (piece (λ x. x.names) o) (piece (λ x. x.names) r) I.names J.names (kind.Name ∷ []) (Sign Comma ∷ []) false
+  pub names : Inside (piece (λ x. x.names) o) (piece (λ x. x.names) r) I.names J.names (kind.Name ∷ [])
+      (Sign Comma ∷ []) false
   pub exprs : Inside (piece (λ x. x.exprs) o) (piece (λ x. x.exprs) r) I.exprs J.exprs expr_starts after_exprs false
   pub cmds : Inside (piece (λ x. x.cmds) o) (piece (λ x. x.cmds) r) I.cmds J.cmds cmd_starts after_cmds true
 
 -- ---- the productions
 
 pub name_good : Good name_at name_at g.name g.name (kind.Name ∷ []) [] false
-name_good = made name_of (a_lexeme kind.Name)
+name_good = made name_of (a_terminal kind.Name)
 
 pub names_good : Good names_at names_at g.names g.names (kind.Name ∷ []) (Sign Comma ∷ []) false
 unfolding names_at
 names_good = separating (Sign Comma) name_good refl
 
-naming : {A : Type 0} {p q : Reader A} {a b : Piece A} {f m : List Kind} → Good p q a b f m false → Good (named_at p) (named_at q) (named a) (named b) (kind.Name ∷ []) m false
+naming : {A : Type 0} {p q : Reader A} {a b : Piece A} {f m : List Kind} → Good p q a b f m false
+    → Good (named_at p) (named_at q) (named a) (named b) (kind.Name ∷ []) m false
 naming P = both name_good (leading (Sign Colon) P) refl
 
 pub binder_good : Good binder_at binder_at g.binder g.binder (kind.Name ∷ []) [] false
@@ -83,32 +215,37 @@ binder_good = made binder_of (naming name_good)
 
 comparison_good : Good comparison_at comparison_at g.comparison g.comparison (Sign Equal ∷ Sign NotEqual ∷ []) [] false
 unfolding comparison_at
-comparison_good = either (made (λ t. true) (a_lexeme (Sign Equal))) (made (λ t. false) (a_lexeme (Sign NotEqual))) refl
+comparison_good = either (made (λ t. true) (a_terminal (Sign Equal))) (made (λ t. false) (a_terminal (Sign NotEqual)))
+    refl
 
 module _ (o r : Option Inners) (I J : Inner) (d : Deeper o r I J) where
-  pub parameters_good : Good (parameters_at o) (parameters_at r) (g.parameters I) (g.parameters J) (Sign OpenParen ∷ []) (Sign OpenParen ∷ []) true
+  pub parameters_good : Good (parameters_at o) (parameters_at r) (g.parameters I) (g.parameters J)
+      (Sign OpenParen ∷ []) (Sign OpenParen ∷ []) true
   unfolding parameters_at
   parameters_good = made or_none (at_most_once (enclosing (Sign OpenParen) (Sign CloseParen) d.names refl))
 
   enclosed_good : Good (enclosed_at o) (enclosed_at r) (g.enclosed I) (g.enclosed J) (Sign OpenParen ∷ []) [] false
   enclosed_good = enclosing (Sign OpenParen) (Sign CloseParen) d.exprs refl
 
-  pub arguments_good : Good (arguments_at o) (arguments_at r) (g.arguments I) (g.arguments J) (Sign OpenParen ∷ []) (Sign OpenParen ∷ []) true
+  pub arguments_good : Good (arguments_at o) (arguments_at r) (g.arguments I) (g.arguments J) (Sign OpenParen ∷ [])
+      (Sign OpenParen ∷ []) true
   unfolding arguments_at
   arguments_good = made or_none (at_most_once enclosed_good)
 
   pub prim_good : Good (prim_at o) (prim_at r) (g.prim I) (g.prim J) prim_starts after_prim false
   unfolding prim_at
   prim_good =
-      either (made (λ t. node.True t.start) (a_lexeme (Word True)))
-      (either (made (λ t. node.False t.start) (a_lexeme (Word False)))
+      either (made (λ t. node.True t.start) (a_terminal (Word True)))
+      (either (made (λ t. node.False t.start) (a_terminal (Word False)))
       (either (made applied (both name_good arguments_good refl))
-      (either (made conditional (both (a_lexeme (Word Ite)) (enclosing (Sign OpenParen) (Sign CloseParen) d.three refl) refl))
+      (either (made conditional (both (a_terminal (Word Ite))
+      (enclosing (Sign OpenParen) (Sign CloseParen) d.three refl) refl))
       (enclosing (Sign OpenParen) (Sign CloseParen) d.expr refl) refl) refl) refl) refl
 
   pub cmp_good : Good (cmp_at o) (cmp_at r) (g.cmp I) (g.cmp J) prim_starts after_cmp false
   unfolding cmp_at
-  cmp_good = wider (made compared (with_place (both prim_good (at_most_once (both comparison_good prim_good refl)) refl))) refl
+  cmp_good = wider (made compared (with_place
+      (both prim_good (at_most_once (both comparison_good prim_good refl)) refl))) refl
 
   pub unary_good : Good (unary_at o) (unary_at r) (g.unary I) (g.unary J) unary_starts after_cmp false
   unfolding unary_at
@@ -128,7 +265,8 @@ module _ (o r : Option Inners) (I J : Inner) (d : Deeper o r I J) where
 
   pub iff_good : Good (iff_at o) (iff_at r) (g.iff I) (g.iff J) unary_starts after_expr false
   unfolding iff_at
-  iff_good = wider (made equivalent (with_place (both imp_good (at_most_once (leading (Sign DoubleArrow) imp_good)) refl))) refl
+  iff_good = wider (made equivalent (with_place
+      (both imp_good (at_most_once (leading (Sign DoubleArrow) imp_good)) refl))) refl
 
   pub expr_good : Good (expr_at o) (expr_at r) (g.expr I) (g.expr J) expr_starts after_expr false
   unfolding expr_at
@@ -140,7 +278,8 @@ module _ (o r : Option Inners) (I J : Inner) (d : Deeper o r I J) where
   unfolding bound_at
   bound_good =
       wider (made (λ x. (x.0 ∷ x.1.0, x.1.1)) (both binder_good
-      (either (made (λ body. ([], body)) (leading (Sign Dot) expr_good)) (made (λ x. x.1) (opening (Sign Comma) d.bound)) refl) refl)) refl
+      (either (made (λ body. ([], body)) (leading (Sign Dot) expr_good))
+      (made (λ x. x.1) (opening (Sign Comma) d.bound)) refl) refl)) refl
 
   pub exprs_good : Good (exprs_at o) (exprs_at r) (g.exprs I) (g.exprs J) expr_starts after_exprs false
   unfolding exprs_at
@@ -154,38 +293,44 @@ module _ (o r : Option Inners) (I J : Inner) (d : Deeper o r I J) where
   unfolding block_at
   block_good = enclosing (Sign OpenBrace) (Sign CloseBrace) d.cmds refl
 
-  otherwise_good : Good (otherwise_at o) (otherwise_at r) (g.otherwise I) (g.otherwise J) (Word Else ∷ []) (Word Else ∷ []) true
-  unfolding otherwise_at
-  otherwise_good = made or_none (at_most_once (leading (Word Else) block_good))
+  else_block_good : Good (else_block_at o) (else_block_at r) (g.else_block I) (g.else_block J) (Word Else ∷ [])
+      (Word Else ∷ []) true
+  unfolding else_block_at
+  else_block_good = made or_none (at_most_once (leading (Word Else) block_good))
 
   value_good : Good (value_at o) (value_at r) (g.value I) (g.value J) (Sign Star ∷ expr_starts) after_expr false
   unfolding value_at
-  value_good = either (made (λ t. None) (a_lexeme (Sign Star))) (made (λ e. Some e) expr_good) refl
+  value_good = either (made (λ t. None) (a_terminal (Sign Star))) (made (λ e. Some e) expr_good) refl
 
-  called_good : Good (called_at o) (called_at r) (g.name ⊗ g.arguments I) (g.name ⊗ g.arguments J) (kind.Name ∷ []) (Sign OpenParen ∷ []) false
+  called_good : Good (called_at o) (called_at r) (g.name ⊗ g.arguments I) (g.name ⊗ g.arguments J) (kind.Name ∷ [])
+      (Sign OpenParen ∷ []) false
   called_good = both name_good arguments_good refl
 
-  if_good : Good (if_at o) (if_at r) ((g.expr I ⊗ g.block I) ⊗ g.otherwise I) ((g.expr J ⊗ g.block J) ⊗ g.otherwise J) expr_starts (Word Else ∷ []) false
-  if_good = both (both expr_good block_good refl) otherwise_good refl
+  if_good : Good (if_at o) (if_at r) ((g.expr I ⊗ g.block I) ⊗ g.else_block I)
+      ((g.expr J ⊗ g.block J) ⊗ g.else_block J) expr_starts (Word Else ∷ []) false
+  if_good = both (both expr_good block_good refl) else_block_good refl
 
-  put_good : Good (put_at o) (put_at r) ((g.name ⊗ g.enclosed I) ⊗ behind (Sign Equal) (g.expr I)) ((g.name ⊗ g.enclosed J) ⊗ behind (Sign Equal) (g.expr J)) (kind.Name ∷ []) after_expr false
+  put_good : Good (put_at o) (put_at r) ((g.name ⊗ g.enclosed I) ⊗ after (Sign Equal) (g.expr I))
+      ((g.name ⊗ g.enclosed J) ⊗ after (Sign Equal) (g.expr J)) (kind.Name ∷ []) after_expr false
   put_good = both (both name_good enclosed_good refl) (leading (Sign Equal) expr_good) refl
 
-  assign_good : Good (assign_at o) (assign_at r) ((g.name ⊗ g.parameters I) ⊗ behind (Sign Becomes) (g.value I) ⇒ assigned) ((g.name ⊗ g.parameters J) ⊗ behind (Sign Becomes) (g.value J) ⇒ assigned) (kind.Name ∷ []) after_expr false
+  assign_good : Good (assign_at o) (assign_at r)
+      ((g.name ⊗ g.parameters I) ⊗ after (Sign Becomes) (g.value I) ⇒ assigned)
+      ((g.name ⊗ g.parameters J) ⊗ after (Sign Becomes) (g.value J) ⇒ assigned) (kind.Name ∷ []) after_expr false
   assign_good = made assigned (both (both name_good parameters_good refl) (leading (Sign Becomes) value_good) refl)
 
   pub cmd_good : Good (cmd_at o) (cmd_at r) (g.cmd I) (g.cmd J) cmd_starts after_cmd false
   unfolding cmd_at
   cmd_good =
-      wider (either (made (λ t. node.Skip t.start) (a_lexeme (Word Skip)))
-      (either (made (λ t. node.Abort t.start) (a_lexeme (Word Abort)))
-      (either (made assumed (both (a_lexeme (Word Assume)) expr_good refl))
-      (either (made asserted (both (a_lexeme (Word Assert)) expr_good refl))
-      (either (made branched (both (a_lexeme (Word If)) if_good refl))
-      (either (made choice (both (a_lexeme (Word Choose)) (separating (Word Or) block_good refl) refl))
-      (either (made inserted (both (a_lexeme (Word Insert)) called_good refl))
-      (either (made removed (both (a_lexeme (Word Remove)) called_good refl))
-      (either (made putting (both (a_lexeme (Word Put)) put_good refl))
+      wider (either (made (λ t. node.Skip t.start) (a_terminal (Word Skip)))
+      (either (made (λ t. node.Abort t.start) (a_terminal (Word Abort)))
+      (either (made assumed (both (a_terminal (Word Assume)) expr_good refl))
+      (either (made asserted (both (a_terminal (Word Assert)) expr_good refl))
+      (either (made branched (both (a_terminal (Word If)) if_good refl))
+      (either (made choice (both (a_terminal (Word Choose)) (separating (Word Or) block_good refl) refl))
+      (either (made inserted (both (a_terminal (Word Insert)) called_good refl))
+      (either (made removed (both (a_terminal (Word Remove)) called_good refl))
+      (either (made putting (both (a_terminal (Word Put)) put_good refl))
       assign_good refl) refl) refl) refl) refl) refl) refl) refl) refl) refl
 
   pub cmds_good : Good (cmds_at o) (cmds_at r) (g.cmds I) (g.cmds J) cmd_starts after_cmds true
@@ -197,31 +342,36 @@ module _ (o r : Option Inners) (I J : Inner) (d : Deeper o r I J) where
   item_good =
       wider (either (made node.Sort (leading (Word Sort) name_good))
       (either (made (λ x. node.Relation x.0 x.1) (leading (Word Relation) (both name_good parameters_good refl)))
-      (either (made (λ x. node.Function x.0.0 x.0.1 x.1) (leading (Word Function) (both (naming names_good) (leading (Sign Arrow) name_good) refl)))
+      (either (made (λ x. node.Function x.0.0 x.0.1 x.1)
+      (leading (Word Function) (both (naming names_good) (leading (Sign Arrow) name_good) refl)))
       (either (made (λ x. node.Variable x.0 x.1) (leading (Word Variable) (naming name_good)))
       (either (made (λ x. node.Axiom x.0 x.1) (leading (Word Axiom) (naming expr_good)))
       (either (made (λ x. node.Conjecture x.0 x.1) (leading (Word Conjecture) (naming expr_good)))
-      (either (made (λ x. node.Init x.0.start x.1) (both (a_lexeme (Word Init)) block_good refl))
+      (either (made (λ x. node.Init x.0.start x.1) (both (a_terminal (Word Init)) block_good refl))
       (either (made (λ x. node.Action x.0 x.1) (leading (Word Action) (both name_good block_good refl)))
-      (made (λ x. node.Final x.0.start x.1) (both (a_lexeme (Word Final)) block_good refl)) refl) refl) refl) refl) refl) refl) refl) refl) refl
+      (made (λ x. node.Final x.0.start x.1) (both (a_terminal (Word Final)) block_good refl)) refl) refl) refl) refl)
+      refl) refl) refl) refl) refl
 
-  pub items_good : Good (items_at o) (items_at r) (g.items I) (g.items J) (Word Rml ∷ item_starts) (Word Rml ∷ (item_starts ++ after_exprs)) true
+  pub items_good : Good (items_at o) (items_at r) (g.items I) (g.items J) (Word Rml ∷ item_starts)
+      (Word Rml ∷ (item_starts ++ after_exprs)) true
   unfolding items_at
-  items_good = wider (either (made (λ x. x.1) (leading (Word Rml) (both (a_lexeme kind.Number) (any_number item_good refl) refl))) (any_number item_good refl) refl) refl
+  items_good = wider (either (made (λ x. x.1)
+      (leading (Word Rml) (both (a_terminal kind.Number) (any_number item_good refl) refl)))
+      (any_number item_good refl) refl) refl
 
 -- ---- some phrase of each
 
 some_name : Some_of g.name.whole
-some_name = some_made name_of (some_lexeme kind.Name)
+some_name = some_made name_of (some_terminal kind.Name)
 
-some_behind : {A : Type 0} (k : Kind) (a : Piece A) → Some_of a.whole → Some_of (behind k a).whole
-some_behind k a s = some_made (λ x. x.1) (some_both (some_lexeme k) s)
+some_after : {A : Type 0} (k : Kind) (a : Piece A) → Some_of a.whole → Some_of (after k a).whole
+some_after k a s = some_made (λ x. x.1) (some_both (some_terminal k) s)
 
 some_separated : {A : Type 0} (k : Kind) (a : Piece A) → Some_of a.whole → Some_of (separated k a).whole
-some_separated k a s = some_made (λ x. x.0 ∷ x.1) (some_both s (no_many (behind k a).whole))
+some_separated k a s = some_made (λ x. x.0 ∷ x.1) (some_both s (no_many (after k a).whole))
 
 some_prim : (I : Inner) → Some_of (g.prim I).whole
-some_prim I = some_left _ (some_made (λ t. node.True t.start) (some_lexeme (Word True)))
+some_prim I = some_left _ (some_made (λ t. node.True t.start) (some_terminal (Word True)))
 
 some_cmp : (I : Inner) → Some_of (g.cmp I).whole
 some_cmp I = some_made compared (some_placed (some_both (some_prim I) (no_optional _)))
@@ -245,13 +395,16 @@ some_expr : (I : Inner) → Some_of (g.expr I).whole
 some_expr I = some_right _ (some_right _ (some_iff I))
 
 some_three : (I : Inner) → Some_of (g.three I).whole
-some_three I = some_both (some_both (some_expr I) (some_behind (Sign Comma) (g.expr I) (some_expr I))) (some_behind (Sign Comma) (g.expr I) (some_expr I))
+some_three I = some_both (some_both (some_expr I) (some_after (Sign Comma) (g.expr I) (some_expr I)))
+    (some_after (Sign Comma) (g.expr I) (some_expr I))
 
 some_binder : Some_of g.binder.whole
-some_binder = some_made binder_of (some_both some_name (some_behind (Sign Colon) g.name some_name))
+some_binder = some_made binder_of (some_both some_name (some_after (Sign Colon) g.name some_name))
 
 some_bound : (I : Inner) → Some_of (g.bound I).whole
-some_bound I = some_made (λ x. (x.0 ∷ x.1.0, x.1.1)) (some_both some_binder (some_left _ (some_made (λ body. ([], body)) (some_behind (Sign Dot) (g.expr I) (some_expr I)))))
+some_bound I = some_made (λ x. (x.0 ∷ x.1.0, x.1.1))
+    (some_both some_binder (some_left _ (some_made (λ body. ([], body))
+    (some_after (Sign Dot) (g.expr I) (some_expr I)))))
 
 -- ---- every level
 
@@ -280,5 +433,6 @@ deeper (suc n) = record {
   cmds = record { held = cmds_good _ _ _ _ (deeper n) };
 }
 
-pub file_good : (n : ℕ) → Good (items_at (inners n)) (items_at (inners (suc n))) (file n) (file (suc n)) (Word Rml ∷ item_starts) (Word Rml ∷ (item_starts ++ after_exprs)) true
+pub file_good : (n : ℕ) → Good (items_at (inners n)) (items_at (inners (suc n))) (file n) (file (suc n))
+    (Word Rml ∷ item_starts) (Word Rml ∷ (item_starts ++ after_exprs)) true
 file_good n = items_good (inners n) (inners (suc n)) (level n) (level (suc n)) (deeper n)

@@ -4,15 +4,77 @@ use Rattle.std.proofs.lemmas.List.{append-nil}
 use Rattle.rml_lex.specs.declared.token.Kind.{Kind}
 use Rattle.rml_syntax.specs.Language.{Tokens, Phrase, place_of}
 use Rattle.rml_syntax.specs.Language as phrase
-use Rattle.rml_syntax.specs.Piece.{Piece, lexeme, opens, ◌⊗◌, ◌∣◌, ◌⇒◌, optional, many, listed, placed}
-use Rattle.rml_syntax.specs.Grammar.{between, behind, separated}
-use Rattle.rml_syntax.specs.Reading.{Reader, lexeme_at, both_at, made_at, either_at, optional_at, many_at, listed_at, placed_at, opening_at, between_at, behind_at, separated_at}
-use Rattle.rml_syntax.proofs.Exact.{Some_of, Exact, some_lexeme, lexeme_exact, both_exact, made_exact, either_exact, optional_exact, many_exact, placed_exact, closed_exact, wider_exact, joint, apart, apart-nil, within}
-use Rattle.rml_syntax.proofs.Levels.{Extends, lexeme_extends, both_extends, made_extends, either_extends, optional_extends, many_extends, placed_extends, closed_extends}
+use Rattle.rml_syntax.specs.Piece.{Piece, terminal, opens, ◌⊗◌, ◌∣◌, ◌⇒◌, optional, many, listed, placed}
+use Rattle.rml_syntax.specs.Grammar.{between, after, separated}
+use Rattle.rml_syntax.specs.Reading.{
+  Reader,
+  expect_at,
+  both_at,
+  made_at,
+  either_at,
+  optional_at,
+  many_at,
+  listed_at,
+  placed_at,
+  opening_at,
+  between_at,
+  after_at,
+  separated_at,
+}
+use Rattle.rml_syntax.proofs.Exact.{
+  Some_of,
+  Exact,
+  some_terminal,
+  terminal_exact,
+  both_exact,
+  made_exact,
+  either_exact,
+  optional_exact,
+  many_exact,
+  placed_exact,
+  closed_exact,
+  wider_exact,
+  joint,
+  apart,
+  apart-nil,
+  within,
+}
+use Rattle.rml_syntax.proofs.Levels.{
+  Extends,
+  terminal_extends,
+  both_extends,
+  made_extends,
+  either_extends,
+  optional_extends,
+  many_extends,
+  placed_extends,
+  closed_extends,
+}
 use Rattle.rml_syntax.proofs.Listed.{listed_exact, listed_extends}
-use Rattle.rml_syntax.proofs.Fronts.{Fronts, lexeme_fronts, both_fronts, made_fronts, placed_fronts, optional_fronts, either_fronts, many_fronts, listed_fronts, closed_fronts, opened_fronts, IsClosed, lexeme_closed, both_closed, opens_closed, either_closed, optional_closed, many_closed, listed_closed}
+use Rattle.rml_syntax.proofs.Fronts.{
+  Fronts,
+  terminal_fronts,
+  both_fronts,
+  made_fronts,
+  placed_fronts,
+  optional_fronts,
+  either_fronts,
+  many_fronts,
+  listed_fronts,
+  closed_fronts,
+  opened_fronts,
+  IsClosed,
+  terminal_closed,
+  both_closed,
+  opens_closed,
+  either_closed,
+  optional_closed,
+  many_closed,
+  listed_closed,
+}
 
--- p reads a, and with one level more q reads b. f is what a begins with, m what it may go on with; it may be empty where e is true
+-- p reads a, and with one level more q reads b. f is what a begins with, m what it may go on with; it may be empty
+-- where e is true
 pub record Good {A : Type 0} (p q : Reader A) (a b : Piece A) (f m : List Kind) (e : Bool) : Type 0 where
   pub exact : Exact p a.whole f m e
   pub grows : Extends p q a.whole b.whole
@@ -25,7 +87,8 @@ pub record IsNothing {A : Type 0} (a : Piece A) : Type 0 where
   pub front : (ts : Tokens) → a.front ts → ⊥
 
 -- the same of what lies inside a lexeme that opens a level
-abbrev pub Held : {A : Type 0} → Option (Reader A) → Option (Reader A) → Piece A → Piece A → List Kind → List Kind → Bool → Type 0
+abbrev pub Held : {A : Type 0} → Option (Reader A) → Option (Reader A) → Piece A → Piece A → List Kind → List Kind
+    → Bool → Type 0
 Held None None a b f m e = ⊥
 Held None (Some q) a b f m e = IsNothing a × Some_of b.whole
 Held (Some p) None a b f m e = ⊥
@@ -37,7 +100,12 @@ pub record Inside {A : Type 0} (o r : Option (Reader A)) (a b : Piece A) (f m : 
 -- ---- some phrase
 
 pub some_both : {A B : Type 0} {L : Phrase A} {M : Phrase B} → Some_of L → Some_of M → Some_of (phrase.◌⊗◌ L M)
-some_both a b = record { tokens = a.tokens ++ b.tokens; value = (a.value, b.value); means = (a.tokens, b.tokens, refl, a.means, b.means) }
+some_both a b = record {
+  tokens = a.tokens ++ b.tokens;
+  value = (a.value, b.value);
+  means =
+      (a.tokens, b.tokens, refl, a.means, b.means);
+}
 
 pub some_made : {A B : Type 0} {L : Phrase A} (h : A → B) → Some_of L → Some_of (phrase.◌⇒◌ L h)
 some_made h a = record { tokens = a.tokens; value = h a.value; means = (a.value, a.means, refl) }
@@ -62,10 +130,19 @@ no_listed k L = record { tokens = []; value = []; means = refl }
 
 -- ---- the words
 
-pub a_lexeme : (k : Kind) → Good (lexeme_at k) (lexeme_at k) (lexeme k) (lexeme k) (k ∷ []) [] false
-a_lexeme k = record { exact = lexeme_exact k; grows = lexeme_extends k; fronts = lexeme_fronts k; some = some_lexeme k; closed = lexeme_closed k }
+pub a_terminal : (k : Kind) → Good (expect_at k) (expect_at k) (terminal k) (terminal k) (k ∷ []) [] false
+a_terminal k = record {
+  exact = terminal_exact k;
+  grows = terminal_extends k;
+  fronts = terminal_fronts k;
+  some =
+      some_terminal k;
+  closed = terminal_closed k;
+}
 
-pub both : {A B : Type 0} {p p' : Reader A} {q q' : Reader B} {L L' : Piece A} {M M' : Piece B} {f m g n : List Kind} {e : Bool} → Good p p' L L' f m false → Good q q' M M' g n e → apart g m ≡ true → Good (both_at p q) (both_at p' q') (L ⊗ M) (L' ⊗ M') f (joint e n m) false
+pub both : {A B : Type 0} {p p' : Reader A} {q q' : Reader B} {L L' : Piece A} {M M' : Piece B} {f m g n : List Kind}
+    {e : Bool} → Good p p' L L' f m false → Good q q' M M' g n e → apart g m ≡ true
+    → Good (both_at p q) (both_at p' q') (L ⊗ M) (L' ⊗ M') f (joint e n m) false
 both {L = L} {M = M} P Q clear = record {
   exact = both_exact _ _ _ _ _ _ _ _ _ _ P.exact Q.exact clear;
   grows = both_extends _ _ _ _ _ _ _ _ _ _ _ P.exact P.grows Q.grows Q.some;
@@ -74,7 +151,8 @@ both {L = L} {M = M} P Q clear = record {
   closed = both_closed L M P.fronts.whole P.closed Q.closed;
 }
 
-pub made : {A B : Type 0} {p p' : Reader A} {L L' : Piece A} {f m : List Kind} {e : Bool} (h : A → B) → Good p p' L L' f m e → Good (made_at h p) (made_at h p') (L ⇒ h) (L' ⇒ h) f m e
+pub made : {A B : Type 0} {p p' : Reader A} {L L' : Piece A} {f m : List Kind} {e : Bool} (h : A → B)
+    → Good p p' L L' f m e → Good (made_at h p) (made_at h p') (L ⇒ h) (L' ⇒ h) f m e
 made h P = record {
   exact = made_exact h _ _ _ _ _ P.exact;
   grows = made_extends h _ _ _ _ P.grows;
@@ -83,7 +161,8 @@ made h P = record {
   closed = P.closed;
 }
 
-pub with_place : {A : Type 0} {p p' : Reader A} {L L' : Piece A} {f m : List Kind} → Good p p' L L' f m false → Good (placed_at p) (placed_at p') (placed L) (placed L') f m false
+pub with_place : {A : Type 0} {p p' : Reader A} {L L' : Piece A} {f m : List Kind} → Good p p' L L' f m false
+    → Good (placed_at p) (placed_at p') (placed L) (placed L') f m false
 with_place P = record {
   exact = placed_exact _ _ _ _ P.exact;
   grows = placed_extends _ _ _ _ P.grows;
@@ -92,7 +171,9 @@ with_place P = record {
   closed = P.closed;
 }
 
-pub either : {A : Type 0} {p p' q q' : Reader A} {L L' M M' : Piece A} {f m g n : List Kind} {e : Bool} → Good p p' L L' f m false → Good q q' M M' g n e → apart g f ≡ true → Good (either_at f p q) (either_at f p' q') (L ∣ M) (L' ∣ M') (f ++ g) (m ++ joint e n f) e
+pub either : {A : Type 0} {p p' q q' : Reader A} {L L' M M' : Piece A} {f m g n : List Kind} {e : Bool}
+    → Good p p' L L' f m false → Good q q' M M' g n e → apart g f ≡ true
+    → Good (either_at f p q) (either_at f p' q') (L ∣ M) (L' ∣ M') (f ++ g) (m ++ joint e n f) e
 either {L = L} {M = M} P Q clear = record {
   exact = either_exact _ _ _ _ _ _ _ _ _ P.exact Q.exact clear;
   grows = either_extends _ _ _ _ _ _ _ _ _ P.grows Q.grows;
@@ -101,7 +182,8 @@ either {L = L} {M = M} P Q clear = record {
   closed = either_closed L M P.closed Q.closed;
 }
 
-pub at_most_once : {A : Type 0} {p p' : Reader A} {L L' : Piece A} {f m : List Kind} → Good p p' L L' f m false → Good (optional_at f p) (optional_at f p') (optional L) (optional L') f (f ++ m) true
+pub at_most_once : {A : Type 0} {p p' : Reader A} {L L' : Piece A} {f m : List Kind} → Good p p' L L' f m false
+    → Good (optional_at f p) (optional_at f p') (optional L) (optional L') f (f ++ m) true
 at_most_once {L = L} P = record {
   exact = optional_exact _ _ _ _ P.exact;
   grows = optional_extends _ _ _ _ _ P.grows;
@@ -110,7 +192,8 @@ at_most_once {L = L} P = record {
   closed = optional_closed L P.closed;
 }
 
-pub any_number : {A : Type 0} {p p' : Reader A} {L L' : Piece A} {f m : List Kind} → Good p p' L L' f m false → apart f m ≡ true → Good (many_at f p) (many_at f p') (many L) (many L') f (f ++ m) true
+pub any_number : {A : Type 0} {p p' : Reader A} {L L' : Piece A} {f m : List Kind} → Good p p' L L' f m false
+    → apart f m ≡ true → Good (many_at f p) (many_at f p') (many L) (many L') f (f ++ m) true
 any_number {L = L} P clear = record {
   exact = many_exact _ _ _ _ P.exact clear;
   grows = many_extends _ _ _ _ _ _ P.exact P.grows;
@@ -119,7 +202,9 @@ any_number {L = L} P clear = record {
   closed = many_closed L P.fronts.whole P.closed;
 }
 
-pub a_list : {A : Type 0} {p p' : Reader A} {L L' : Piece A} {f m : List Kind} (k : Kind) → Good p p' L L' f m false → apart (k ∷ []) m ≡ true → Good (listed_at f k p) (listed_at f k p') (listed k L) (listed k L') f ((k ∷ []) ++ (m ++ f)) true
+pub a_list : {A : Type 0} {p p' : Reader A} {L L' : Piece A} {f m : List Kind} (k : Kind) → Good p p' L L' f m false
+    → apart (k ∷ []) m ≡ true → Good (listed_at f k p) (listed_at f k p') (listed k L) (listed k L') f
+    ((k ∷ []) ++ (m ++ f)) true
 a_list {L = L} k P clear = record {
   exact = listed_exact k _ _ _ _ P.exact clear;
   grows = listed_extends k _ _ _ _ _ _ P.exact P.grows;
@@ -128,42 +213,59 @@ a_list {L = L} k P clear = record {
   closed = listed_closed k L P.fronts.whole P.closed;
 }
 
-pub opening : {A : Type 0} {o r : Option (Reader A)} {a b : Piece A} {f m : List Kind} {e : Bool} (k : Kind) → Inside o r a b f m e → Good (opening_at k o) (opening_at k r) (opens k a) (opens k b) (k ∷ []) m false
+pub opening : {A : Type 0} {o r : Option (Reader A)} {a b : Piece A} {f m : List Kind} {e : Bool} (k : Kind)
+    → Inside o r a b f m e → Good (opening_at k o) (opening_at k r) (opens k a) (opens k b) (k ∷ []) m false
 opening {o = o} {r = r} {a = a} {b = b} {f = f} {m = m} {e = e} k h = opens_good k o r a b f m e h.held
   where
     joint-nil : (e : Bool) (m : List Kind) → joint e m [] ≡ m
     joint-nil true m = append-nil m
     joint-nil false m = refl
 
-    opens_good : {A : Type 0} (k : Kind) (o r : Option (Reader A)) (a b : Piece A) (f m : List Kind) (e : Bool) → Held o r a b f m e → Good (opening_at k o) (opening_at k r) (opens k a) (opens k b) (k ∷ []) m false
+    opens_good : {A : Type 0} (k : Kind) (o r : Option (Reader A)) (a b : Piece A) (f m : List Kind) (e : Bool)
+        → Held o r a b f m e → Good (opening_at k o) (opening_at k r) (opens k a) (opens k b) (k ∷ []) m false
     opens_good k None None a b f m e h = absurd h
     opens_good k None (Some q) a b f m e h = record {
       exact = closed_exact k a.whole m h.0.whole;
       grows = closed_extends k a.whole q b.whole h.0.whole h.1;
       fronts = closed_fronts k a.front a.whole h.0.whole h.0.front;
-      some = some_both (some_lexeme k) h.1;
+      some = some_both (some_terminal k) h.1;
       closed = opens_closed k a (λ u v g. absurd (h.0.front (u ++ v) g));
     }
     opens_good k (Some p) None a b f m e h = absurd h
     opens_good k (Some p) (Some q) a b f m e h = record {
-      exact = subst (λ n. Exact (opening_at k (Some p)) (phrase.◌⊗◌ (phrase.lexeme k) a.whole) (k ∷ []) n false) (joint-nil e m) (both_exact (lexeme_at k) p (phrase.lexeme k) a.whole (k ∷ []) [] f m false e (lexeme_exact k) h.exact (apart-nil f));
-      grows = both_extends _ _ _ _ _ _ _ _ _ _ _ (lexeme_exact k) (lexeme_extends k) h.grows h.some;
+      exact = subst (λ n. Exact (opening_at k (Some p)) (phrase.◌⊗◌ (phrase.terminal k) a.whole) (k ∷ []) n false)
+          (joint-nil e m) (both_exact (expect_at k) p (phrase.terminal k) a.whole (k ∷ []) [] f m false e
+          (terminal_exact k) h.exact (apart-nil f));
+      grows = both_extends _ _ _ _ _ _ _ _ _ _ _ (terminal_exact k) (terminal_extends k) h.grows h.some;
       fronts = opened_fronts k a.front p a.whole f m e h.exact h.fronts;
-      some = some_both (some_lexeme k) h.some;
+      some = some_both (some_terminal k) h.some;
       closed = opens_closed k a h.closed;
     }
 
 -- a larger set of what it may go on with
-pub wider : {A : Type 0} {p p' : Reader A} {L L' : Piece A} {f m n : List Kind} {e : Bool} → Good p p' L L' f m e → within m n ≡ true → Good p p' L L' f n e
-wider P h = record { exact = wider_exact _ _ _ _ _ _ P.exact h; grows = P.grows; fronts = P.fronts; some = P.some; closed = P.closed }
+pub wider : {A : Type 0} {p p' : Reader A} {L L' : Piece A} {f m n : List Kind} {e : Bool} → Good p p' L L' f m e
+    → within m n ≡ true → Good p p' L L' f n e
+wider P h = record {
+  exact = wider_exact _ _ _ _ _ _ P.exact h;
+  grows = P.grows;
+  fronts = P.fronts;
+  some =
+      P.some;
+  closed = P.closed;
+}
 
 -- ---- the words of the grammar itself
 
-pub enclosing : {A : Type 0} {o r : Option (Reader A)} {L M : Piece A} {f m : List Kind} {e : Bool} (j k : Kind) → Inside o r L M f m e → apart (k ∷ []) m ≡ true → Good (between_at j o k) (between_at j r k) (between j L k) (between j M k) (j ∷ []) [] false
-enclosing j k h clear = made (λ x. x.0.1) (both (opening j h) (a_lexeme k) clear)
+pub enclosing : {A : Type 0} {o r : Option (Reader A)} {L M : Piece A} {f m : List Kind} {e : Bool} (j k : Kind)
+    → Inside o r L M f m e → apart (k ∷ []) m ≡ true → Good (between_at j o k) (between_at j r k) (between j L k)
+    (between j M k) (j ∷ []) [] false
+enclosing j k h clear = made (λ x. x.0.1) (both (opening j h) (a_terminal k) clear)
 
-pub leading : {A : Type 0} {p p' : Reader A} {L L' : Piece A} {f m : List Kind} (k : Kind) → Good p p' L L' f m false → Good (behind_at k p) (behind_at k p') (behind k L) (behind k L') (k ∷ []) m false
-leading {f = f} k P = made (λ x. x.1) (both (a_lexeme k) P (apart-nil f))
+pub leading : {A : Type 0} {p p' : Reader A} {L L' : Piece A} {f m : List Kind} (k : Kind) → Good p p' L L' f m false
+    → Good (after_at k p) (after_at k p') (after k L) (after k L') (k ∷ []) m false
+leading {f = f} k P = made (λ x. x.1) (both (a_terminal k) P (apart-nil f))
 
-pub separating : {A : Type 0} {p p' : Reader A} {L L' : Piece A} {f m : List Kind} (k : Kind) → Good p p' L L' f m false → apart (k ∷ []) m ≡ true → Good (separated_at k p) (separated_at k p') (separated k L) (separated k L') f (((k ∷ []) ++ m) ++ m) false
+pub separating : {A : Type 0} {p p' : Reader A} {L L' : Piece A} {f m : List Kind} (k : Kind)
+    → Good p p' L L' f m false → apart (k ∷ []) m ≡ true
+    → Good (separated_at k p) (separated_at k p') (separated k L) (separated k L') f (((k ∷ []) ++ m) ++ m) false
 separating k P clear = made (λ x. x.0 ∷ x.1) (both P (any_number (leading k P) clear) clear)

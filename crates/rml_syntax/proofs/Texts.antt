@@ -1,5 +1,32 @@
 -- The theorem on a text's tokens: with the number behind `rml`, and one tree or one first fault.
-use Rattle.std.proofs.Common.{◌≡◌, ℕ, ◌≤◌, Bool, true, false, cond, ◌⊎◌, inl, inr, List, [], ◌∷◌, ◌++◌, length, drop, Result, Ok, Err, refl, sym, ap, subst, ◌∙◌, append_assoc, arith}
+use Rattle.std.proofs.Common.{
+  ◌≡◌,
+  ℕ,
+  ◌≤◌,
+  Bool,
+  true,
+  false,
+  cond,
+  ◌⊎◌,
+  inl,
+  inr,
+  List,
+  [],
+  ◌∷◌,
+  ◌++◌,
+  length,
+  drop,
+  Result,
+  Ok,
+  Err,
+  refl,
+  sym,
+  ap,
+  subst,
+  ◌∙◌,
+  append_assoc,
+  arith,
+}
 use Rattle.std.specs.Prelude.{◌&&◌, not}
 use Rattle.std.specs.List.{AllByRecursion}
 use Rattle.std.proofs.lemmas.List.{append-nil, append_cancel_left}
@@ -15,8 +42,31 @@ use Rattle.rml_syntax.specs.declared.front.Stop.TheVariants as stops
 use Rattle.rml_syntax.specs.Language.{Tokens}
 use Rattle.rml_syntax.specs.Tree.{ItemTree}
 use Rattle.rml_syntax.specs.Grammar.{file, max_levels}
-use Rattle.rml_syntax.specs.Faults.{is_one, IsFormat1, IsTree, Begins, BeginsFile, IsUnexpected, IsTooDeep, place_at, IsFault}
-use Rattle.rml_syntax.specs.Reading.{Why, Unexpected, TooDeep, Failure, fails, items_at, all_at, is_other_format, read_at, failure_of, fault_of, Stops}
+use Rattle.rml_syntax.specs.Faults.{
+  is_one,
+  IsFormat1,
+  IsTree,
+  Begins,
+  BeginsFile,
+  IsUnexpected,
+  IsTooDeep,
+  place_at,
+  IsFault,
+}
+use Rattle.rml_syntax.specs.Reading.{
+  Why,
+  Unexpected,
+  TooDeep,
+  Failure,
+  fails,
+  items_at,
+  all_at,
+  is_other_format,
+  read_at,
+  failure_of,
+  fault_of,
+  Stops,
+}
 use Rattle.rml_syntax.proofs.Exact.{chosen, ok_is, err_is, same_kind, same_number}
 use Rattle.rml_syntax.proofs.Fronts.{cut}
 use Rattle.rml_syntax.proofs.Grammar.{file_good}
@@ -47,7 +97,9 @@ is_format false b c e f g = absurd cc
 has_format : (text : List ℕ) (ts : Tokens) → is_other_format text ts ≡ false → IsFormat1 text ts
 has_format text [] e = tt
 has_format text (t ∷ []) e = tt
-has_format text (t ∷ u ∷ ts) e = λ rml is_number. is_format _ _ _ e (same_number (Word Rml) t.kind (sym rml)) (same_number Number u.kind (sym is_number))
+has_format text (t ∷ u ∷ ts) e =
+    λ rml is_number. is_format _ _ _ e (same_number (Word Rml) t.kind (sym rml))
+    (same_number Number u.kind (sym is_number))
 
 -- `rml` and a number that is not 1
 record Other (text : List ℕ) (ts : Tokens) : Type 0 where
@@ -65,7 +117,16 @@ other text (t ∷ []) e = absurd cc
 other text (t ∷ u ∷ ts) e =
     let a = and_parts _ _ e in
     let b = and_parts _ _ a.1 in
-    record { rml = t; digits = u; more = ts; parts = refl; is_rml = same_kind (Word Rml) t.kind a.0; is_number = same_kind Number u.kind b.0; wrong = not_true _ b.1 }
+    record {
+      rml = t;
+      digits = u;
+      more = ts;
+      parts = refl;
+      is_rml = same_kind (Word Rml) t.kind a.0;
+      is_number =
+          same_kind Number u.kind b.0;
+      wrong = not_true _ b.1;
+    }
 
 -- ---- what is read
 
@@ -77,15 +138,18 @@ pub grammar_alone : (text : List ℕ) (ts : Tokens) → is_other_format text ts 
 grammar_alone text ts e = rw e (ap (λ (n : ℕ). all_at n ts) hundred)
 
 pub reads_tree : (text : List ℕ) (ts : Tokens) (tree : List ItemTree) → read_at text ts ≡ Ok tree → IsTree text ts tree
-reads_tree text ts tree e = elim (chosen (is_other_format text ts) (fails Unexpected (drop 1 ts)) (all_at max_levels ts) (Ok tree) e) [
-  | inl h ↦ absurd (let no : ◌≡◌ {A = Result (List ItemTree) Failure} (fails Unexpected (drop 1 ts)) (Ok tree) = h.1 in cc)
-  | inr h ↦ (has_format text ts h.0, all_found max_levels ts tree h.1)
-]
+reads_tree text ts tree e = elim (chosen (is_other_format text ts) (fails Unexpected (drop 1 ts))
+    (all_at max_levels ts) (Ok tree) e) [
+      | inl h ↦ absurd (let no : ◌≡◌ {A = Result (List ItemTree) Failure} (fails Unexpected (drop 1 ts)) (Ok tree) =
+          h.1 in cc)
+      | inr h ↦ (has_format text ts h.0, all_found max_levels ts tree h.1)
+    ]
 
 pub tree_read : (text : List ℕ) (ts : Tokens) (tree : List ItemTree) → IsTree text ts tree → read_at text ts ≡ Ok tree
 tree_read text ts tree h = by_format (is_other_format text ts) refl
   where
-    by_format : (b : Bool) → is_other_format text ts ≡ b → cond (is_other_format text ts) (fails Unexpected (drop 1 ts)) (all_at max_levels ts) ≡ Ok tree
+    by_format : (b : Bool) → is_other_format text ts ≡ b
+        → cond (is_other_format text ts) (fails Unexpected (drop 1 ts)) (all_at max_levels ts) ≡ Ok tree
     by_format true e =
         let o = other text ts e in
         let f : IsFormat1 text (o.rml ∷ o.digits ∷ o.more) = subst (IsFormat1 text) o.parts h.0 in
@@ -100,16 +164,19 @@ rml_file t u rml is_number = rw (← rml, ← is_number) refl
 abbrev some_number : Token
 some_number = record { kind = Number; start = 0; end = 0 }
 
-other_fault : (text : List ℕ) (ts : Tokens) → Other text ts → IsFault text ts (failure_of text (record { why = Unexpected; rest = drop 1 ts }))
+other_fault : (text : List ℕ) (ts : Tokens) → Other text ts
+    → IsFault text ts (failure_of text (record { why = Unexpected; rest = drop 1 ts }))
 other_fault text ts o =
     let whole = all_found max_levels (o.rml ∷ some_number ∷ []) [] (rml_file o.rml some_number o.is_rml refl) in
-    subst (λ (r : Tokens). IsFault text r (failure_of text (record { why = Unexpected; rest = drop 1 r }))) (sym o.parts) (record {
+    subst (λ (r : Tokens). IsFault text r (failure_of text (record { why = Unexpected; rest = drop 1 r })))
+    (sym o.parts) (record {
       front = o.rml ∷ [];
       rest = o.digits ∷ o.more;
       parts = refl;
       format = tt;
       begins = (max_levels, record { rest = some_number ∷ []; value = []; means = whole });
-      within = (file_good max_levels).closed (o.rml ∷ []) (some_number ∷ []) ((file_good max_levels).fronts.whole (o.rml ∷ some_number ∷ []) [] whole);
+      within = (file_good max_levels).closed (o.rml ∷ []) (some_number ∷ [])
+          ((file_good max_levels).fronts.whole (o.rml ∷ some_number ∷ []) [] whole);
       place = refl;
       cause = inl (refl, λ format begins. o.wrong (format (sym o.is_rml) (sym o.is_number)));
     })
@@ -118,45 +185,85 @@ lift_refused : (text : List ℕ) (front rest : Tokens) → IsRefused front rest 
 lift_refused text front [] h = λ format is. h is
 lift_refused text front (t ∷ rest) h = λ format is. h is
 
-lift_deep : (text : List ℕ) (front rest : Tokens) → IsFormat1 text (front ++ rest) → OpensTooMany max_levels front rest → IsTooDeep text front rest
+lift_deep : (text : List ℕ) (front rest : Tokens) → IsFormat1 text (front ++ rest)
+    → OpensTooMany max_levels front rest → IsTooDeep text front rest
 lift_deep text front [] f h = h
-lift_deep text front (t ∷ rest) f h =
-    (less_format text (front ++ t ∷ []) rest (subst (IsFormat1 text) (sym (append_assoc front (t ∷ []) rest)) f), h.0, h.1)
+lift_deep text front (t ∷ rest) f h = (
+  less_format text (front ++ t ∷ []) rest (subst (IsFormat1 text) (sym (append_assoc front (t ∷ []) rest)) f),
+  h.0,
+  h.1,
+)
 
-grammar_fault : (text : List ℕ) (ts : Tokens) (why : Why) (rest : Tokens) → IsFormat1 text ts → all_at max_levels ts ≡ fails why rest → IsFault text ts (failure_of text (record { why = why; rest = rest }))
+grammar_fault : (text : List ℕ) (ts : Tokens) (why : Why) (rest : Tokens) → IsFormat1 text ts → all_at max_levels ts
+    ≡ fails why rest → IsFault text ts (failure_of text (record { why = why; rest = rest }))
 grammar_fault text ts Unexpected rest f e =
     let s = unexpected max_levels ts rest e in
-    record { front = s.front; rest = rest; parts = s.parts; format = less_format text s.front rest (subst (IsFormat1 text) s.parts f); begins = s.begins; within = s.within; place = refl; cause = inl (refl, lift_refused text s.front rest s.wrong) }
+    record {
+      front = s.front;
+      rest = rest;
+      parts = s.parts;
+      format =
+          less_format text s.front rest (subst (IsFormat1 text) s.parts f);
+      begins = s.begins;
+      within =
+          s.within;
+      place = refl;
+      cause = inl (refl, lift_refused text s.front rest s.wrong);
+    }
 grammar_fault text ts TooDeep rest f e =
     let s = deep max_levels ts rest e in
     let g : IsFormat1 text (s.front ++ rest) = subst (IsFormat1 text) s.parts f in
-    record { front = s.front; rest = rest; parts = s.parts; format = less_format text s.front rest g; begins = s.begins; within = s.within; place = refl; cause = inr (refl, lift_deep text s.front rest g s.wrong) }
+    record {
+      front = s.front;
+      rest = rest;
+      parts = s.parts;
+      format = less_format text s.front rest g;
+      begins =
+          s.begins;
+      within = s.within;
+      place = refl;
+      cause = inr (refl, lift_deep text s.front rest g s.wrong);
+    }
 
-pub reads_fault : (text : List ℕ) (ts : Tokens) (w : Failure) → read_at text ts ≡ Err w → IsFault text ts (failure_of text w)
-reads_fault text ts w e = elim (chosen (is_other_format text ts) (fails Unexpected (drop 1 ts)) (all_at max_levels ts) (Err w) e) [
-  | inl h ↦ subst (λ v. IsFault text ts (failure_of text v)) (err_is (record { why = Unexpected; rest = drop 1 ts }) w h.1) (other_fault text ts (other text ts h.0))
-  | inr h ↦ grammar_fault text ts w.why w.rest (has_format text ts h.0) h.1
-]
+pub reads_fault : (text : List ℕ) (ts : Tokens) (w : Failure) → read_at text ts ≡ Err w
+    → IsFault text ts (failure_of text w)
+reads_fault text ts w e = elim (chosen (is_other_format text ts) (fails Unexpected (drop 1 ts)) (all_at max_levels ts)
+    (Err w) e) [
+      | inl h ↦ subst (λ v. IsFault text ts (failure_of text v))
+          (err_is (record { why = Unexpected; rest = drop 1 ts }) w h.1) (other_fault text ts (other text ts h.0))
+      | inr h ↦ grammar_fault text ts w.why w.rest (has_format text ts h.0) h.1
+    ]
 
 -- ---- one tree or one fault
 
 pub one_tree : (text : List ℕ) (ts : Tokens) (a b : List ItemTree) → IsTree text ts a → IsTree text ts b → a ≡ b
 one_tree text ts a b p q = ok_is a b (sym (tree_read text ts a p) ∙ tree_read text ts b q)
 
-pub some_reading : (text : List ℕ) (ts : Tokens) → ((tree : List ItemTree) × IsTree text ts tree) ⊎ ((fault : Fault) × IsFault text ts fault)
+pub some_reading : (text : List ℕ) (ts : Tokens) → ((tree : List ItemTree) × IsTree text ts tree)
+    ⊎ ((fault : Fault) × IsFault text ts fault)
 some_reading text ts = by_result (read_at text ts) refl
   where
-    by_result : (r : Result (List ItemTree) Failure) → read_at text ts ≡ r → ((tree : List ItemTree) × IsTree text ts tree) ⊎ ((fault : Fault) × IsFault text ts fault)
+    by_result : (r : Result (List ItemTree) Failure) → read_at text ts ≡ r
+        → ((tree : List ItemTree) × IsTree text ts tree) ⊎ ((fault : Fault) × IsFault text ts fault)
     by_result (Ok tree) e = inl (tree, reads_tree text ts tree e)
     by_result (Err w) e = inr (failure_of text w, reads_fault text ts w e)
 
 -- more tokens that begin a file
 begins_less : (u v : Tokens) → BeginsFile (u ++ v) → BeginsFile u
-begins_less u v h = let b = h.1 in (h.0, record { rest = v ++ b.rest; value = b.value; means = subst (λ (r : Tokens). (file h.0).whole r b.value) (append_assoc u v b.rest) b.means })
+begins_less u v h = let b = h.1 in (
+  h.0,
+  record {
+    rest = v ++ b.rest;
+    value = b.value;
+    means =
+        subst (λ (r : Tokens). (file h.0).whole r b.value) (append_assoc u v b.rest) b.means;
+  },
+)
 
 -- a fault is behind the longest front that is as it should be
 abbrev Ends : List ℕ → Tokens → Tokens → Type 0
-Ends text front rest = (w more : Tokens) → rest ≡ w ++ more → IsFormat1 text (front ++ w) → BeginsFile (front ++ w) → (file max_levels).front (front ++ w) → w ≡ []
+Ends text front rest = (w more : Tokens) → rest ≡ w ++ more → IsFormat1 text (front ++ w) → BeginsFile (front ++ w)
+    → (file max_levels).front (front ++ w) → w ≡ []
 
 unexpected_ends : (text : List ℕ) (front rest : Tokens) → IsUnexpected text front rest → Ends text front rest
 unexpected_ends text front rest h [] more e f b i = refl
@@ -164,31 +271,47 @@ unexpected_ends text front [] h (t ∷ w) more e f b i = absurd cc
 unexpected_ends text front (r ∷ rest) h (t ∷ w) more e f b i =
     let same : t ≡ r = cc in
     let one : front ++ t ∷ w ≡ (front ++ t ∷ []) ++ w = sym (append_assoc front (t ∷ []) w) in
-    absurd (h (subst (λ (u : Token). IsFormat1 text (front ++ u ∷ [])) same (less_format text (front ++ t ∷ []) w (subst (IsFormat1 text) one f))) (subst (λ (u : Token). BeginsFile (front ++ u ∷ [])) same (begins_less (front ++ t ∷ []) w (subst BeginsFile one b))))
+    absurd (h (subst (λ (u : Token). IsFormat1 text (front ++ u ∷ [])) same
+    (less_format text (front ++ t ∷ []) w (subst (IsFormat1 text) one f)))
+    (subst (λ (u : Token). BeginsFile (front ++ u ∷ [])) same
+    (begins_less (front ++ t ∷ []) w (subst BeginsFile one b))))
 
 deep_ends : (text : List ℕ) (front rest : Tokens) → IsTooDeep text front rest → Ends text front rest
 deep_ends text front rest h [] more e f b i = refl
 deep_ends text front [] h (t ∷ w) more e f b i = absurd h
 deep_ends text front (r ∷ rest) h (t ∷ w) more e f b i =
     let same : t ≡ r = cc in
-    absurd (h.2 (subst (λ (u : Token). (file max_levels).front (front ++ u ∷ [])) same ((file_good max_levels).closed (front ++ t ∷ []) w (subst (file max_levels).front (sym (append_assoc front (t ∷ []) w)) i))))
+    absurd (h.2 (subst (λ (u : Token). (file max_levels).front (front ++ u ∷ [])) same
+    ((file_good max_levels).closed (front ++ t ∷ []) w
+    (subst (file max_levels).front (sym (append_assoc front (t ∷ []) w)) i))))
 
 ends : (text : List ℕ) (ts : Tokens) (f : Fault) (p : IsFault text ts f) → Ends text p.front p.rest
-ends text ts f p = elim p.cause [ inl a ↦ unexpected_ends text p.front p.rest a.1 | inr b ↦ deep_ends text p.front p.rest b.1 ]
+ends text ts f p = elim p.cause [
+  | inl a ↦ unexpected_ends text p.front p.rest a.1
+  | inr b ↦
+      deep_ends text p.front p.rest b.1
+]
 
-one_front : (text : List ℕ) (ts : Tokens) (f g : Fault) (p : IsFault text ts f) (q : IsFault text ts g) → p.front ≡ q.front
+one_front : (text : List ℕ) (ts : Tokens) (f g : Fault) (p : IsFault text ts f) (q : IsFault text ts g) → p.front
+    ≡ q.front
 one_front text ts f g p q = elim (cut p.front p.rest q.front q.rest (sym p.parts ∙ q.parts)) [
   | inl c ↦
-      let e : q.rest ≡ c.0 ++ p.rest = append_cancel_left q.front q.rest (c.0 ++ p.rest) (sym q.parts ∙ p.parts ∙ ap (λ (r : Tokens). r ++ p.rest) c.1 ∙ append_assoc q.front c.0 p.rest) in
-      let none = ends text ts g q c.0 p.rest e (subst (IsFormat1 text) c.1 p.format) (subst BeginsFile c.1 p.begins) (subst (file max_levels).front c.1 p.within) in
+      let e : q.rest ≡ c.0 ++ p.rest =
+      append_cancel_left q.front q.rest (c.0 ++ p.rest)
+      (sym q.parts ∙ p.parts ∙ ap (λ (r : Tokens). r ++ p.rest) c.1 ∙ append_assoc q.front c.0 p.rest) in
+      let none = ends text ts g q c.0 p.rest e (subst (IsFormat1 text) c.1 p.format) (subst BeginsFile c.1 p.begins)
+      (subst (file max_levels).front c.1 p.within) in
       c.1 ∙ ap (λ (r : Tokens). q.front ++ r) none ∙ append-nil q.front
   | inr c ↦
-      let none = ends text ts f p c.0 q.rest c.2 (subst (IsFormat1 text) c.1 q.format) (subst BeginsFile c.1 q.begins) (subst (file max_levels).front c.1 q.within) in
+      let none = ends text ts f p c.0 q.rest c.2 (subst (IsFormat1 text) c.1 q.format) (subst BeginsFile c.1 q.begins)
+      (subst (file max_levels).front c.1 q.within) in
       sym (c.1 ∙ ap (λ (r : Tokens). p.front ++ r) none ∙ append-nil p.front)
 ]
 
 one_rest : (text : List ℕ) (ts : Tokens) (f g : Fault) (p : IsFault text ts f) (q : IsFault text ts g) → p.rest ≡ q.rest
-one_rest text ts f g p q = append_cancel_left p.front p.rest q.rest (sym p.parts ∙ q.parts ∙ ap (λ (r : Tokens). r ++ q.rest) (sym (one_front text ts f g p q)))
+one_rest text ts f g p q =
+    append_cancel_left p.front p.rest q.rest (sym p.parts ∙ q.parts
+    ∙ ap (λ (r : Tokens). r ++ q.rest) (sym (one_front text ts f g p q)))
 
 both_wrong : (text : List ℕ) (front rest : Tokens) → IsUnexpected text front rest → IsTooDeep text front rest → ⊥
 both_wrong text front [] r d = d
@@ -202,7 +325,9 @@ one_fault text ts f g p q =
     let fronts = one_front text ts f g p q in
     let rests = one_rest text ts f g p q in
     let at : f.at ≡ g.at = p.place ∙ ap (place_at text) rests ∙ sym q.place in
-    let clash : (u v : Tokens) (r s : Tokens) → u ≡ v → r ≡ s → IsUnexpected text u r → IsTooDeep text v s → ⊥ = λ u v r s e e' a b. both_wrong text u r a (subst (λ (w : Tokens). IsTooDeep text u w) (sym e') (subst (λ (w : Tokens). IsTooDeep text w s) (sym e) b)) in
+    let clash : (u v : Tokens) (r s : Tokens) → u ≡ v → r ≡ s → IsUnexpected text u r → IsTooDeep text v s
+    → ⊥ = λ u v r s e e' a b. both_wrong text u r a
+    (subst (λ (w : Tokens). IsTooDeep text u w) (sym e') (subst (λ (w : Tokens). IsTooDeep text w s) (sym e) b)) in
     elim p.cause [
       | inl a ↦ elim q.cause [
         | inl b ↦ same_fault f g (a.0 ∙ sym b.0) at
@@ -215,33 +340,47 @@ one_fault text ts f g p q =
     ]
 
 -- a whole file has no fault
-pub not_both : (text : List ℕ) (ts : Tokens) (tree : List ItemTree) (f : Fault) → IsTree text ts tree → IsFault text ts f → ⊥
+pub not_both : (text : List ℕ) (ts : Tokens) (tree : List ItemTree) (f : Fault) → IsTree text ts tree
+    → IsFault text ts f → ⊥
 not_both text ts tree f t p =
-    let none : p.rest ≡ [] = ends text ts f p p.rest [] (sym (append-nil p.rest)) (subst (IsFormat1 text) p.parts t.0) (max_levels, subst (Begins (file max_levels).whole) p.parts (record { rest = []; value = tree; means = rw append-nil t.1 })) (subst (file max_levels).front p.parts ((file_good max_levels).fronts.whole ts tree t.1)) in
+    let none : p.rest ≡ [] =
+    ends text ts f p p.rest [] (sym (append-nil p.rest)) (subst (IsFormat1 text) p.parts t.0) (
+      max_levels,
+      subst (Begins (file max_levels).whole) p.parts
+          (record { rest = []; value = tree; means = rw append-nil t.1 }),
+    )
+    (subst (file max_levels).front p.parts ((file_good max_levels).fronts.whole ts tree t.1)) in
     let all : ts ≡ p.front = p.parts ∙ ap (λ (r : Tokens). p.front ++ r) none ∙ append-nil p.front in
     elim p.cause [
-      | inl a ↦ subst (IsUnexpected text p.front) none a.1 (subst (IsFormat1 text) all t.0) (max_levels, tree, subst (λ (r : Tokens). (file max_levels).whole r tree) all t.1)
+      | inl a ↦ subst (IsUnexpected text p.front) none a.1 (subst (IsFormat1 text) all t.0)
+          (max_levels, tree, subst (λ (r : Tokens). (file max_levels).whole r tree) all t.1)
       | inr b ↦ subst (IsTooDeep text p.front) none b.1
     ]
 
 -- ---- what the parser answers
 
-pub stop_fault : (text : List ℕ) (ts : Tokens) (s : Stop) → Stops (refused.For s) (read_at text ts) → IsFault text ts (fault_of text s)
+pub stop_fault : (text : List ℕ) (ts : Tokens) (s : Stop) → Stops (refused.For s) (read_at text ts)
+    → IsFault text ts (fault_of text s)
 stop_fault text ts (stops.Unexpected rest) e = reads_fault text ts (record { why = Unexpected; rest = rest.now }) e
 stop_fault text ts (stops.TooDeep rest) e = reads_fault text ts (record { why = TooDeep; rest = rest.now }) e
 
 -- ---- the place of a fault
 
-first_within : (text : List ℕ) (front rest : Tokens) → AllByRecursion (EndsBy (length text)) (front ++ rest) → place_at text rest ≤ length text
+first_within : (text : List ℕ) (front rest : Tokens) → AllByRecursion (EndsBy (length text)) (front ++ rest)
+    → place_at text rest ≤ length text
 first_within text [] [] h = omega arith
 first_within text [] (t ∷ rest) h = omega (arith, h.0.0, h.0.1)
 first_within text (u ∷ front) rest h = first_within text front rest h.1
 
-pub stands : (text : List ℕ) (ts : Tokens) (f : Fault) → AllByRecursion (EndsBy (length text)) ts → IsFault text ts f → f.at ≤ length text
-stands text ts f h p = rw p.place (first_within text p.front p.rest (subst (AllByRecursion (EndsBy (length text))) p.parts h))
+pub stands : (text : List ℕ) (ts : Tokens) (f : Fault) → AllByRecursion (EndsBy (length text)) ts → IsFault text ts f
+    → f.at ≤ length text
+stands text ts f h p = rw p.place (first_within text p.front p.rest
+    (subst (AllByRecursion (EndsBy (length text))) p.parts h))
 
-pub within_text : (text : List ℕ) (ts : Tokens) (tree : List ItemTree) → IsTree text ts tree → AllByRecursion (EndsBy (length text)) ts → TreeWithin (length text) tree
+pub within_text : (text : List ℕ) (ts : Tokens) (tree : List ItemTree) → IsTree text ts tree
+    → AllByRecursion (EndsBy (length text)) ts → TreeWithin (length text) tree
 within_text text ts tree h all = tree_within (length text) max_levels ts tree h.1 all
 
-pub shaped_text : (text : List ℕ) (ts : Tokens) (tree : List ItemTree) → IsTree text ts tree → AllByRecursion (EndsBy (length text)) ts → IsShaped tree
+pub shaped_text : (text : List ℕ) (ts : Tokens) (tree : List ItemTree) → IsTree text ts tree
+    → AllByRecursion (EndsBy (length text)) ts → IsShaped tree
 shaped_text text ts tree h all = is_shaped (length text) ts tree h.1 all

@@ -1,10 +1,29 @@
 -- The tree of a text's tokens, and their first fault.
-use Rattle.std.specs.Prelude.{◌≡◌, ◌==◌, ◌&&◌, Bool, true, false, ℕ, List, [], ◌∷◌, ◌++◌, ◌⊎◌, length, Result, Ok, Err, if◌then◌else◌}
+use Rattle.std.specs.Prelude.{
+  ◌≡◌,
+  ◌==◌,
+  ◌&&◌,
+  Bool,
+  true,
+  false,
+  ℕ,
+  List,
+  [],
+  ◌∷◌,
+  ◌++◌,
+  ◌⊎◌,
+  length,
+  Result,
+  Ok,
+  Err,
+  if◌then◌else◌,
+}
 use Rattle.base.specs.declared.refused.Refused.{Refused}
 use Rattle.base.specs.declared.refused.Refused.TheVariants.{For, NoMemory}
 use Rattle.rml_lex.specs.declared.token.Kind.TheVariants.{Word, Number}
 use Rattle.rml_lex.specs.declared.token.Word.TheVariants.{Rml}
 use Rattle.rml_lex.specs.declared.token.Fault.{Fault}
+use Rattle.rml_lex.specs.declared.fault_code.FaultCode.TheVariants as fault_code
 use Rattle.rml_lex.specs.Tokens.{word_of}
 use Rattle.rml_syntax.specs.Language.{Tokens, Phrase}
 use Rattle.rml_syntax.specs.declared.tree.Tree.{Tree}
@@ -48,7 +67,9 @@ IsUnexpected text front (token ∷ rest) = IsFormat1 text (front ++ token ∷ []
 -- the next token goes on, but lies inside as many others as may be
 abbrev pub IsTooDeep : List ℕ → Tokens → Tokens → Type 0
 IsTooDeep text front [] = ⊥
-IsTooDeep text front (token ∷ rest) = IsFormat1 text (front ++ token ∷ []) × BeginsFile (front ++ token ∷ []) × ((file max_levels).front (front ++ token ∷ []) → ⊥)
+IsTooDeep text front (token ∷ rest) =
+    IsFormat1 text (front ++ token ∷ []) × BeginsFile (front ++ token ∷ [])
+    × ((file max_levels).front (front ++ token ∷ []) → ⊥)
 
 -- where the first of these tokens stands; behind the last one the text ends
 abbrev pub place_at : List ℕ → Tokens → ℕ
@@ -65,7 +86,8 @@ pub record IsFault (text : List ℕ) (tokens : Tokens) (fault : Fault) : Type 0 
   pub begins : BeginsFile front
   pub within : (file max_levels).front front
   pub place : fault.at ≡ place_at text rest
-  pub cause : ((fault.code ≡ 4) × IsUnexpected text front rest) ⊎ ((fault.code ≡ 5) × IsTooDeep text front rest)
+  pub cause : ((fault.code ≡ fault_code.UnexpectedToken) × IsUnexpected text front rest)
+      ⊎ ((fault.code ≡ fault_code.DeepNesting) × IsTooDeep text front rest)
 
 -- ---- answers
 

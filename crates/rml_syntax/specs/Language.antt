@@ -13,8 +13,8 @@ infixr 6 ◌⊗◌
 infixr 5 ◌∣◌
 infixr 5 ◌⇒◌
 -- one token of this kind
-abbrev pub lexeme : Kind → Phrase Token
-lexeme k ts t = (ts ≡ t ∷ []) × (t.kind ≡ k)
+abbrev pub terminal : Kind → Phrase Token
+terminal k ts t = (ts ≡ t ∷ []) × (t.kind ≡ k)
 
 -- a, and behind it b
 abbrev pub ◌⊗◌ : {A B : Type 0} → Phrase A → Phrase B → Phrase (A × B)
@@ -50,4 +50,5 @@ placed a ts x = (x.0 ≡ place_of ts) × a ts x.1
 abbrev pub listed : {A : Type 0} → Kind → Phrase A → Phrase (List A)
 listed k a ts [] = ts ≡ []
 listed k a ts (x ∷ xs) = (front : Tokens) × (back : Tokens) × (ts ≡ front ++ back) × a front x ×
-    (((back ≡ []) × (xs ≡ [])) ⊎ ((token : Token) × (rest : Tokens) × (back ≡ token ∷ rest) × (token.kind ≡ k) × listed k a rest xs))
+    (((back ≡ []) × (xs ≡ []))
+    ⊎ ((token : Token) × (rest : Tokens) × (back ≡ token ∷ rest) × (token.kind ≡ k) × listed k a rest xs))

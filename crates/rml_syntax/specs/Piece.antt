@@ -17,20 +17,21 @@ abbrev pub nothing : {A : Type 0} → Piece A
 nothing = record { whole = λ ts x. ⊥; front = λ ts. ⊥ }
 
 -- one token of this kind
-abbrev pub lexeme : Kind → Piece Token
-lexeme k = record { whole = phrase.lexeme k; front = λ ts. (ts ≡ []) ⊎ ((t : Token) × phrase.lexeme k ts t) }
+abbrev pub terminal : Kind → Piece Token
+terminal k = record { whole = phrase.terminal k; front = λ ts. (ts ≡ []) ⊎ ((t : Token) × phrase.terminal k ts t) }
 
 -- a, and behind it b
 abbrev pub ◌⊗◌ : {A B : Type 0} → Piece A → Piece B → Piece (A × B)
 a ⊗ b = record {
   whole = phrase.◌⊗◌ a.whole b.whole;
-  front = λ ts. a.front ts ⊎ ((front : Tokens) × (back : Tokens) × (x : _) × (ts ≡ front ++ back) × a.whole front x × b.front back);
+  front = λ ts. a.front ts
+      ⊎ ((front : Tokens) × (back : Tokens) × (x : _) × (ts ≡ front ++ back) × a.whole front x × b.front back);
 }
 
 -- a token that opens a level, and a inside it
 abbrev pub opens : {A : Type 0} → Kind → Piece A → Piece (Token × A)
 opens k a = record {
-  whole = phrase.◌⊗◌ (phrase.lexeme k) a.whole;
+  whole = phrase.◌⊗◌ (phrase.terminal k) a.whole;
   front = λ ts. (ts ≡ []) ⊎ ((t : Token) × (rest : Tokens) × (ts ≡ t ∷ rest) × (t.kind ≡ k) × a.front rest);
 }
 
@@ -50,14 +51,16 @@ optional a = record { whole = phrase.optional a.whole; front = λ ts. (ts ≡ []
 abbrev pub many : {A : Type 0} → Piece A → Piece (List A)
 many a = record {
   whole = phrase.many a.whole;
-  front = λ ts. (xs : List _) × (front : Tokens) × (back : Tokens) × (ts ≡ front ++ back) × phrase.many a.whole front xs × ((back ≡ []) ⊎ a.front back);
+  front = λ ts. (xs : List _) × (front : Tokens) × (back : Tokens) × (ts ≡ front ++ back)
+      × phrase.many a.whole front xs × ((back ≡ []) ⊎ a.front back);
 }
 
 -- [a {k a} [k]]
 abbrev pub listed : {A : Type 0} → Kind → Piece A → Piece (List A)
 listed k a = record {
   whole = phrase.listed k a.whole;
-  front = λ ts. (xs : List _) × (front : Tokens) × (back : Tokens) × (ts ≡ front ++ back) × phrase.many (phrase.◌⊗◌ a.whole (phrase.lexeme k)) front xs × ((back ≡ []) ⊎ a.front back);
+  front = λ ts. (xs : List _) × (front : Tokens) × (back : Tokens) × (ts ≡ front ++ back)
+      × phrase.many (phrase.◌⊗◌ a.whole (phrase.terminal k)) front xs × ((back ≡ []) ⊎ a.front back);
 }
 
 -- a, with the place of its first token

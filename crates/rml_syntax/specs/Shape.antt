@@ -1,7 +1,50 @@
 -- How deep the binders of a tree lie inside one another, and that each choice of it has a branch.
 use Rattle.std.specs.Prelude.{ℕ, zero, suc, List, Option, Some, None}
 use Rattle.std.specs.List.{AllByRecursion}
-use Rattle.rml_syntax.specs.Tree.{ExprTree, ExprTrees, True, False, Apply, Ite, Equal, Not, And, Or, Implies, Iff, Quantified, no_expr, and_expr, CommandTree, Block, Blocks, Skip, Abort, Assume, Assert, If, Choose, Insert, Remove, Put, Assign, no_command, and_command, no_block, and_block, ItemTree, Sort, Relation, Function, Variable, Axiom, Conjecture, Init, Action, Final}
+use Rattle.rml_syntax.specs.Tree.{
+  ExprTree,
+  ExprTrees,
+  True,
+  False,
+  Apply,
+  Ite,
+  Equal,
+  Not,
+  And,
+  Or,
+  Implies,
+  Iff,
+  Quantified,
+  no_expr,
+  and_expr,
+  CommandTree,
+  Block,
+  Blocks,
+  Skip,
+  Abort,
+  Assume,
+  Assert,
+  If,
+  Choose,
+  Insert,
+  Remove,
+  Put,
+  Assign,
+  no_command,
+  and_command,
+  no_block,
+  and_block,
+  ItemTree,
+  Sort,
+  Relation,
+  Function,
+  Variable,
+  Axiom,
+  Conjecture,
+  Init,
+  Action,
+  Final,
+}
 
 -- at most n binders of an expression lie inside one another
 abbrev mutual

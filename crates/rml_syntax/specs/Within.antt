@@ -3,7 +3,50 @@ use Rattle.std.specs.Prelude.{ℕ, ◌≤◌, List, Option, Some, None}
 use Rattle.std.specs.List.{AllByRecursion}
 use Rattle.rml_syntax.specs.declared.tree.Name.{Name}
 use Rattle.rml_syntax.specs.declared.tree.Binder.{Binder}
-use Rattle.rml_syntax.specs.Tree.{ExprTree, ExprTrees, True, False, Apply, Ite, Equal, Not, And, Or, Implies, Iff, Quantified, no_expr, and_expr, CommandTree, Block, Blocks, Skip, Abort, Assume, Assert, If, Choose, Insert, Remove, Put, Assign, no_command, and_command, no_block, and_block, ItemTree, Sort, Relation, Function, Variable, Axiom, Conjecture, Init, Action, Final}
+use Rattle.rml_syntax.specs.Tree.{
+  ExprTree,
+  ExprTrees,
+  True,
+  False,
+  Apply,
+  Ite,
+  Equal,
+  Not,
+  And,
+  Or,
+  Implies,
+  Iff,
+  Quantified,
+  no_expr,
+  and_expr,
+  CommandTree,
+  Block,
+  Blocks,
+  Skip,
+  Abort,
+  Assume,
+  Assert,
+  If,
+  Choose,
+  Insert,
+  Remove,
+  Put,
+  Assign,
+  no_command,
+  and_command,
+  no_block,
+  and_block,
+  ItemTree,
+  Sort,
+  Relation,
+  Function,
+  Variable,
+  Axiom,
+  Conjecture,
+  Init,
+  Action,
+  Final,
+}
 
 -- a name's bytes are among n
 abbrev pub NameWithin : ℕ → Name → Type 0

@@ -1,10 +1,44 @@
-//! Commands, one function for each production.
+//! Commands, one function for each production, so that each can be held against the line of the grammar that it reads.
 ghost use Rattle.std.specs.Prelude.{◌≡◌, [], ◌∷◌, ◌++◌, option_map, Some, None};
 ghost use Rattle.rml_syntax.specs.Tree as node;
-ghost use Rattle.rml_syntax.specs.Tree.{expr_tree, expr_trees, command_tree, command_trees, block_trees, or_none, branched, choice, inserted, removed, putting, assigned};
-ghost use Rattle.rml_syntax.specs.Reading.{Reads, begins, made_at, both_at, behind_at, more_at, separated_at, inners, name_at, names_at, parameters_at, value_at, called_at, block_at, otherwise_at, if_at, put_at, cmd_starts, cmd_at, cmds_at};
+ghost use Rattle.rml_syntax.specs.Tree.{
+  expr_tree,
+  expr_trees,
+  command_tree,
+  command_trees,
+  block_trees,
+  or_none,
+  branched,
+  choice,
+  inserted,
+  removed,
+  putting,
+  assigned,
+};
+ghost use Rattle.rml_syntax.specs.Reading.{
+  Reads,
+  begins,
+  made_at,
+  both_at,
+  after_at,
+  more_at,
+  separated_at,
+  inners,
+  name_at,
+  names_at,
+  parameters_at,
+  value_at,
+  called_at,
+  block_at,
+  else_block_at,
+  if_at,
+  put_at,
+  cmd_starts,
+  cmd_at,
+  cmds_at,
+};
 
-use crate::front::{Read, Stop, behind, lexeme, name};
+use crate::front::{Read, Stop, after, expect, name};
 use crate::terms::{arguments, enclosed, expr};
 use crate::tree::{Command, Expr, Name};
 use base::Refused;
@@ -85,10 +119,10 @@ fn more_names<'a>(mut all: Vec<Name>, tokens: &'a [Token]) -> Read<'a, Vec<Name>
         tokens.now }
 {
     let mut rest = tokens;
-    while let Some(next) = behind(Kind::Sign(Sign::Comma), rest) {
-        let (next, after) = name(next)?;
+    while let Some(next) = after(Kind::Sign(Sign::Comma), rest) {
+        let (next, left) = name(next)?;
         all.push(next)?;
-        rest = after;
+        rest = left;
     }
     Ok((all, rest))
 }
@@ -109,14 +143,14 @@ pub fn names<'a>(alloc: Global, tokens: &'a [Token]) -> Read<'a, Vec<Name>>
 pub fn parameters<'a>(alloc: Global, levels: u8, tokens: &'a [Token]) -> Read<'a, Vec<Name>>
     ensures { Reads (λ v. v.items) result (parameters_at (inners levels)) tokens.now }
 {
-    let Some(inside) = behind(Kind::Sign(Sign::OpenParen), tokens) else {
+    let Some(inside) = after(Kind::Sign(Sign::OpenParen), tokens) else {
         return Ok((Vec::new(alloc), tokens));
     };
     if levels == 0 {
         return Err(Refused::For(Stop::TooDeep(tokens)));
     }
     let (all, rest) = names(alloc, inside)?;
-    let (_, rest) = lexeme(Kind::Sign(Sign::CloseParen), rest)?;
+    let (_, rest) = expect(Kind::Sign(Sign::CloseParen), rest)?;
     Ok((all, rest))
 }
 
@@ -127,7 +161,7 @@ pub fn parameters<'a>(alloc: Global, levels: u8, tokens: &'a [Token]) -> Read<'a
 fn value<'a>(alloc: Global, levels: u8, tokens: &'a [Token]) -> Read<'a, Option<Expr>>
     ensures { Reads (option_map expr_tree) result (value_at (inners levels)) tokens.now }
 {
-    if let Some(rest) = behind(Kind::Sign(Sign::Star), tokens) {
+    if let Some(rest) = after(Kind::Sign(Sign::Star), tokens) {
         return Ok((None, rest));
     }
     let (value, rest) = expr(alloc, levels, tokens)?;
@@ -137,11 +171,11 @@ fn value<'a>(alloc: Global, levels: u8, tokens: &'a [Token]) -> Read<'a, Option<
 fn assigns<'a>(alloc: Global, levels: u8, name: Name, tokens: &'a [Token]) -> Read<'a, Command>
     ensures { Reads command_tree result
         (made_at (λ v. assigned ((name, v.0), v.1))
-        (both_at (parameters_at (inners levels)) (behind_at (Kind.Sign Sign.Becomes) (value_at (inners levels)))))
+        (both_at (parameters_at (inners levels)) (after_at (Kind.Sign Sign.Becomes) (value_at (inners levels)))))
         tokens.now }
 {
     let (parameters, rest) = parameters(alloc, levels, tokens)?;
-    let (_, rest) = lexeme(Kind::Sign(Sign::Becomes), rest)?;
+    let (_, rest) = expect(Kind::Sign(Sign::Becomes), rest)?;
     let (value, rest) = value(alloc, levels, rest)?;
     Ok((assignment(name, parameters, value), rest))
 }
@@ -176,7 +210,7 @@ fn puts<'a>(alloc: Global, levels: u8, word: Token, tokens: &'a [Token]) -> Read
 {
     let (name, rest) = name(tokens)?;
     let (args, rest) = enclosed(alloc, levels, rest)?;
-    let (_, rest) = lexeme(Kind::Sign(Sign::Equal), rest)?;
+    let (_, rest) = expect(Kind::Sign(Sign::Equal), rest)?;
     let (value, rest) = expr(alloc, levels, rest)?;
     Ok((update(word, name, args, value), rest))
 }
@@ -213,31 +247,31 @@ fn begins_cmd(tokens: &[Token]) -> bool
 pub fn block<'a>(alloc: Global, levels: u8, tokens: &'a [Token]) -> Read<'a, Vec<Command>>
     ensures { Reads (λ v. command_trees v.items) result (block_at (inners levels)) tokens.now }
 {
-    let Some(inside) = behind(Kind::Sign(Sign::OpenBrace), tokens) else {
+    let Some(inside) = after(Kind::Sign(Sign::OpenBrace), tokens) else {
         return Err(Refused::For(Stop::Unexpected(tokens)));
     };
     if levels == 0 {
         return Err(Refused::For(Stop::TooDeep(tokens)));
     }
     let (all, rest) = cmds(alloc, levels - 1, inside)?;
-    let (_, rest) = lexeme(Kind::Sign(Sign::CloseBrace), rest)?;
+    let (_, rest) = expect(Kind::Sign(Sign::CloseBrace), rest)?;
     Ok((all, rest))
 }
 
 // ["else" block]
 #[cycle(commands)]
-#[tactic(auto, unfolding(crate::specs::Reading::otherwise_at))]
-fn otherwise<'a>(alloc: Global, levels: u8, tokens: &'a [Token]) -> Read<'a, Vec<Command>>
-    ensures { Reads (λ v. command_trees v.items) result (otherwise_at (inners levels)) tokens.now }
+#[tactic(auto, unfolding(crate::specs::Reading::else_block_at))]
+fn else_block<'a>(alloc: Global, levels: u8, tokens: &'a [Token]) -> Read<'a, Vec<Command>>
+    ensures { Reads (λ v. command_trees v.items) result (else_block_at (inners levels)) tokens.now }
 {
-    match behind(Kind::Word(Word::Else), tokens) {
+    match after(Kind::Word(Word::Else), tokens) {
         Some(rest) => block(alloc, levels, rest),
         None => Ok((Vec::new(alloc), tokens)),
     }
 }
 
 #[cycle(commands)]
-fn when<'a>(alloc: Global, levels: u8, word: Token, tokens: &'a [Token]) -> Read<'a, Command>
+fn if_command<'a>(alloc: Global, levels: u8, word: Token, tokens: &'a [Token]) -> Read<'a, Command>
     ensures { Reads command_tree result
         (made_at (λ v. branched (word, v))
         (if_at (inners levels)))
@@ -245,7 +279,7 @@ fn when<'a>(alloc: Global, levels: u8, word: Token, tokens: &'a [Token]) -> Read
 {
     let (condition, rest) = expr(alloc, levels, tokens)?;
     let (first, rest) = block(alloc, levels, rest)?;
-    let (second, rest) = otherwise(alloc, levels, rest)?;
+    let (second, rest) = else_block(alloc, levels, rest)?;
     Ok((conditional(word, condition, first, second), rest))
 }
 
@@ -262,10 +296,10 @@ fn more_blocks<'a>(
         tokens.now }
 {
     let mut rest = tokens;
-    while let Some(next) = behind(Kind::Word(Word::Or), rest) {
-        let (next, after) = block(alloc, levels, next)?;
+    while let Some(next) = after(Kind::Word(Word::Or), rest) {
+        let (next, left) = block(alloc, levels, next)?;
         all.push(next)?;
-        rest = after;
+        rest = left;
     }
     Ok((all, rest))
 }
@@ -273,7 +307,9 @@ fn more_blocks<'a>(
 // block {"or" block}
 #[cycle(commands)]
 fn blocks<'a>(alloc: Global, levels: u8, tokens: &'a [Token]) -> Read<'a, Vec<Vec<Command>>>
-    ensures { Reads (λ v. block_trees v.items) result (separated_at (Kind.Word Word.Or) (block_at (inners levels))) tokens.now }
+    ensures { Reads (λ v. block_trees v.items) result
+        (separated_at (Kind.Word Word.Or) (block_at (inners levels)))
+        tokens.now }
 {
     let (first, rest) = block(alloc, levels, tokens)?;
     let mut all = Vec::new(alloc);
@@ -300,7 +336,7 @@ fn cmd<'a>(alloc: Global, levels: u8, tokens: &'a [Token]) -> Read<'a, Command>
             let (condition, rest) = expr(alloc, levels, rest)?;
             Ok((assertion(token.start, condition), rest))
         }
-        Kind::Word(Word::If) => when(alloc, levels, *token, rest),
+        Kind::Word(Word::If) => if_command(alloc, levels, *token, rest),
         Kind::Word(Word::Choose) => {
             let (all, rest) = blocks(alloc, levels, rest)?;
             Ok((choice_of(*token, all), rest))
@@ -321,12 +357,12 @@ fn cmds<'a>(alloc: Global, levels: u8, tokens: &'a [Token]) -> Read<'a, Vec<Comm
     let mut all = Vec::new(alloc);
     let mut rest = tokens;
     while begins_cmd(rest) {
-        let (next, after) = cmd(alloc, levels, rest)?;
+        let (next, left) = cmd(alloc, levels, rest)?;
         all.push(next)?;
-        let Some(behind) = behind(Kind::Sign(Sign::Semicolon), after) else {
-            return Ok((all, after));
+        let Some(next) = after(Kind::Sign(Sign::Semicolon), left) else {
+            return Ok((all, left));
         };
-        rest = behind;
+        rest = next;
     }
     Ok((all, rest))
 }

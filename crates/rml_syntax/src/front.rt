@@ -1,7 +1,8 @@
-//! What stands in front.
+//! The first tokens. Every production takes its tokens through these functions, so that one place decides where a text
+//! stops to be a file.
 ghost use Rattle.std.specs.Prelude.{◌≡◌, false, [], ◌∷◌, MatchOption, ◌==◌};
 ghost use Rattle.rml_syntax.specs.Language.{place_of};
-ghost use Rattle.rml_syntax.specs.Reading.{number, Reads, Follows, begins, lexeme_at, name_at};
+ghost use Rattle.rml_syntax.specs.Reading.{number, Reads, Follows, begins, expect_at, name_at};
 
 use crate::tree::Name;
 use base::Refused;
@@ -32,7 +33,7 @@ fn is_one_kind(a: Kind, b: Kind) -> bool
 }
 
 /// The tokens behind one of this kind, where it comes first.
-pub fn behind(kind: Kind, tokens: &[Token]) -> Option<&[Token]>
+pub fn after(kind: Kind, tokens: &[Token]) -> Option<&[Token]>
     ensures { MatchOption result
         (begins (kind ∷ []) tokens.now ≡ false)
         (λ rest. Follows kind tokens.now rest.now) }
@@ -50,8 +51,8 @@ pub fn behind(kind: Kind, tokens: &[Token]) -> Option<&[Token]>
 }
 
 /// The token of this kind that is due.
-pub fn lexeme(kind: Kind, tokens: &[Token]) -> Read<'_, Token>
-    ensures { Reads (λ x. x) result (lexeme_at kind) tokens.now }
+pub fn expect(kind: Kind, tokens: &[Token]) -> Read<'_, Token>
+    ensures { Reads (λ x. x) result (expect_at kind) tokens.now }
 {
     match tokens {
         [] => Err(Refused::For(Stop::Unexpected(tokens))),
@@ -69,7 +70,7 @@ pub fn lexeme(kind: Kind, tokens: &[Token]) -> Read<'_, Token>
 pub fn name(tokens: &[Token]) -> Read<'_, Name>
     ensures { Reads (λ x. x) result name_at tokens.now }
 {
-    let (token, rest) = lexeme(Kind::Name, tokens)?;
+    let (token, rest) = expect(Kind::Name, tokens)?;
     Ok((Name::of(&token), rest))
 }
 

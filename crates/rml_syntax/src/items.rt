@@ -1,11 +1,28 @@
-//! Items, and all the items of a file.
+//! Items, and all the items of a file. An item begins with a word of its own, by which its production is chosen.
 ghost use Rattle.std.specs.Prelude.{◌≡◌, [], ◌∷◌, ◌++◌};
 ghost use Rattle.rml_syntax.specs.Tree as node;
 ghost use Rattle.rml_syntax.specs.Tree.{item_tree, item_trees};
-ghost use Rattle.rml_syntax.specs.Reading.{Reads, begins, both_at, made_at, many_at, behind_at, inners, name_at, names_at, named_at, parameters_at, expr_at, block_at, item_at, item_starts, items_at};
+ghost use Rattle.rml_syntax.specs.Reading.{
+  Reads,
+  begins,
+  both_at,
+  made_at,
+  many_at,
+  after_at,
+  inners,
+  name_at,
+  names_at,
+  named_at,
+  parameters_at,
+  expr_at,
+  block_at,
+  item_at,
+  item_starts,
+  items_at,
+};
 
 use crate::commands::{block, names, parameters};
-use crate::front::{Read, Stop, behind, lexeme, name};
+use crate::front::{Read, Stop, after, expect, name};
 use crate::terms::expr;
 use crate::tree::Item;
 use base::Refused;
@@ -28,13 +45,13 @@ fn relation<'a>(alloc: Global, levels: u8, tokens: &'a [Token]) -> Read<'a, Item
 fn function<'a>(alloc: Global, tokens: &'a [Token]) -> Read<'a, Item>
     ensures { Reads item_tree result
         (made_at (λ v. node.Function v.0.0 v.0.1 v.1)
-        (both_at (named_at names_at) (behind_at (Kind.Sign Sign.Arrow) name_at)))
+        (both_at (named_at names_at) (after_at (Kind.Sign Sign.Arrow) name_at)))
         tokens.now }
 {
     let (function, rest) = name(tokens)?;
-    let (_, rest) = lexeme(Kind::Sign(Sign::Colon), rest)?;
+    let (_, rest) = expect(Kind::Sign(Sign::Colon), rest)?;
     let (sorts, rest) = names(alloc, rest)?;
-    let (_, rest) = lexeme(Kind::Sign(Sign::Arrow), rest)?;
+    let (_, rest) = expect(Kind::Sign(Sign::Arrow), rest)?;
     let (sort, rest) = name(rest)?;
     Ok((Item::Function(function, sorts, sort), rest))
 }
@@ -43,7 +60,7 @@ fn variable<'a>(tokens: &'a [Token]) -> Read<'a, Item>
     ensures { Reads item_tree result (made_at (λ v. node.Variable v.0 v.1) (named_at name_at)) tokens.now }
 {
     let (variable, rest) = name(tokens)?;
-    let (_, rest) = lexeme(Kind::Sign(Sign::Colon), rest)?;
+    let (_, rest) = expect(Kind::Sign(Sign::Colon), rest)?;
     let (sort, rest) = name(rest)?;
     Ok((Item::Variable(variable, sort), rest))
 }
@@ -55,7 +72,7 @@ fn axiom<'a>(alloc: Global, levels: u8, tokens: &'a [Token]) -> Read<'a, Item>
         tokens.now }
 {
     let (name, rest) = name(tokens)?;
-    let (_, rest) = lexeme(Kind::Sign(Sign::Colon), rest)?;
+    let (_, rest) = expect(Kind::Sign(Sign::Colon), rest)?;
     let (formula, rest) = expr(alloc, levels, rest)?;
     Ok((Item::Axiom(name, formula), rest))
 }
@@ -67,7 +84,7 @@ fn conjecture<'a>(alloc: Global, levels: u8, tokens: &'a [Token]) -> Read<'a, It
         tokens.now }
 {
     let (name, rest) = name(tokens)?;
-    let (_, rest) = lexeme(Kind::Sign(Sign::Colon), rest)?;
+    let (_, rest) = expect(Kind::Sign(Sign::Colon), rest)?;
     let (formula, rest) = expr(alloc, levels, rest)?;
     Ok((Item::Conjecture(name, formula), rest))
 }
@@ -144,9 +161,9 @@ fn all_items<'a>(alloc: Global, levels: u8, tokens: &'a [Token]) -> Read<'a, Vec
     let mut all = Vec::new(alloc);
     let mut rest = tokens;
     while begins_item(rest) {
-        let (next, after) = item(alloc, levels, rest)?;
+        let (next, left) = item(alloc, levels, rest)?;
         all.push(next)?;
-        rest = after;
+        rest = left;
     }
     Ok((all, rest))
 }
@@ -156,9 +173,9 @@ fn all_items<'a>(alloc: Global, levels: u8, tokens: &'a [Token]) -> Read<'a, Vec
 pub fn items<'a>(alloc: Global, levels: u8, tokens: &'a [Token]) -> Read<'a, Vec<Item>>
     ensures { Reads (λ v. item_trees v.items) result (items_at (inners levels)) tokens.now }
 {
-    match behind(Kind::Word(Word::Rml), tokens) {
+    match after(Kind::Word(Word::Rml), tokens) {
         Some(rest) => {
-            let (_, rest) = lexeme(Kind::Number, rest)?;
+            let (_, rest) = expect(Kind::Number, rest)?;
             all_items(alloc, levels, rest)
         }
         None => all_items(alloc, levels, tokens),

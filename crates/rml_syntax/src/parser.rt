@@ -1,4 +1,5 @@
-//! Whole texts.
+//! Whole texts. The grammar is read in one pass, which stops at the first token that no file goes on with: that
+//! token is the text's fault, so nothing is read twice and no fault is sought apart.
 ghost use Rattle.std.specs.Prelude.{◌≡◌, List, true, false, length, drop, MatchOption, IfOk, IfErr};
 ghost use Rattle.std.specs.List.{AllByRecursion};
 ghost use Rattle.base.specs.Because.{Because};
@@ -13,7 +14,7 @@ use crate::front::Stop;
 use crate::items::items;
 use crate::tree::{Item, Tree};
 use base::Refused;
-use rml_lex::{Fault, Kind, Token, Word, word};
+use rml_lex::{Fault, FaultCode, Kind, Token, Word, word};
 use std::alloc::Global;
 
 // How many levels may open inside one another.
@@ -91,18 +92,18 @@ fn fault_of(text: &[u8], stop: Stop) -> Fault
 {
     match stop {
         Stop::Unexpected(rest) => Fault {
-            code: 4,
+            code: FaultCode::UnexpectedToken,
             at: place_at(text, rest),
         },
         Stop::TooDeep(rest) => Fault {
-            code: 5,
+            code: FaultCode::DeepNesting,
             at: place_at(text, rest),
         },
     }
 }
 
-/// The tree of a text's tokens, or their first fault: an unexpected token (4), or one that opens a
-/// level inside 100 others (5).
+/// The tree of a text's tokens, or their first fault: an unexpected token, or one that opens a level inside 100
+/// others.
 pub fn parse(alloc: Global, text: &[u8], tokens: &[Token]) -> Result<Tree, Refused<Fault>>
     requires { AllByRecursion (EndsBy (length text.now)) tokens.now }
     ensures tree { IfOk result (λ tree. IsTree text.now tokens.now (file_tree tree)) }

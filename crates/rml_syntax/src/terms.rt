@@ -1,10 +1,47 @@
-//! Expressions, one function for each production.
+//! Expressions, one function for each production and each level of binding, so that no precedence is looked up.
 ghost use Rattle.std.specs.Prelude.{◌≡◌, true, false, Some, [], ◌∷◌, ◌++◌, IfNone, IfSome, IfOk, Ok};
 ghost use Rattle.rml_syntax.specs.Tree as node;
-ghost use Rattle.rml_syntax.specs.Tree.{expr_tree, expr_trees, applied, joined, compared, conditional, nested, implied, equivalent};
-ghost use Rattle.rml_syntax.specs.Reading.{Reads, begins, made_at, both_at, behind_at, between_at, more_at, lexeme_at, piece, inners, arguments_at, enclosed_at, prim_at, comparison_at, cmp_at, unary_at, and_at, or_at, imp_at, iff_at, expr_at, binder_at, body_at, bound_at, exprs_at, three_at};
+ghost use Rattle.rml_syntax.specs.Tree.{
+  expr_tree,
+  expr_trees,
+  applied,
+  joined,
+  compared,
+  conditional,
+  nested,
+  implied,
+  equivalent,
+};
+ghost use Rattle.rml_syntax.specs.Reading.{
+  Reads,
+  begins,
+  made_at,
+  both_at,
+  after_at,
+  between_at,
+  more_at,
+  expect_at,
+  piece,
+  inners,
+  arguments_at,
+  enclosed_at,
+  prim_at,
+  comparison_at,
+  cmp_at,
+  unary_at,
+  and_at,
+  or_at,
+  imp_at,
+  iff_at,
+  expr_at,
+  binder_at,
+  body_at,
+  bound_at,
+  exprs_at,
+  three_at,
+};
 
-use crate::front::{Read, Stop, behind, lexeme, name, start};
+use crate::front::{Read, Stop, after, expect, name, start};
 use crate::tree::{Binder, Expr, Name, Quantifier};
 use base::{Mem, Refused};
 use rml_lex::{Kind, Sign, Token, Word};
@@ -134,7 +171,7 @@ fn binder(tokens: &[Token]) -> Read<'_, Binder>
     ensures { Reads (λ x. x) result binder_at tokens.now }
 {
     let (bound, rest) = name(tokens)?;
-    let (_, rest) = lexeme(Kind::Sign(Sign::Colon), rest)?;
+    let (_, rest) = expect(Kind::Sign(Sign::Colon), rest)?;
     let (sort, rest) = name(rest)?;
     Ok((Binder { name: bound, sort }, rest))
 }
@@ -143,10 +180,10 @@ fn binder(tokens: &[Token]) -> Read<'_, Binder>
 fn closed(inner: Expr, tokens: &[Token]) -> Read<'_, Expr>
     ensures { Reads expr_tree result
         (made_at (λ t. expr_tree inner)
-        (lexeme_at (Kind.Sign Sign.CloseParen)))
+        (expect_at (Kind.Sign Sign.CloseParen)))
         tokens.now }
 {
-    let (_, rest) = lexeme(Kind::Sign(Sign::CloseParen), tokens)?;
+    let (_, rest) = expect(Kind::Sign(Sign::CloseParen), tokens)?;
     Ok((inner, rest))
 }
 
@@ -159,10 +196,10 @@ fn ite_closed(
 ) -> Read<'_, Expr>
     ensures { Reads expr_tree result
         (made_at (λ t. conditional (word, ((expr_tree parts.0, expr_tree parts.1), expr_tree parts.2)))
-        (lexeme_at (Kind.Sign Sign.CloseParen)))
+        (expect_at (Kind.Sign Sign.CloseParen)))
         tokens.now }
 {
-    let (_, rest) = lexeme(Kind::Sign(Sign::CloseParen), tokens)?;
+    let (_, rest) = expect(Kind::Sign(Sign::CloseParen), tokens)?;
     let (condition, first, second) = parts;
     Ok((choice(alloc, word.start, condition, first, second)?, rest))
 }
@@ -172,20 +209,20 @@ fn ite_closed(
 // NAME ["(" exprs ")"], behind the name.
 #[cycle(terms)]
 #[tactic(auto, unfolding(crate::specs::Reading::arguments_at))]
-fn named<'a>(alloc: Global, levels: u8, name: Name, tokens: &'a [Token]) -> Read<'a, Expr>
+fn after_name<'a>(alloc: Global, levels: u8, name: Name, tokens: &'a [Token]) -> Read<'a, Expr>
     ensures { Reads expr_tree result
         (made_at (λ args. applied (name, args))
         (arguments_at (inners levels)))
         tokens.now }
 {
-    let Some(inside) = behind(Kind::Sign(Sign::OpenParen), tokens) else {
+    let Some(inside) = after(Kind::Sign(Sign::OpenParen), tokens) else {
         return Ok((application(name, Vec::new(alloc)), tokens));
     };
     if levels == 0 {
         return Err(Refused::For(Stop::TooDeep(tokens)));
     }
     let (args, rest) = exprs(alloc, levels - 1, inside)?;
-    let (_, rest) = lexeme(Kind::Sign(Sign::CloseParen), rest)?;
+    let (_, rest) = expect(Kind::Sign(Sign::CloseParen), rest)?;
     Ok((application(name, args), rest))
 }
 
@@ -197,7 +234,7 @@ fn ite<'a>(alloc: Global, levels: u8, word: Token, tokens: &'a [Token]) -> Read<
         (between_at (Kind.Sign Sign.OpenParen) (piece (λ r. r.three) (inners levels)) (Kind.Sign Sign.CloseParen)))
         tokens.now }
 {
-    let Some(inside) = behind(Kind::Sign(Sign::OpenParen), tokens) else {
+    let Some(inside) = after(Kind::Sign(Sign::OpenParen), tokens) else {
         return Err(Refused::For(Stop::Unexpected(tokens)));
     };
     if levels == 0 {
@@ -211,12 +248,14 @@ fn ite<'a>(alloc: Global, levels: u8, word: Token, tokens: &'a [Token]) -> Read<
 #[cycle(terms)]
 #[tactic(auto, unfolding(crate::specs::Reading::three_at))]
 fn three<'a>(alloc: Global, levels: u8, tokens: &'a [Token]) -> Read<'a, (Expr, Expr, Expr)>
-    ensures { Reads (λ x. ((expr_tree x.0, expr_tree x.1), expr_tree x.2)) result (three_at (inners levels)) tokens.now }
+    ensures { Reads (λ x. ((expr_tree x.0, expr_tree x.1), expr_tree x.2)) result
+        (three_at (inners levels))
+        tokens.now }
 {
     let (first, rest) = expr(alloc, levels, tokens)?;
-    let (_, rest) = lexeme(Kind::Sign(Sign::Comma), rest)?;
+    let (_, rest) = expect(Kind::Sign(Sign::Comma), rest)?;
     let (second, rest) = expr(alloc, levels, rest)?;
-    let (_, rest) = lexeme(Kind::Sign(Sign::Comma), rest)?;
+    let (_, rest) = expect(Kind::Sign(Sign::Comma), rest)?;
     let (third, rest) = expr(alloc, levels, rest)?;
     Ok(((first, second, third), rest))
 }
@@ -231,7 +270,7 @@ fn prim<'a>(alloc: Global, levels: u8, tokens: &'a [Token]) -> Read<'a, Expr>
         [token, rest @ ..] => match token.kind {
             Kind::Word(Word::True) => Ok((truth(token.start), rest)),
             Kind::Word(Word::False) => Ok((falsity(token.start), rest)),
-            Kind::Name => named(alloc, levels, Name::of(token), rest),
+            Kind::Name => after_name(alloc, levels, Name::of(token), rest),
             Kind::Word(Word::Ite) => ite(alloc, levels, *token, rest),
             Kind::Sign(Sign::OpenParen) => {
                 if levels == 0 {
@@ -252,10 +291,10 @@ fn cmp<'a>(alloc: Global, levels: u8, tokens: &'a [Token]) -> Read<'a, Expr>
     ensures { Reads expr_tree result (cmp_at (inners levels)) tokens.now }
 {
     let (left, rest) = prim(alloc, levels, tokens)?;
-    let Some((is_equal, behind)) = equality(rest) else {
+    let Some((is_equal, next)) = equality(rest) else {
         return Ok((left, rest));
     };
-    let (right, rest) = prim(alloc, levels, behind)?;
+    let (right, rest) = prim(alloc, levels, next)?;
     let comparison = comparison(alloc, start(tokens), left, is_equal, right)?;
     Ok((comparison, rest))
 }
@@ -285,7 +324,7 @@ fn and<'a>(alloc: Global, levels: u8, tokens: &'a [Token]) -> Read<'a, Expr>
     ensures { Reads expr_tree result (and_at (inners levels)) tokens.now }
 {
     let (first, rest) = unary(alloc, levels, tokens)?;
-    if behind(Kind::Sign(Sign::And), rest).is_none() {
+    if after(Kind::Sign(Sign::And), rest).is_none() {
         return Ok((first, rest));
     }
     let mut all = Vec::new(alloc);
@@ -307,10 +346,10 @@ fn more_ands<'a>(
         tokens.now }
 {
     let mut rest = tokens;
-    while let Some(next) = behind(Kind::Sign(Sign::And), rest) {
-        let (next, after) = unary(alloc, levels, next)?;
+    while let Some(next) = after(Kind::Sign(Sign::And), rest) {
+        let (next, left) = unary(alloc, levels, next)?;
         all.push(next)?;
-        rest = after;
+        rest = left;
     }
     Ok((all, rest))
 }
@@ -322,7 +361,7 @@ fn or<'a>(alloc: Global, levels: u8, tokens: &'a [Token]) -> Read<'a, Expr>
     ensures { Reads expr_tree result (or_at (inners levels)) tokens.now }
 {
     let (first, rest) = and(alloc, levels, tokens)?;
-    if behind(Kind::Sign(Sign::Or), rest).is_none() {
+    if after(Kind::Sign(Sign::Or), rest).is_none() {
         return Ok((first, rest));
     }
     let mut all = Vec::new(alloc);
@@ -344,10 +383,10 @@ fn more_ors<'a>(
         tokens.now }
 {
     let mut rest = tokens;
-    while let Some(next) = behind(Kind::Sign(Sign::Or), rest) {
-        let (next, after) = and(alloc, levels, next)?;
+    while let Some(next) = after(Kind::Sign(Sign::Or), rest) {
+        let (next, left) = and(alloc, levels, next)?;
         all.push(next)?;
-        rest = after;
+        rest = left;
     }
     Ok((all, rest))
 }
@@ -359,7 +398,7 @@ fn imp<'a>(alloc: Global, levels: u8, tokens: &'a [Token]) -> Read<'a, Expr>
     ensures { Reads expr_tree result (imp_at (inners levels)) tokens.now }
 {
     let (left, rest) = or(alloc, levels, tokens)?;
-    let Some(inside) = behind(Kind::Sign(Sign::Arrow), rest) else {
+    let Some(inside) = after(Kind::Sign(Sign::Arrow), rest) else {
         return Ok((left, rest));
     };
     if levels == 0 {
@@ -376,7 +415,7 @@ fn iff<'a>(alloc: Global, levels: u8, tokens: &'a [Token]) -> Read<'a, Expr>
     ensures { Reads expr_tree result (iff_at (inners levels)) tokens.now }
 {
     let (left, rest) = imp(alloc, levels, tokens)?;
-    let Some(next) = behind(Kind::Sign(Sign::DoubleArrow), rest) else {
+    let Some(next) = after(Kind::Sign(Sign::DoubleArrow), rest) else {
         return Ok((left, rest));
     };
     let (right, rest) = imp(alloc, levels, next)?;
@@ -481,10 +520,10 @@ fn more_exprs<'a>(
         tokens.now }
 {
     let mut rest = tokens;
-    while let Some(next) = behind(Kind::Sign(Sign::Comma), rest) {
-        let (next, after) = expr(alloc, levels, next)?;
+    while let Some(next) = after(Kind::Sign(Sign::Comma), rest) {
+        let (next, left) = expr(alloc, levels, next)?;
         all.push(next)?;
-        rest = after;
+        rest = left;
     }
     Ok((all, rest))
 }
@@ -493,14 +532,14 @@ fn more_exprs<'a>(
 pub fn enclosed<'a>(alloc: Global, levels: u8, tokens: &'a [Token]) -> Read<'a, Vec<Expr>>
     ensures { Reads (λ v. expr_trees v.items) result (enclosed_at (inners levels)) tokens.now }
 {
-    let Some(inside) = behind(Kind::Sign(Sign::OpenParen), tokens) else {
+    let Some(inside) = after(Kind::Sign(Sign::OpenParen), tokens) else {
         return Err(Refused::For(Stop::Unexpected(tokens)));
     };
     if levels == 0 {
         return Err(Refused::For(Stop::TooDeep(tokens)));
     }
     let (args, rest) = exprs(alloc, levels - 1, inside)?;
-    let (_, rest) = lexeme(Kind::Sign(Sign::CloseParen), rest)?;
+    let (_, rest) = expect(Kind::Sign(Sign::CloseParen), rest)?;
     Ok((args, rest))
 }
 
@@ -509,7 +548,7 @@ pub fn enclosed<'a>(alloc: Global, levels: u8, tokens: &'a [Token]) -> Read<'a, 
 pub fn arguments<'a>(alloc: Global, levels: u8, tokens: &'a [Token]) -> Read<'a, Vec<Expr>>
     ensures { Reads (λ v. expr_trees v.items) result (arguments_at (inners levels)) tokens.now }
 {
-    match behind(Kind::Sign(Sign::OpenParen), tokens) {
+    match after(Kind::Sign(Sign::OpenParen), tokens) {
         Some(_) => enclosed(alloc, levels, tokens),
         None => Ok((Vec::new(alloc), tokens)),
     }

@@ -13,12 +13,15 @@ loop-condition-preserved c =
     let i = c.loop-condition.condition-index in
     let x = c.condition-item.result in
     subst (λ o. IsFirstSoFar (ConditionMisses xs) (ConditionMisses (drop (i + 1) xs)) o) (sym c.earlier-first.ensures)
-    (step (ConditionMisses xs) (λ f. (f.at ≡ x.at) × Misses (demand_of x.word) x.sentence f.code) (ConditionMisses (drop (i + 1) xs)) c.loop-condition.first c.fault_at.result
-    (subst (λ zs. IsFirstSoFar (ConditionMisses xs) (ConditionMisses zs) c.loop-condition.first) (drop_read xs i x c.loop-condition-test.true c.condition-item.is) c.loop-condition.invariant) c.fault_at.ensures)
+    (step (ConditionMisses xs) (λ f. (f.at ≡ x.at) × Misses (demand_of x.word) x.sentence f.code)
+    (ConditionMisses (drop (i + 1) xs)) c.loop-condition.first c.fault_at.result
+    (subst (λ zs. IsFirstSoFar (ConditionMisses xs) (ConditionMisses zs) c.loop-condition.first)
+    (drop_read xs i x c.loop-condition-test.true c.condition-item.is) c.loop-condition.invariant) c.fault_at.ensures)
 
 pub returns : goal.returns
 returns c =
     let xs = c.args.conditions.now in
     let i = c.loop-condition.condition-index in
     done (ConditionMisses xs) (ConditionMisses (drop i xs)) c.loop-condition.first
-    (λ f h. subst (λ zs. ConditionMisses zs f) (drop_of_length-le xs c.loop-condition-test.false) h) c.loop-condition.invariant
+    (λ f h. subst (λ zs. ConditionMisses zs f) (drop_of_length-le xs c.loop-condition-test.false) h)
+    c.loop-condition.invariant

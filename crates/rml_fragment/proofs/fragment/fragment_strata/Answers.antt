@@ -4,7 +4,8 @@ use Rattle.rml_fragment.proofs.fragment.fragment_strata.Goals as goal
 
 pub returns-in-None-clause-faultless : goal.returns-in-None-clause-faultless
 returns-in-None-clause-faultless c =
-    ordered c.args.model.now c.signature.result.now c.signature.ensures.value c.in-Ok.ensures.acyclic None c.in-None.ensures
+    ordered c.args.model.now c.signature.result.now c.signature.ensures.value c.in-Ok.ensures.acyclic None
+    c.in-None.ensures
 
 pub returns-in-Some-clause-fault : goal.returns-in-Some-clause-fault
 returns-in-Some-clause-fault c =

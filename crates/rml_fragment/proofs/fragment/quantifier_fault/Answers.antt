@@ -14,8 +14,10 @@ loop-at-preserved c =
     let x = get_or xs i 0 in
     let split : drop i xs ≡ x ∷ drop (i + 1) xs = drop_more xs i 0 c.loop-at-test.true in
     subst (λ o. IsFirstSoFar (QuantifierStands xs) (QuantifierStands (drop (i + 1) xs)) o) (sym c.earlier-first.ensures)
-    (step (QuantifierStands xs) (λ f. (f.at ≡ x) × (f.code ≡ fault_code.NotQuantifierFree)) (QuantifierStands (drop (i + 1) xs)) c.loop-at.first (Some (record { code = fault_code.NotQuantifierFree; at = x }))
-    (subst (λ zs. IsFirstSoFar (QuantifierStands xs) (QuantifierStands zs) c.loop-at.first) split c.loop-at.invariant) (alone-first fault_code.NotQuantifierFree x))
+    (step (QuantifierStands xs) (λ f. (f.at ≡ x) × (f.code ≡ fault_code.NotQuantifierFree))
+    (QuantifierStands (drop (i + 1) xs)) c.loop-at.first (Some (record { code = fault_code.NotQuantifierFree; at = x }))
+    (subst (λ zs. IsFirstSoFar (QuantifierStands xs) (QuantifierStands zs) c.loop-at.first) split c.loop-at.invariant)
+    (alone-first fault_code.NotQuantifierFree x))
 
 pub returns : goal.returns
 returns c =

@@ -20,7 +20,8 @@ loop-rest-preserved c =
     ap (map command) (taken_apart rest action c.in-len1-up.len_at_least c.action-item.is) in
     goes_on HasManyPaths (map command c.args.actions.now) c.args.places.now (map command rest) _ left _ (command action)
     (get_or left 0 0) c.loop-rest.first c.block_fault.result c.earlier-first.result parts
-    (number_apart left c.in-len1-up-left.len_at_least) c.loop-rest.invariant c.block_fault.ensures c.earlier-first.ensures
+    (number_apart left c.in-len1-up-left.len_at_least) c.loop-rest.invariant c.block_fault.ensures
+    c.earlier-first.ensures
 
 pub returns : goal.returns
 returns c =

@@ -6,7 +6,9 @@ use Rattle.rml_fragment.specs.Search.{IsFirstSoFar}
 use Rattle.rml_fragment.proofs.long.action_fault.Given as goal
 
 abbrev pub invariant-loop-rest : goal.invariant-loop-rest
-invariant-loop-rest l = IsFirstSoFar (SomePlaced HasManyPaths (map command l.actions) l.places) (SomePlaced HasManyPaths (map command l.rest) l.left) l.first
+invariant-loop-rest l =
+    IsFirstSoFar (SomePlaced HasManyPaths (map command l.actions) l.places)
+    (SomePlaced HasManyPaths (map command l.rest) l.left) l.first
 
 abbrev pub decreases-loop-rest : goal.decreases-loop-rest
 decreases-loop-rest l = length l.rest

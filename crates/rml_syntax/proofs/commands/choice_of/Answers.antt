@@ -10,4 +10,5 @@ pub returns : goal.returns
 returns c =
     ap command_tree (sym (rolls-Choose c.args.word.start c.args.blocks))
     ∙ fold-roll-Command CommandTree command_step (Choose c.args.word.start c.args.blocks)
-    ∙ ap (λ (bs : List (List CommandTree)). Chosen c.args.word.start (blocks_of bs)) (map-map (λ b. b.items) _ c.args.blocks.items)
+    ∙ ap (λ (bs : List (List CommandTree)). Chosen c.args.word.start (blocks_of bs))
+    (map-map (λ b. b.items) _ c.args.blocks.items)

@@ -6,8 +6,8 @@ use Rattle.rml_syntax.specs.Reading.{expr_at, unary_at, and_at, inners}
 use Rattle.rml_syntax.proofs.Loop.{Goes}
 use Rattle.rml_syntax.proofs.terms.+terms.Given as goal
 
-abbrev pub decreases-named : goal.decreases-named
-decreases-named l = l.levels * 32 + 0
+abbrev pub decreases-after_name : goal.decreases-after_name
+decreases-after_name l = l.levels * 32 + 0
 
 abbrev pub decreases-ite : goal.decreases-ite
 decreases-ite l = l.levels * 32 + 1
@@ -58,19 +58,23 @@ abbrev pub decreases-three : goal.decreases-three
 decreases-three l = l.levels * 32 + 16
 
 abbrev pub invariant-more_ands-loop-next : goal.invariant-more_ands-loop-next
-invariant-more_ands-loop-next l = Goes (Sign And) (unary_at (inners l.levels)) (expr_trees l.all.items) (expr_trees l.fn.all.items) l.rest l.fn.tokens
+invariant-more_ands-loop-next l =
+    Goes (Sign And) (unary_at (inners l.levels)) (expr_trees l.all.items) (expr_trees l.fn.all.items) l.rest l.fn.tokens
 
 abbrev pub decreases-more_ands-loop-next : goal.decreases-more_ands-loop-next
 decreases-more_ands-loop-next l = length l.rest
 
 abbrev pub invariant-more_ors-loop-next : goal.invariant-more_ors-loop-next
-invariant-more_ors-loop-next l = Goes (Sign Or) (and_at (inners l.levels)) (expr_trees l.all.items) (expr_trees l.fn.all.items) l.rest l.fn.tokens
+invariant-more_ors-loop-next l =
+    Goes (Sign Or) (and_at (inners l.levels)) (expr_trees l.all.items) (expr_trees l.fn.all.items) l.rest l.fn.tokens
 
 abbrev pub decreases-more_ors-loop-next : goal.decreases-more_ors-loop-next
 decreases-more_ors-loop-next l = length l.rest
 
 abbrev pub invariant-more_exprs-loop-next : goal.invariant-more_exprs-loop-next
-invariant-more_exprs-loop-next l = Goes (Sign Comma) (expr_at (inners l.levels)) (expr_trees l.all.items) (expr_trees l.fn.all.items) l.rest l.fn.tokens
+invariant-more_exprs-loop-next l =
+    Goes (Sign Comma) (expr_at (inners l.levels)) (expr_trees l.all.items) (expr_trees l.fn.all.items) l.rest
+    l.fn.tokens
 
 abbrev pub decreases-more_exprs-loop-next : goal.decreases-more_exprs-loop-next
 decreases-more_exprs-loop-next l = length l.rest
