@@ -5,6 +5,7 @@ use Rattle.base.specs.declared.refused.Refused.TheVariants.{For, NoMemory}
 use Rattle.rml_lex.specs.declared.token.Kind.TheVariants.{Word, Number}
 use Rattle.rml_lex.specs.declared.token.Word.TheVariants.{Rml}
 use Rattle.rml_lex.specs.declared.token.Fault.{Fault}
+use Rattle.rml_lex.specs.declared.fault_code.FaultCode.TheVariants as fault_code
 use Rattle.rml_lex.specs.Tokens.{word_of}
 use Rattle.rml_syntax.specs.Language.{Tokens, Phrase}
 use Rattle.rml_syntax.specs.declared.tree.Tree.{Tree}
@@ -65,7 +66,7 @@ pub record IsFault (text : List ℕ) (tokens : Tokens) (fault : Fault) : Type 0 
   pub begins : BeginsFile front
   pub within : (file max_levels).front front
   pub place : fault.at ≡ place_at text rest
-  pub cause : ((fault.code ≡ 4) × IsUnexpected text front rest) ⊎ ((fault.code ≡ 5) × IsTooDeep text front rest)
+  pub cause : ((fault.code ≡ fault_code.UnexpectedToken) × IsUnexpected text front rest) ⊎ ((fault.code ≡ fault_code.DeepNesting) × IsTooDeep text front rest)
 
 -- ---- answers
 

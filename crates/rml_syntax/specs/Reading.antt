@@ -18,6 +18,8 @@ use Rattle.rml_syntax.specs.declared.tree.Name.{Name}
 use Rattle.rml_syntax.specs.declared.tree.Binder.{Binder}
 use Rattle.rml_syntax.specs.declared.tree.Quantifier.TheVariants as quantifier
 use Rattle.rml_lex.specs.declared.token.Fault.{Fault}
+use Rattle.rml_lex.specs.declared.fault_code.FaultCode.{FaultCode}
+use Rattle.rml_lex.specs.declared.fault_code.FaultCode.TheVariants as fault_code
 use Rattle.rml_lex.specs.Tokens.{word_of}
 use Rattle.rml_syntax.specs.Language.{Tokens, place_of}
 use Rattle.rml_syntax.specs.Grammar.{max_levels}
@@ -342,9 +344,9 @@ is_other_format text (t ∷ u ∷ ts) = (number (Word Rml) == number t.kind) && 
 abbrev pub read_at : List ℕ → Tokens → Result (List ItemTree) Failure
 read_at text ts = cond (is_other_format text ts) (fails Unexpected (drop 1 ts)) (all_at max_levels ts)
 
-abbrev pub code_of : Why → ℕ
-code_of Unexpected = 4
-code_of TooDeep = 5
+abbrev pub code_of : Why → FaultCode
+code_of Unexpected = fault_code.UnexpectedToken
+code_of TooDeep = fault_code.DeepNesting
 
 abbrev pub failure_of : List ℕ → Failure → Fault
 failure_of text f = record { code = code_of f.why; at = place_at text f.rest }
@@ -366,5 +368,5 @@ abbrev pub Reads : {X Y : Type 0} → (X → Y) → Result (X × Bor Tokens) (Re
 Reads view result read ts = Gives (λ x. (view x.0, x.1.now)) result (read ts)
 
 abbrev pub fault_of : List ℕ → Stop → Fault
-fault_of text (stops.Unexpected rest) = record { code = 4; at = place_at text rest.now }
-fault_of text (stops.TooDeep rest) = record { code = 5; at = place_at text rest.now }
+fault_of text (stops.Unexpected rest) = record { code = fault_code.UnexpectedToken; at = place_at text rest.now }
+fault_of text (stops.TooDeep rest) = record { code = fault_code.DeepNesting; at = place_at text rest.now }

@@ -13,7 +13,7 @@ use crate::front::Stop;
 use crate::items::items;
 use crate::tree::{Item, Tree};
 use base::Refused;
-use rml_lex::{Fault, Kind, Token, Word, word};
+use rml_lex::{Fault, FaultCode, Kind, Token, Word, word};
 use std::alloc::Global;
 
 // How many levels may open inside one another.
@@ -91,11 +91,11 @@ fn fault_of(text: &[u8], stop: Stop) -> Fault
 {
     match stop {
         Stop::Unexpected(rest) => Fault {
-            code: 4,
+            code: FaultCode::UnexpectedToken,
             at: place_at(text, rest),
         },
         Stop::TooDeep(rest) => Fault {
-            code: 5,
+            code: FaultCode::DeepNesting,
             at: place_at(text, rest),
         },
     }
