@@ -1,12 +1,16 @@
 -- What fits some symbols fits more of them.
-use Rattle.std.proofs.Common.{◌≡◌, ◌<◌, ◌≤◌, ℕ, List, [], ◌∷◌, ◌++◌, length, reverse, length-append, sym, subst, ◌∙◌, arith}
+use Rattle.std.proofs.Common.{◌≡◌, ◌<◌, ◌≤◌, ℕ, List, [], ◌∷◌, ◌++◌, length, reverse, length-append, sym, subst, ◌∙◌}
+use Rattle.std.proofs.Common.{arith}
 use Rattle.std.specs.List.{AllByRecursion}
 use Rattle.std.proofs.lemmas.List.{get_or_append_left, append-nil}
 use Rattle.base.proofs.Lists.{all_append}
 use Rattle.fol_sig.specs.Symbols.{Symbols}
-use Rattle.fol_formula.specs.Syntax.{FormTree, FormTrees, TermTree, TermTrees, top, bottom, rel, equal, negation, conjunction, disjunction, implication, equivalence, for_all, for_some, no_forms, form_then, bound, app, ite, no_terms, term_then}
+use Rattle.fol_formula.specs.Syntax.{FormTree, FormTrees, TermTree, TermTrees, top, bottom, rel, equal, negation}
+use Rattle.fol_formula.specs.Syntax.{conjunction, disjunction, implication, equivalence, for_all, for_some, no_forms}
+use Rattle.fol_formula.specs.Syntax.{form_then, bound, app, ite, no_terms, term_then}
 use Rattle.fol_formula.specs.Fits.{FitsForm, FitsForms, FitsTerm, FitsTerms}
-use Rattle.rml_command.specs.Trees.{PrimitiveTree, assume, set_rel, set_fun, havoc, abort, CommandTree, CommandTrees, prim, seq, choose, no_commands, command_then, EachPrimitive, EachPrimitiveOf}
+use Rattle.rml_command.specs.Trees.{PrimitiveTree, assume, set_rel, set_fun, havoc, abort, CommandTree, CommandTrees}
+use Rattle.rml_command.specs.Trees.{prim, seq, choose, no_commands, command_then, EachPrimitive, EachPrimitiveOf}
 use Rattle.rml_command.specs.Models.{FitsPrimitive, FitsCommand}
 
 -- the symbols are among the others
@@ -24,8 +28,12 @@ module _ (old new : Symbols) (x : Extends old new) (more : List ℕ) where
     form_grows ks top h = tt
     form_grows ks bottom h = tt
     form_grows ks (rel r args) h =
-        let e : new.sorts_of r ≡ old.sorts_of r = x.sorts_of r h.0 in
-        (omega (arith, h.0, x.relations), subst (λ (l : List ℕ). length l ≤ 8) (sym e) h.1, subst (FitsTerms new (ks ++ more) args) (sym e) (terms_grow ks args (old.sorts_of r) h.2))
+        let e : new.sorts_of r ≡ old.sorts_of r = x.sorts_of r h.0 in (
+          omega (arith, h.0, x.relations),
+          subst (λ (l : List ℕ). length l ≤ 8) (sym e) h.1,
+          subst
+              (FitsTerms new (ks ++ more) args) (sym e) (terms_grow ks args (old.sorts_of r) h.2),
+        )
     form_grows ks (equal a b) h = (h.0, term_grows ks a h.0 h.1, term_grows ks b h.0 h.2)
     form_grows ks (negation p) h = form_grows ks p h
     form_grows ks (conjunction ps) h = forms_grow ks ps h
@@ -42,11 +50,18 @@ module _ (old new : Symbols) (x : Extends old new) (more : List ℕ) where
     pub term_grows : (ks : List ℕ) (t : TermTree) (k : ℕ) → FitsTerm old ks t k → FitsTerm new (ks ++ more) t k
     term_grows ks (bound i) k h = (omega (arith, h.0, length-append ks more), get_or_append_left ks more 0 i h.0 ∙ h.1)
     term_grows ks (app f args) k h =
-        let e : new.from_of f ≡ old.from_of f = x.from_of f h.0 in
-        (omega (arith, h.0, x.functions), x.into_of f h.0 ∙ h.1, subst (λ (l : List ℕ). length l ≤ 8) (sym e) h.2, subst (FitsTerms new (ks ++ more) args) (sym e) (terms_grow ks args (old.from_of f) h.3))
+        let e : new.from_of f ≡ old.from_of f = x.from_of f h.0 in (
+          omega (arith, h.0, x.functions),
+          x.into_of f h.0
+              ∙ h.1,
+          subst (λ (l : List ℕ). length l ≤ 8) (sym e) h.2,
+          subst (FitsTerms new (ks ++ more) args) (sym e)
+              (terms_grow ks args (old.from_of f) h.3),
+        )
     term_grows ks (ite p a b) k h = (form_grows ks p h.0, term_grows ks a k h.1, term_grows ks b k h.2)
 
-    terms_grow : (ks : List ℕ) (ts : TermTrees) (ls : List ℕ) → FitsTerms old ks ts ls → FitsTerms new (ks ++ more) ts ls
+    terms_grow : (ks : List ℕ) (ts : TermTrees) (ls : List ℕ) → FitsTerms old ks ts ls
+        → FitsTerms new (ks ++ more) ts ls
     terms_grow ks no_terms [] h = tt
     terms_grow ks no_terms (l ∷ ls) h = absurd h
     terms_grow ks (term_then t ts) [] h = absurd h
@@ -55,12 +70,14 @@ module _ (old new : Symbols) (x : Extends old new) (more : List ℕ) where
 -- ---- every primitive of a command
 
 mutual
-  pub each_more : (P Q : PrimitiveTree → Type 0) → ((q : PrimitiveTree) → P q → Q q) → (c : CommandTree) → EachPrimitive P c → EachPrimitive Q c
+  pub each_more : (P Q : PrimitiveTree → Type 0) → ((q : PrimitiveTree) → P q → Q q) → (c : CommandTree)
+      → EachPrimitive P c → EachPrimitive Q c
   each_more P Q so (prim q) h = so q h
   each_more P Q so (seq cs) h = each_of_more P Q so cs h
   each_more P Q so (choose cs) h = each_of_more P Q so cs h
 
-  pub each_of_more : (P Q : PrimitiveTree → Type 0) → ((q : PrimitiveTree) → P q → Q q) → (cs : CommandTrees) → EachPrimitiveOf P cs → EachPrimitiveOf Q cs
+  pub each_of_more : (P Q : PrimitiveTree → Type 0) → ((q : PrimitiveTree) → P q → Q q) → (cs : CommandTrees)
+      → EachPrimitiveOf P cs → EachPrimitiveOf Q cs
   each_of_more P Q so no_commands h = tt
   each_of_more P Q so (command_then c cs) h = (each_more P Q so c h.0, each_of_more P Q so cs h.1)
 
@@ -72,13 +89,26 @@ module _ (old new : Symbols) (x : Extends old new) where
   primitive_grows : (q : PrimitiveTree) → FitsPrimitive old q → FitsPrimitive new q
   primitive_grows (assume p) h = sentence_grows p h
   primitive_grows (set_rel r by) h =
-      let e : new.sorts_of r ≡ old.sorts_of r = x.sorts_of r h.0 in
-      (omega (arith, h.0, x.relations), rw e (subst (λ (ks : List ℕ). FitsForm new ks by) (append-nil (reverse (old.sorts_of r))) (form_grows old new x [] (reverse (old.sorts_of r)) by h.1)))
+      let e : new.sorts_of r ≡ old.sorts_of r = x.sorts_of r h.0 in (
+        omega (arith, h.0, x.relations),
+        rw e
+            (subst (λ (ks : List ℕ). FitsForm new ks by) (append-nil (reverse (old.sorts_of r)))
+            (form_grows old new x [] (reverse (old.sorts_of r)) by h.1)),
+      )
   primitive_grows (set_fun f by) h =
       let e : new.from_of f ≡ old.from_of f = x.from_of f h.0 in
-      let i : new.into_of f ≡ old.into_of f = x.into_of f h.0 in
-      (omega (arith, h.0, x.functions), rw (e, i) (subst (λ (ks : List ℕ). FitsTerm new ks by (old.into_of f)) (append-nil (reverse (old.from_of f))) (term_grows old new x [] (reverse (old.from_of f)) by (old.into_of f) h.1)))
-  primitive_grows (havoc v) h = (omega (arith, h.0, x.functions), x.from_of v h.0 ∙ h.1, subst (λ (k : ℕ). k < new.sorts) (sym (x.into_of v h.0)) (omega (arith, h.2, x.sorts)))
+      let i : new.into_of f ≡ old.into_of f = x.into_of f h.0 in (
+        omega (arith, h.0, x.functions),
+        rw (e, i)
+            (subst (λ (ks : List ℕ). FitsTerm new ks by (old.into_of f)) (append-nil (reverse (old.from_of f)))
+            (term_grows old new x [] (reverse (old.from_of f)) by (old.into_of f) h.1)),
+      )
+  primitive_grows (havoc v) h = (
+    omega (arith, h.0, x.functions),
+    x.from_of v h.0
+        ∙ h.1,
+    subst (λ (k : ℕ). k < new.sorts) (sym (x.into_of v h.0)) (omega (arith, h.2, x.sorts)),
+  )
   primitive_grows abort h = tt
 
   pub command_grows : (c : CommandTree) → FitsCommand old c → FitsCommand new c

@@ -1,16 +1,7 @@
-pub mod Firsts
-pub mod Judged
-pub mod Tables
-pub mod Binders
-pub mod Nesting
 pub mod Fitting
 pub mod Few
-pub mod Branches
-pub mod Turns
-pub mod Tuples
 pub mod Answered
 pub mod BlockLists
-pub mod Declaring
 pub mod SortLists
 pub mod Extending
 pub mod Sides

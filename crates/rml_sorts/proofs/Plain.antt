@@ -1,15 +1,19 @@
 -- Where no quantifier stands inside an `ite`, formulas have plain terms; where none stands at all, they have none.
 use Rattle.std.proofs.Common.{◌≡◌, ℕ, Bool, true, false, List, [], ◌∷◌, ◌++◌, refl}
 use Rattle.fol_formula.specs.Syntax.{FormTree, TermTrees}
-use Rattle.fol_formula.specs.Fragments.{IsQuantifierFree, AreQuantifierFree, IsQuantifierFreeTerm, AreQuantifierFreeTerms, HasPlainTerms, HavePlainTerms}
+use Rattle.fol_formula.specs.Fragments.{IsQuantifierFree, AreQuantifierFree, IsQuantifierFreeTerm}
+use Rattle.fol_formula.specs.Fragments.{AreQuantifierFreeTerms, HasPlainTerms, HavePlainTerms}
 use Rattle.rml_syntax.specs.declared.tree.Quantifier.{Quantifier}
 use Rattle.rml_syntax.specs.declared.tree.Quantifier.TheVariants.{Forall, Exists}
-use Rattle.rml_syntax.specs.Tree.{ExprTree, ExprTrees, True, False, Apply, Ite, Equal, Not, And, Or, Implies, Iff, Quantified, no_expr, and_expr}
+use Rattle.rml_syntax.specs.Tree.{ExprTree, ExprTrees, True, False, Apply, Ite, Equal, Not, And, Or, Implies, Iff}
+use Rattle.rml_syntax.specs.Tree.{Quantified, no_expr, and_expr}
 use Rattle.rml_command.specs.Models.{ModelTree}
-use Rattle.rml_sorts.specs.declared.meaning.Meaning.{Meaning}
-use Rattle.rml_sorts.specs.declared.meaning.Meaning.TheVariants as meaning
-use Rattle.rml_sorts.specs.Meanings.{bytes_of, BoundName, meaning_of, sort_number, binding}
-use Rattle.rml_sorts.specs.Formulas.{atom_of, application_of, quantified, formula_of, formulas_of, term_of, terms_of, quantifiers_in, quantifiers_in_each}
+use Rattle.rml_names.specs.declared.meaning.Meaning.{Meaning}
+use Rattle.rml_names.specs.declared.meaning.Meaning.TheVariants as meaning
+use Rattle.rml_names.specs.Meanings.{bytes_of, BoundName, meaning_of, sort_number, binding}
+use Rattle.rml_elaborate.specs.Formulas.{atom_of, application_of, quantified, formula_of, formulas_of, term_of}
+use Rattle.rml_elaborate.specs.Formulas.{terms_of}
+use Rattle.rml_elaborate.specs.Quantifiers.{quantifiers_in, quantifiers_in_each}
 
 pub nil_left : {A : Type 0} (xs ys : List A) → xs ++ ys ≡ [] → xs ≡ []
 nil_left [] ys h = refl
@@ -31,7 +35,8 @@ atom_free (meaning.Relation r) args h = h
 atom_free (meaning.Function f) args h = tt
 atom_free meaning.Unknown args h = tt
 
-application_free : (x : Meaning) (args : TermTrees) → AreQuantifierFreeTerms args → IsQuantifierFreeTerm (application_of x args)
+application_free : (x : Meaning) (args : TermTrees) → AreQuantifierFreeTerms args
+    → IsQuantifierFreeTerm (application_of x args)
 application_free (meaning.Bound i k) args h = tt
 application_free (meaning.Relation r) args h = tt
 application_free (meaning.Function f) args h = h
@@ -43,30 +48,56 @@ quantified_plain Exists k p h = h
 
 module _ (text : List ℕ) (m : ModelTree) where
   mutual
-    pub formula_free : (bs : List BoundName) (e : ExprTree) → quantifiers_in true e ≡ [] → IsQuantifierFree (formula_of text m bs e)
+    pub formula_free : (bs : List BoundName) (e : ExprTree) → quantifiers_in true e ≡ []
+        → IsQuantifierFree (formula_of text m bs e)
     formula_free bs (True at) h = tt
     formula_free bs (False at) h = tt
-    formula_free bs (Apply name args) h = atom_free (meaning_of m bs (bytes_of text name)) (terms_of text m bs args) (terms_free bs true args h)
+    formula_free bs (Apply name args) h =
+        atom_free (meaning_of m bs (bytes_of text name)) (terms_of text m bs args) (terms_free bs true args h)
     formula_free bs (Ite at c a b) h = tt
-    formula_free bs (Equal at a b) h = (term_free bs true a (nil_left (quantifiers_in true a) _ h), term_free bs true b (nil_right (quantifiers_in true a) _ h))
+    formula_free bs (Equal at a b) h = (
+      term_free bs true a (nil_left (quantifiers_in true a) _ h),
+      term_free bs true b
+          (nil_right (quantifiers_in true a) _ h),
+    )
     formula_free bs (Not at a) h = formula_free bs a h
     formula_free bs (And at args) h = formulas_free bs args h
     formula_free bs (Or at args) h = formulas_free bs args h
-    formula_free bs (Implies at a b) h = (formula_free bs a (nil_left (quantifiers_in true a) _ h), formula_free bs b (nil_right (quantifiers_in true a) _ h))
-    formula_free bs (Iff at a b) h = (formula_free bs a (nil_left (quantifiers_in true a) _ h), formula_free bs b (nil_right (quantifiers_in true a) _ h))
+    formula_free bs (Implies at a b) h = (
+      formula_free bs a (nil_left (quantifiers_in true a) _ h),
+      formula_free bs b
+          (nil_right (quantifiers_in true a) _ h),
+    )
+    formula_free bs (Iff at a b) h = (
+      formula_free bs a (nil_left (quantifiers_in true a) _ h),
+      formula_free bs b
+          (nil_right (quantifiers_in true a) _ h),
+    )
     formula_free bs (Quantified q at b a) h = absurd (cc)
 
-    formulas_free : (bs : List BoundName) (es : ExprTrees) → quantifiers_in_each true es ≡ [] → AreQuantifierFree (formulas_of text m bs es)
+    formulas_free : (bs : List BoundName) (es : ExprTrees) → quantifiers_in_each true es ≡ []
+        → AreQuantifierFree (formulas_of text m bs es)
     formulas_free bs no_expr h = tt
-    formulas_free bs (and_expr e es) h = (formula_free bs e (nil_left (quantifiers_in true e) _ h), formulas_free bs es (nil_right (quantifiers_in true e) _ h))
+    formulas_free bs (and_expr e es) h = (
+      formula_free bs e (nil_left (quantifiers_in true e) _ h),
+      formulas_free bs es
+          (nil_right (quantifiers_in true e) _ h),
+    )
 
-    pub term_free : (bs : List BoundName) (all : Bool) (e : ExprTree) → quantifiers_in all e ≡ [] → IsQuantifierFreeTerm (term_of text m bs e)
+    pub term_free : (bs : List BoundName) (all : Bool) (e : ExprTree) → quantifiers_in all e ≡ []
+        → IsQuantifierFreeTerm (term_of text m bs e)
     term_free bs all (True at) h = tt
     term_free bs all (False at) h = tt
-    term_free bs all (Apply name args) h = application_free (meaning_of m bs (bytes_of text name)) (terms_of text m bs args) (terms_free bs all args h)
+    term_free bs all (Apply name args) h =
+        application_free (meaning_of m bs (bytes_of text name)) (terms_of text m bs args) (terms_free bs all args h)
     term_free bs all (Ite at c a b) h =
-        let ab = nil_right (quantifiers_in true c) (quantifiers_in true a ++ quantifiers_in true b) h in
-        (formula_free bs c (nil_left (quantifiers_in true c) _ h), term_free bs true a (nil_left (quantifiers_in true a) (quantifiers_in true b) ab), term_free bs true b (nil_right (quantifiers_in true a) (quantifiers_in true b) ab))
+        let ab = nil_right (quantifiers_in true c) (quantifiers_in true a ++ quantifiers_in true b) h in (
+          formula_free bs c (nil_left (quantifiers_in true c) _ h),
+          term_free bs true a
+              (nil_left (quantifiers_in true a) (quantifiers_in true b) ab),
+          term_free bs true b
+              (nil_right (quantifiers_in true a) (quantifiers_in true b) ab),
+        )
     term_free bs all (Equal at a b) h = tt
     term_free bs all (Not at a) h = tt
     term_free bs all (And at args) h = tt
@@ -75,24 +106,50 @@ module _ (text : List ℕ) (m : ModelTree) where
     term_free bs all (Iff at a b) h = tt
     term_free bs all (Quantified q at b a) h = tt
 
-    pub terms_free : (bs : List BoundName) (all : Bool) (es : ExprTrees) → quantifiers_in_each all es ≡ [] → AreQuantifierFreeTerms (terms_of text m bs es)
+    pub terms_free : (bs : List BoundName) (all : Bool) (es : ExprTrees) → quantifiers_in_each all es ≡ []
+        → AreQuantifierFreeTerms (terms_of text m bs es)
     terms_free bs all no_expr h = tt
-    terms_free bs all (and_expr e es) h = (term_free bs all e (nil_left (quantifiers_in all e) _ h), terms_free bs all es (nil_right (quantifiers_in all e) _ h))
+    terms_free bs all (and_expr e es) h = (
+      term_free bs all e (nil_left (quantifiers_in all e) _ h),
+      terms_free bs all es
+          (nil_right (quantifiers_in all e) _ h),
+    )
 
   mutual
-    pub formula_plain : (bs : List BoundName) (e : ExprTree) → quantifiers_in false e ≡ [] → HasPlainTerms (formula_of text m bs e)
+    pub formula_plain : (bs : List BoundName) (e : ExprTree) → quantifiers_in false e ≡ []
+        → HasPlainTerms (formula_of text m bs e)
     formula_plain bs (True at) h = tt
     formula_plain bs (False at) h = tt
-    formula_plain bs (Apply name args) h = atom_plain (meaning_of m bs (bytes_of text name)) (terms_of text m bs args) (terms_free bs false args h)
+    formula_plain bs (Apply name args) h =
+        atom_plain (meaning_of m bs (bytes_of text name)) (terms_of text m bs args) (terms_free bs false args h)
     formula_plain bs (Ite at c a b) h = tt
-    formula_plain bs (Equal at a b) h = (term_free bs false a (nil_left (quantifiers_in false a) _ h), term_free bs false b (nil_right (quantifiers_in false a) _ h))
+    formula_plain bs (Equal at a b) h = (
+      term_free bs false a (nil_left (quantifiers_in false a) _ h),
+      term_free bs false b
+          (nil_right (quantifiers_in false a) _ h),
+    )
     formula_plain bs (Not at a) h = formula_plain bs a h
     formula_plain bs (And at args) h = formulas_plain bs args h
     formula_plain bs (Or at args) h = formulas_plain bs args h
-    formula_plain bs (Implies at a b) h = (formula_plain bs a (nil_left (quantifiers_in false a) _ h), formula_plain bs b (nil_right (quantifiers_in false a) _ h))
-    formula_plain bs (Iff at a b) h = (formula_plain bs a (nil_left (quantifiers_in false a) _ h), formula_plain bs b (nil_right (quantifiers_in false a) _ h))
-    formula_plain bs (Quantified q at b a) h = quantified_plain q (sort_number text m b.sort) (formula_of text m (binding text m b ∷ bs) a) (formula_plain (binding text m b ∷ bs) a h)
+    formula_plain bs (Implies at a b) h = (
+      formula_plain bs a (nil_left (quantifiers_in false a) _ h),
+      formula_plain bs b
+          (nil_right (quantifiers_in false a) _ h),
+    )
+    formula_plain bs (Iff at a b) h = (
+      formula_plain bs a (nil_left (quantifiers_in false a) _ h),
+      formula_plain bs b
+          (nil_right (quantifiers_in false a) _ h),
+    )
+    formula_plain bs (Quantified q at b a) h =
+        quantified_plain q (sort_number text m b.sort) (formula_of text m (binding text m b ∷ bs) a)
+        (formula_plain (binding text m b ∷ bs) a h)
 
-    formulas_plain : (bs : List BoundName) (es : ExprTrees) → quantifiers_in_each false es ≡ [] → HavePlainTerms (formulas_of text m bs es)
+    formulas_plain : (bs : List BoundName) (es : ExprTrees) → quantifiers_in_each false es ≡ []
+        → HavePlainTerms (formulas_of text m bs es)
     formulas_plain bs no_expr h = tt
-    formulas_plain bs (and_expr e es) h = (formula_plain bs e (nil_left (quantifiers_in false e) _ h), formulas_plain bs es (nil_right (quantifiers_in false e) _ h))
+    formulas_plain bs (and_expr e es) h = (
+      formula_plain bs e (nil_left (quantifiers_in false e) _ h),
+      formulas_plain bs es
+          (nil_right (quantifiers_in false e) _ h),
+    )

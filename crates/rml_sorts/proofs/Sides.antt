@@ -1,27 +1,39 @@
 -- The primitives of commands whose demands are met fit.
-use Rattle.std.proofs.Common.{◌≡◌, ◌==◌, ◌||◌, ℕ, suc, true, is_some, List, [], ◌∷◌, ◌++◌, length, reverse, slice_index, Option, Some, None, refl, sym, subst, ap, ◌∙◌, arith, append_assoc, length-append}
+use Rattle.std.proofs.Common.{◌≡◌, ◌==◌, ◌||◌, ℕ, suc, true, is_some, List, [], ◌∷◌, ◌++◌, length, reverse, slice_index}
+use Rattle.std.proofs.Common.{Option, Some, None, refl, sym, subst, ap, ◌∙◌, arith, append_assoc, length-append}
 use Rattle.std.proofs.lemmas.List.{append-nil, reverse-append, length-reverse}
 use Rattle.std.proofs.Math.Seq.{get_or-append_seam}
 use Rattle.std.proofs.lemmas.Bool.{eqb-true}
 use Rattle.fol_sig.specs.Symbols.{Symbols, symbols, AreSorted}
 use Rattle.fol_formula.specs.Syntax.{TermTree, TermTrees, bound, no_terms, term_then}
 use Rattle.fol_formula.specs.Fits.{FitsForm, FitsForms, FitsTerm, FitsTerms}
+use Rattle.rml_lex.specs.declared.fault_code.FaultCode.TheVariants as fault_code
 use Rattle.rml_syntax.specs.declared.tree.Name.{Name}
 use Rattle.rml_syntax.specs.Tree.{ExprTree, ExprTrees}
 use Rattle.rml_command.specs.Models.{ModelTree, IsNamed, FitsPrimitive}
-use Rattle.rml_sorts.specs.declared.meaning.Meaning.{Meaning}
-use Rattle.rml_sorts.specs.declared.meaning.Meaning.TheVariants as meaning
-use Rattle.rml_sorts.specs.declared.meaning.Wanted.TheVariants.{Term}
-use Rattle.rml_sorts.specs.Meanings.{bytes_of, is_known, is_relation, is_variable, is_function_with_arguments, argument_sorts, result_sort, BoundName, with_parameters}
-use Rattle.rml_sorts.specs.Demands.{Demand, first_fault, is_expected, expr_count, asks, demands, argument_demands, tuple_demands, put_demands, parameter_demands, side_demands, assign_demands}
-use Rattle.rml_sorts.specs.Formulas.{formula_of, term_of, terms_of}
-use Rattle.rml_sorts.specs.Commands.{term_count, parameters, equations, at_tuple, insertion, removal, placement, assignment}
-use Rattle.rml_sorts.proofs.Firsts.{met, met_left, met_right}
+use Rattle.rml_names.specs.declared.meaning.Meaning.{Meaning}
+use Rattle.rml_names.specs.declared.meaning.Meaning.TheVariants as meaning
+use Rattle.rml_sort_check.specs.declared.wanted.Wanted.TheVariants.{Term}
+use Rattle.rml_names.specs.Meanings.{bytes_of, is_known, is_relation, is_variable, is_function_with_arguments}
+use Rattle.rml_names.specs.Meanings.{argument_sorts, result_sort, BoundName, with_parameters}
+use Rattle.rml_sort_check.specs.Demands.{Demand, first_fault, is_expected, expr_count, asks, demands, argument_demands}
+use Rattle.rml_sort_check.specs.Demands.{tuple_demands, put_demands, parameter_demands, side_demands, assign_demands}
+use Rattle.rml_elaborate.specs.Formulas.{formula_of, term_of, terms_of}
+use Rattle.rml_elaborate.specs.Updates.{term_count, parameters, equations, at_tuple, insertion, removal, placement}
+use Rattle.rml_elaborate.specs.Updates.{assignment}
+use Rattle.rml_sort_check.specs.Firsts.{met, met_left, met_right}
 use Rattle.rml_sorts.proofs.Extending.{Extends, term_grows}
 use Rattle.rml_sorts.proofs.Fitting.{sorts_of, IsThere, expected_sort, formula_fits, term_fits, arguments_fit}
 
 same_symbols : (sig : Symbols) → Extends sig sig
-same_symbols sig = record { sorts = omega arith; relations = omega arith; functions = omega arith; sorts_of = λ r h. refl; from_of = λ f h. refl; into_of = λ f h. refl }
+same_symbols sig = record {
+  sorts = omega arith;
+  relations = omega arith;
+  functions = omega arith;
+  sorts_of = λ r h. refl;
+  from_of = λ f h. refl;
+  into_of = λ f h. refl;
+}
 
 -- ---- parameters
 
@@ -29,32 +41,42 @@ turned : (k : ℕ) (ks more : List ℕ) → reverse (k ∷ ks) ++ more ≡ rever
 turned k ks more = ap (λ (l : List ℕ). l ++ more) (reverse-append (k ∷ []) ks) ∙ append_assoc (reverse ks) (k ∷ []) more
 
 -- the index of a parameter is the number of those behind it
-parameter_fits : (sig : Symbols) (k n : ℕ) (ks more : List ℕ) → n ≡ length ks → FitsTerm sig (reverse ks ++ (k ∷ more)) (bound n) k
+parameter_fits : (sig : Symbols) (k n : ℕ) (ks more : List ℕ) → n ≡ length ks
+    → FitsTerm sig (reverse ks ++ (k ∷ more)) (bound n) k
 parameter_fits sig k n ks more e =
     let r : length (reverse ks) ≡ length ks = length-reverse ks in
     (omega (arith, length-append (reverse ks) (k ∷ more)), at)
   where
     at : slice_index (reverse ks ++ (k ∷ more)) n ≡ k
-    at = let i : length (reverse ks) ≡ n = length-reverse ks ∙ sym e in subst (λ (i : ℕ). slice_index (reverse ks ++ (k ∷ more)) i ≡ k) i (get_or-append_seam (reverse ks) k more 0)
+    at = let i : length (reverse ks) ≡ n = length-reverse ks ∙ sym e in
+        subst (λ (i : ℕ). slice_index (reverse ks ++ (k ∷ more)) i ≡ k) i (get_or-append_seam (reverse ks) k more 0)
 
 parameters_fit : (sig : Symbols) (ks more : List ℕ) → FitsTerms sig (reverse ks ++ more) (parameters (length ks)) ks
 parameters_fit sig [] more = tt
 parameters_fit sig (k ∷ ks) more =
-    subst (λ (ss : List ℕ). FitsTerms sig ss (term_then (bound (length ks)) (parameters (length ks))) (k ∷ ks)) (sym (turned k ks more))
+    subst (λ (ss : List ℕ). FitsTerms sig ss (term_then (bound (length ks)) (parameters (length ks))) (k ∷ ks))
+    (sym (turned k ks more))
     (parameter_fits sig k (length ks) ks more refl, parameters_fit sig ks (k ∷ more))
 
-count_fits : (sig : Symbols) (ss : List ℕ) (ts : TermTrees) (ks : List ℕ) → FitsTerms sig ss ts ks → term_count ts ≡ length ks
+count_fits : (sig : Symbols) (ss : List ℕ) (ts : TermTrees) (ks : List ℕ) → FitsTerms sig ss ts ks
+    → term_count ts ≡ length ks
 count_fits sig ss no_terms [] h = refl
 count_fits sig ss no_terms (k ∷ ks) h = absurd h
 count_fits sig ss (term_then t ts) [] h = absurd h
 count_fits sig ss (term_then t ts) (k ∷ ks) h = ap suc (count_fits sig ss ts ks h.1)
 
-equations_fit : (sig : Symbols) (ts : TermTrees) (ks more : List ℕ) → FitsTerms sig [] ts ks → FitsForms sig (reverse ks ++ more) (equations ts)
+equations_fit : (sig : Symbols) (ts : TermTrees) (ks more : List ℕ) → FitsTerms sig [] ts ks
+    → FitsForms sig (reverse ks ++ more) (equations ts)
 equations_fit sig no_terms ks more h = tt
 equations_fit sig (term_then t ts) [] more h = absurd h
 equations_fit sig (term_then t ts) (k ∷ ks) more h =
     subst (λ (ss : List ℕ). FitsForms sig ss (equations (term_then t ts))) (sym (turned k ks more)) (
-      (k, parameter_fits sig k (term_count ts) ks more (count_fits sig [] ts ks h.1), term_grows sig sig (same_symbols sig) (reverse ks ++ (k ∷ more)) [] t k h.0),
+      (
+        k,
+        parameter_fits sig k (term_count ts) ks more (count_fits sig [] ts ks h.1),
+        term_grows sig sig
+            (same_symbols sig) (reverse ks ++ (k ∷ more)) [] t k h.0,
+      ),
       equations_fit sig ts ks (k ∷ more) h.1,
     )
 
@@ -66,16 +88,20 @@ record TupleFits (sig : Symbols) (ts : TermTrees) (ks : List ℕ) : Type 0 where
 tuple_fits : (sig : Symbols) (ts : TermTrees) (ks : List ℕ) → FitsTerms sig [] ts ks → TupleFits sig ts ks
 tuple_fits sig ts ks h = record {
   parameters_fit = subst (λ (n : ℕ). FitsTerms sig (reverse ks) (parameters n) ks) (sym (count_fits sig [] ts ks h))
-      (subst (λ (ss : List ℕ). FitsTerms sig ss (parameters (length ks)) ks) (append-nil (reverse ks)) (parameters_fit sig ks []));
-  equations_fit = subst (λ (ss : List ℕ). FitsForms sig ss (equations ts)) (append-nil (reverse ks)) (equations_fit sig ts ks [] h);
+      (subst (λ (ss : List ℕ). FitsTerms sig ss (parameters (length ks)) ks) (append-nil (reverse ks))
+      (parameters_fit sig ks []));
+  equations_fit = subst (λ (ss : List ℕ). FitsForms sig ss (equations ts)) (append-nil (reverse ks))
+      (equations_fit sig ts ks [] h);
 }
 
-sorts-parameters : (text : List ℕ) (bs : List BoundName) (ps : List Name) (ks : List ℕ) → length ps ≡ length ks → sorts_of (with_parameters text bs ps ks) ≡ reverse ks ++ sorts_of bs
+sorts-parameters : (text : List ℕ) (bs : List BoundName) (ps : List Name) (ks : List ℕ) → length ps ≡ length ks
+    → sorts_of (with_parameters text bs ps ks) ≡ reverse ks ++ sorts_of bs
 sorts-parameters text bs [] [] e = refl
 sorts-parameters text bs [] (k ∷ ks) e = absurd (omega arith)
 sorts-parameters text bs (p ∷ ps) [] e = absurd (omega arith)
 sorts-parameters text bs (p ∷ ps) (k ∷ ks) e =
-    sorts-parameters text (record { name = bytes_of text p; sort = k } ∷ bs) ps ks (omega arith) ∙ sym (turned k ks (sorts_of bs))
+    sorts-parameters text (record { name = bytes_of text p; sort = k } ∷ bs) ps ks (omega arith)
+    ∙ sym (turned k ks (sorts_of bs))
 
 no_length : (ks : List ℕ) → (length ks == 0) ≡ true → ks ≡ []
 no_length [] h = refl
@@ -85,71 +111,104 @@ module _ (text : List ℕ) (m : ModelTree) (named : IsNamed m) (sorted : AreSort
   abbrev sig : Symbols
   sig = symbols m.signature
 
-  insertion_fits : (x : Meaning) (ts : TermTrees) → IsThere m 0 [] x → FitsTerms sig [] ts (argument_sorts m x) → FitsPrimitive sig (insertion x ts)
+  insertion_fits : (x : Meaning) (ts : TermTrees) → IsThere m 0 [] x → FitsTerms sig [] ts (argument_sorts m x)
+      → FitsPrimitive sig (insertion x ts)
   insertion_fits (meaning.Bound i k) ts h f = tt
-  insertion_fits (meaning.Relation r) ts h f = let t = tuple_fits sig ts (sig.sorts_of r) f in (h, ((h, sorted.relations_short r h, t.parameters_fit), (t.equations_fit, tt)))
+  insertion_fits (meaning.Relation r) ts h f = let t = tuple_fits sig ts (sig.sorts_of r) f in
+      (h, ((h, sorted.relations_short r h, t.parameters_fit), (t.equations_fit, tt)))
   insertion_fits (meaning.Function g) ts h f = tt
   insertion_fits meaning.Unknown ts h f = tt
 
-  removal_fits : (x : Meaning) (ts : TermTrees) → IsThere m 0 [] x → FitsTerms sig [] ts (argument_sorts m x) → FitsPrimitive sig (removal x ts)
+  removal_fits : (x : Meaning) (ts : TermTrees) → IsThere m 0 [] x → FitsTerms sig [] ts (argument_sorts m x)
+      → FitsPrimitive sig (removal x ts)
   removal_fits (meaning.Bound i k) ts h f = tt
-  removal_fits (meaning.Relation r) ts h f = let t = tuple_fits sig ts (sig.sorts_of r) f in (h, ((h, sorted.relations_short r h, t.parameters_fit), (t.equations_fit, tt)))
+  removal_fits (meaning.Relation r) ts h f = let t = tuple_fits sig ts (sig.sorts_of r) f in
+      (h, ((h, sorted.relations_short r h, t.parameters_fit), (t.equations_fit, tt)))
   removal_fits (meaning.Function g) ts h f = tt
   removal_fits meaning.Unknown ts h f = tt
 
-  placement_fits : (x : Meaning) (ts : TermTrees) (u : TermTree) → IsThere m 0 [] x → FitsTerms sig [] ts (argument_sorts m x)
+  placement_fits : (x : Meaning) (ts : TermTrees) (u : TermTree) → IsThere m 0 [] x
+      → FitsTerms sig [] ts (argument_sorts m x)
       → ((k : ℕ) → result_sort m x ≡ Some k → FitsTerm sig [] u k) → FitsPrimitive sig (placement x ts u)
   placement_fits (meaning.Bound i k) ts u h f g = tt
   placement_fits (meaning.Relation r) ts u h f g = tt
   placement_fits (meaning.Function p) ts u h f g =
-      let t = tuple_fits sig ts (sig.from_of p) f in
-      (h, (t.equations_fit, term_grows sig sig (same_symbols sig) (reverse (sig.from_of p)) [] u (sig.into_of p) (g (sig.into_of p) refl), (h, refl, sorted.functions_short p h, t.parameters_fit)))
+      let t = tuple_fits sig ts (sig.from_of p) f in (
+        h,
+        (
+          t.equations_fit,
+          term_grows sig sig (same_symbols sig) (reverse (sig.from_of p)) [] u (sig.into_of p)
+              (g (sig.into_of p) refl),
+          (h, refl, sorted.functions_short p h, t.parameters_fit),
+        ),
+      )
   placement_fits meaning.Unknown ts u h f g = tt
 
   -- the arguments of `insert`, `remove` and `put`, behind three demands on the target
   tuple_arguments : (x : Meaning) (a b : Demand) (at : ℕ) (args : ExprTrees) (more : List Demand)
-      → first_fault ((a ∷ b ∷ asks at 8 (expr_count args == length (argument_sorts m x)) ∷ []) ++ (argument_demands text m [] args (argument_sorts m x) ++ more)) ≡ None
+      → first_fault ((a ∷ b ∷ asks at fault_code.WrongArgumentCount (expr_count args == length (argument_sorts m x))
+      ∷ []) ++ (argument_demands text m [] args (argument_sorts m x) ++ more)) ≡ None
       → FitsTerms sig [] (terms_of text m [] args) (argument_sorts m x)
   tuple_arguments x a b at args more d =
       let ds = argument_demands text m [] args (argument_sorts m x) ++ more in
-      let c = asks at 8 (expr_count args == length (argument_sorts m x)) in
+      let c = asks at fault_code.WrongArgumentCount (expr_count args == length (argument_sorts m x)) in
       let n = met c ds (met b (c ∷ ds) (met a (b ∷ c ∷ ds) d).1).1 in
-      arguments_fit text m named sorted [] args (argument_sorts m x) (met_left (argument_demands text m [] args (argument_sorts m x)) more n.1) (eqb-true (expr_count args) (length (argument_sorts m x)) n.0)
+      arguments_fit text m named sorted [] args (argument_sorts m x)
+      (met_left (argument_demands text m [] args (argument_sorts m x)) more n.1)
+      (eqb-true (expr_count args) (length (argument_sorts m x)) n.0)
 
   with_nothing : (ds : List Demand) → first_fault ds ≡ None → first_fault (ds ++ []) ≡ None
   with_nothing ds d = subst (λ (es : List Demand). first_fault es ≡ None) (sym (append-nil ds)) d
 
-  tuple_terms : (x : Meaning) (at : ℕ) (args : ExprTrees) → first_fault (tuple_demands text m x at args) ≡ None → FitsTerms sig [] (terms_of text m [] args) (argument_sorts m x)
-  tuple_terms x at args d = tuple_arguments x (asks at 7 (is_known x)) (asks at 12 (is_relation x)) at args []
-      (subst (λ (es : List Demand). first_fault es ≡ None) (ap (λ (es : List Demand). asks at 7 (is_known x) ∷ asks at 12 (is_relation x) ∷ asks at 8 (expr_count args == length (argument_sorts m x)) ∷ es) (sym (append-nil (argument_demands text m [] args (argument_sorts m x))))) d)
+  tuple_terms : (x : Meaning) (at : ℕ) (args : ExprTrees) → first_fault (tuple_demands text m x at args) ≡ None
+      → FitsTerms sig [] (terms_of text m [] args) (argument_sorts m x)
+  tuple_terms x at args d =
+      tuple_arguments x (asks at fault_code.UnknownName (is_known x)) (asks at fault_code.BadTarget (is_relation x)) at
+      args []
+      (subst (λ (es : List Demand). first_fault es ≡ None)
+      (ap (λ (es : List Demand). asks at fault_code.UnknownName (is_known x)
+      ∷ asks at fault_code.BadTarget (is_relation x)
+      ∷ asks at fault_code.WrongArgumentCount (expr_count args == length (argument_sorts m x)) ∷ es)
+      (sym (append-nil (argument_demands text m [] args (argument_sorts m x))))) d)
 
-  pub insert_fits : (x : Meaning) (at : ℕ) (args : ExprTrees) → IsThere m 0 [] x → first_fault (tuple_demands text m x at args) ≡ None → FitsPrimitive sig (insertion x (terms_of text m [] args))
+  pub insert_fits : (x : Meaning) (at : ℕ) (args : ExprTrees) → IsThere m 0 [] x
+      → first_fault (tuple_demands text m x at args) ≡ None → FitsPrimitive sig (insertion x (terms_of text m [] args))
   insert_fits x at args h d = insertion_fits x (terms_of text m [] args) h (tuple_terms x at args d)
 
-  pub remove_fits : (x : Meaning) (at : ℕ) (args : ExprTrees) → IsThere m 0 [] x → first_fault (tuple_demands text m x at args) ≡ None → FitsPrimitive sig (removal x (terms_of text m [] args))
+  pub remove_fits : (x : Meaning) (at : ℕ) (args : ExprTrees) → IsThere m 0 [] x
+      → first_fault (tuple_demands text m x at args) ≡ None → FitsPrimitive sig (removal x (terms_of text m [] args))
   remove_fits x at args h d = removal_fits x (terms_of text m [] args) h (tuple_terms x at args d)
 
-  pub put_fits : (x : Meaning) (at : ℕ) (args : ExprTrees) (e : ExprTree) → IsThere m 0 [] x → first_fault (put_demands text m x at args e) ≡ None
+  pub put_fits : (x : Meaning) (at : ℕ) (args : ExprTrees) (e : ExprTree) → IsThere m 0 [] x
+      → first_fault (put_demands text m x at args e) ≡ None
       → FitsPrimitive sig (placement x (terms_of text m [] args) (term_of text m [] e))
   put_fits x at args e h d =
-      let target = asks at 7 (is_known x) ∷ asks at 12 (is_function_with_arguments m x) ∷ asks at 8 (expr_count args == length (argument_sorts m x)) ∷ [] in
+      let target = asks at fault_code.UnknownName (is_known x)
+      ∷ asks at fault_code.BadTarget (is_function_with_arguments m x)
+      ∷ asks at fault_code.WrongArgumentCount (expr_count args == length (argument_sorts m x)) ∷ [] in
       let more = demands text m [] (Term (result_sort m x)) e in
       let ds = argument_demands text m [] args (argument_sorts m x) in
-      let v = term_fits text m named sorted [] (result_sort m x) e (met_right ds more (met_right target (ds ++ more) d)) in
+      let v = term_fits text m named sorted [] (result_sort m x) e
+      (met_right ds more (met_right target (ds ++ more) d)) in
       placement_fits x (terms_of text m [] args) (term_of text m [] e) h
-      (tuple_arguments x (asks at 7 (is_known x)) (asks at 12 (is_function_with_arguments m x)) at args more d)
-      (λ k is. subst (λ (l : ℕ). FitsTerm sig [] (term_of text m [] e) l) (expected_sort k v.sort (subst (λ (o : Option ℕ). is_expected o (Some v.sort) ≡ true) is v.expects)) v.fits)
+      (tuple_arguments x (asks at fault_code.UnknownName (is_known x))
+      (asks at fault_code.BadTarget (is_function_with_arguments m x)) at args more d)
+      (λ k is. subst (λ (l : ℕ). FitsTerm sig [] (term_of text m [] e) l)
+      (expected_sort k v.sort (subst (λ (o : Option ℕ). is_expected o (Some v.sort) ≡ true) is v.expects)) v.fits)
 
   -- ---- `:=`
 
-  assignment_fits : (x : Meaning) (ps : List Name) (value : Option ExprTree) → IsThere m 0 [] x → length ps ≡ length (argument_sorts m x) → (is_some value || is_variable m x) ≡ true
-      → first_fault (side_demands text m (with_parameters text [] ps (argument_sorts m x)) x value) ≡ None → FitsPrimitive sig (assignment text m x ps value)
+  assignment_fits : (x : Meaning) (ps : List Name) (value : Option ExprTree) → IsThere m 0 [] x
+      → length ps ≡ length (argument_sorts m x) → (is_some value || is_variable m x) ≡ true
+      → first_fault (side_demands text m (with_parameters text [] ps (argument_sorts m x)) x value) ≡ None
+      → FitsPrimitive sig (assignment text m x ps value)
   assignment_fits (meaning.Bound i k) ps value h n v d = tt
   assignment_fits (meaning.Relation r) ps None h n v d = tt
   assignment_fits (meaning.Relation r) ps (Some e) h n v d =
       let bs = with_parameters text [] ps (sig.sorts_of r) in (
         h,
-        subst (λ (ss : List ℕ). FitsForm sig ss (formula_of text m (with_parameters text [] ps (sig.sorts_of r)) e)) (sorts-parameters text [] ps (sig.sorts_of r) n ∙ append-nil (reverse (sig.sorts_of r)))
+        subst (λ (ss : List ℕ). FitsForm sig ss (formula_of text m (with_parameters text [] ps (sig.sorts_of r)) e))
+            (sorts-parameters text [] ps (sig.sorts_of r) n ∙ append-nil (reverse (sig.sorts_of r)))
             (formula_fits text m named sorted bs e d),
       )
   assignment_fits (meaning.Function f) ps None h n v d =
@@ -158,20 +217,25 @@ module _ (text : List ℕ) (m : ModelTree) (named : IsNamed m) (sorted : AreSort
       let bs = with_parameters text [] ps (sig.from_of f) in
       let t = term_fits text m named sorted bs (Some (sig.into_of f)) e d in (
         h,
-        subst (λ (ss : List ℕ). FitsTerm sig ss (term_of text m (with_parameters text [] ps (sig.from_of f)) e) (sig.into_of f)) (sorts-parameters text [] ps (sig.from_of f) n ∙ append-nil (reverse (sig.from_of f)))
-            (subst (λ (l : ℕ). FitsTerm sig (sorts_of bs) (term_of text m (with_parameters text [] ps (sig.from_of f)) e) l) (expected_sort (sig.into_of f) t.sort t.expects) t.fits),
+        subst (λ (ss : List ℕ). FitsTerm sig ss (term_of text m (with_parameters text [] ps (sig.from_of f)) e)
+            (sig.into_of f)) (sorts-parameters text [] ps (sig.from_of f) n ∙ append-nil (reverse (sig.from_of f)))
+            (subst (λ (l : ℕ). FitsTerm sig (sorts_of bs)
+            (term_of text m (with_parameters text [] ps (sig.from_of f)) e) l)
+            (expected_sort (sig.into_of f) t.sort t.expects) t.fits),
       )
   assignment_fits meaning.Unknown ps value h n v d = tt
 
-  pub assign_fits : (x : Meaning) (at : ℕ) (ps : List Name) (value : Option ExprTree) → IsThere m 0 [] x → first_fault (assign_demands text m x at ps value) ≡ None
+  pub assign_fits : (x : Meaning) (at : ℕ) (ps : List Name) (value : Option ExprTree) → IsThere m 0 [] x
+      → first_fault (assign_demands text m x at ps value) ≡ None
       → FitsPrimitive sig (assignment text m x ps value)
   assign_fits x at ps value h d =
       let side = side_demands text m (with_parameters text [] ps (argument_sorts m x)) x value in
       let ds = parameter_demands text m [] ps ++ side in
-      let a = asks at 7 (is_known x) in
-      let b = asks at 12 (is_some value || is_variable m x) in
-      let c = asks at 8 (length ps == length (argument_sorts m x)) in
+      let a = asks at fault_code.UnknownName (is_known x) in
+      let b = asks at fault_code.BadTarget (is_some value || is_variable m x) in
+      let c = asks at fault_code.WrongArgumentCount (length ps == length (argument_sorts m x)) in
       let known = met a (b ∷ c ∷ ds) d in
       let fit = met b (c ∷ ds) known.1 in
       let count = met c ds fit.1 in
-      assignment_fits x ps value h (eqb-true (length ps) (length (argument_sorts m x)) count.0) fit.0 (met_right (parameter_demands text m [] ps) side count.1)
+      assignment_fits x ps value h (eqb-true (length ps) (length (argument_sorts m x)) count.0) fit.0
+      (met_right (parameter_demands text m [] ps) side count.1)

@@ -1,7 +1,9 @@
 -- Argument sorts, one after another.
-use Rattle.std.proofs.Common.{◌≡◌, ◌+◌, ◌<◌, ◌++◌, ℕ, zero, suc, Bool, true, false, nat_lt, if◌then◌else◌, List, [], ◌∷◌, length, drop, get_or, Some, None, refl, sym, subst, ap, ◌∙◌, arith}
+use Rattle.std.proofs.Common.{◌≡◌, ◌+◌, ◌<◌, ◌++◌, ℕ, zero, suc, Bool, true, false, nat_lt, if◌then◌else◌, List, []}
+use Rattle.std.proofs.Common.{◌∷◌, length, drop, get_or, Some, None, refl, sym, subst, ap, ◌∙◌, arith}
 use Rattle.base.specs.declared.refused.Refused.{Refused}
 use Rattle.rml_lex.specs.declared.token.Fault.{Fault}
+use Rattle.rml_lex.specs.declared.fault_code.FaultCode.TheVariants as fault_code
 use Rattle.fol_sig.specs.declared.Sort.{Sort}
 use Rattle.fol_sig.specs.Tables.{AreSorts, numbers}
 use Rattle.std.proofs.lemmas.List.{length-map}
@@ -9,50 +11,63 @@ use Rattle.base.proofs.Lists.{drop_read}
 use Rattle.rml_syntax.specs.declared.tree.Name.{Name}
 use Rattle.rml_syntax.specs.Within.{NamesWithin}
 use Rattle.rml_command.specs.Models.{ModelTree}
-use Rattle.rml_sorts.specs.Demands.{asks, first_fault}
+use Rattle.rml_sort_check.specs.Demands.{asks, first_fault}
 use Rattle.rml_sorts.specs.Items.{sort_known, sort_demands}
-use Rattle.rml_sorts.proofs.Firsts.{first_right}
+use Rattle.rml_sort_check.specs.Firsts.{first_right}
 use Rattle.rml_sorts.proofs.Answered.{Refuses, refuses_as, refuses_left}
 
 module _ (text : List ℕ) (m : ModelTree) where
   -- the demands from a place on
   at_place : (k : ℕ) (xs : List Name) (i : ℕ) (x : Name) → i < length xs → x ≡ get_or xs i x
-      → sort_demands text m k (drop i xs) ≡ (sort_known text m x ∷ []) ++ (asks x.start 8 (nat_lt k 8) ∷ sort_demands text m (suc k) (drop (i + 1) xs))
+      → sort_demands text m k (drop i xs) ≡ (sort_known text m x ∷ [])
+      ++ (asks x.start fault_code.WrongArgumentCount (nat_lt k 8) ∷ sort_demands text m (suc k) (drop (i + 1) xs))
   at_place k xs i x lt is = ap (sort_demands text m k) (drop_read xs i x lt is)
 
   pub sort_refused : (k : ℕ) (xs : List Name) (i : ℕ) (x : Name) (e : Refused Fault) → i < length xs → x ≡ get_or xs i x
-      → first_fault (sort_demands text m k (drop i xs)) ≡ first_fault (sort_demands text m 0 xs) → Refuses (sort_known text m x ∷ []) e → Refuses (sort_demands text m 0 xs) e
+      → first_fault (sort_demands text m k (drop i xs)) ≡ first_fault (sort_demands text m 0 xs)
+      → Refuses (sort_known text m x ∷ []) e → Refuses (sort_demands text m 0 xs) e
   sort_refused k xs i x e lt is so h =
       let front = sort_known text m x ∷ [] in
-      let rest = asks x.start 8 (nat_lt k 8) ∷ sort_demands text m (suc k) (drop (i + 1) xs) in
-      refuses_as (front ++ rest) (sort_demands text m 0 xs) e (ap first_fault (sym (at_place k xs i x lt is)) ∙ so) (refuses_left front rest e h)
+      let rest = asks x.start fault_code.WrongArgumentCount (nat_lt k 8)
+      ∷ sort_demands text m (suc k) (drop (i + 1) xs) in
+      refuses_as (front ++ rest) (sort_demands text m 0 xs) e (ap first_fault (sym (at_place k xs i x lt is)) ∙ so)
+      (refuses_left front rest e h)
 
   -- behind a known sort
   behind_known : (k : ℕ) (xs : List Name) (i : ℕ) (x : Name) → i < length xs → x ≡ get_or xs i x
-      → first_fault (sort_demands text m k (drop i xs)) ≡ first_fault (sort_demands text m 0 xs) → first_fault (sort_known text m x ∷ []) ≡ None
-      → first_fault (asks x.start 8 (nat_lt k 8) ∷ sort_demands text m (suc k) (drop (i + 1) xs)) ≡ first_fault (sort_demands text m 0 xs)
+      → first_fault (sort_demands text m k (drop i xs)) ≡ first_fault (sort_demands text m 0 xs)
+      → first_fault (sort_known text m x ∷ []) ≡ None
+      → first_fault (asks x.start fault_code.WrongArgumentCount (nat_lt k 8)
+      ∷ sort_demands text m (suc k) (drop (i + 1) xs)) ≡ first_fault (sort_demands text m 0 xs)
   behind_known k xs i x lt is so known =
       let front = sort_known text m x ∷ [] in
-      let rest = asks x.start 8 (nat_lt k 8) ∷ sort_demands text m (suc k) (drop (i + 1) xs) in
+      let rest = asks x.start fault_code.WrongArgumentCount (nat_lt k 8)
+      ∷ sort_demands text m (suc k) (drop (i + 1) xs) in
       sym (first_right front rest known) ∙ ap first_fault (sym (at_place k xs i x lt is)) ∙ so
 
   pub ninth_refused : (k : ℕ) (xs : List Name) (i : ℕ) (x : Name) → i < length xs → x ≡ get_or xs i x
-      → first_fault (sort_demands text m k (drop i xs)) ≡ first_fault (sort_demands text m 0 xs) → first_fault (sort_known text m x ∷ []) ≡ None → nat_lt k 8 ≡ false
-      → first_fault (sort_demands text m 0 xs) ≡ Some (record { code = 8; at = x.start })
+      → first_fault (sort_demands text m k (drop i xs)) ≡ first_fault (sort_demands text m 0 xs)
+      → first_fault (sort_known text m x ∷ []) ≡ None → nat_lt k 8 ≡ false
+      → first_fault (sort_demands text m 0 xs) ≡ Some (record { code = fault_code.WrongArgumentCount; at = x.start })
   ninth_refused k xs i x lt is so known many =
       sym (behind_known k xs i x lt is so known)
-      ∙ ap (λ (b : Bool). if b then first_fault (sort_demands text m (suc k) (drop (i + 1) xs)) else Some (record { code = 8; at = x.start })) many
+      ∙ ap (λ (b : Bool). if b then first_fault (sort_demands text m (suc k) (drop (i + 1) xs)) else Some
+      (record { code = fault_code.WrongArgumentCount; at = x.start })) many
 
   pub sort_turn : (k l : ℕ) (xs : List Name) (i : ℕ) (x : Name) → i < length xs → x ≡ get_or xs i x
-      → first_fault (sort_demands text m k (drop i xs)) ≡ first_fault (sort_demands text m 0 xs) → first_fault (sort_known text m x ∷ []) ≡ None → nat_lt k 8 ≡ true → l ≡ suc k
+      → first_fault (sort_demands text m k (drop i xs)) ≡ first_fault (sort_demands text m 0 xs)
+      → first_fault (sort_known text m x ∷ []) ≡ None → nat_lt k 8 ≡ true → l ≡ suc k
       → first_fault (sort_demands text m l (drop (i + 1) xs)) ≡ first_fault (sort_demands text m 0 xs)
   sort_turn k l xs i x lt is so known few next =
       ap (λ (j : ℕ). first_fault (sort_demands text m j (drop (i + 1) xs))) next
-      ∙ sym (ap (λ (b : Bool). if b then first_fault (sort_demands text m (suc k) (drop (i + 1) xs)) else Some (record { code = 8; at = x.start })) few)
+      ∙ sym (ap (λ (b : Bool). if b then first_fault (sort_demands text m (suc k) (drop (i + 1) xs)) else Some
+      (record { code = fault_code.WrongArgumentCount; at = x.start })) few)
       ∙ behind_known k xs i x lt is so known
 
-pub names_left : (n : ℕ) (xs : List Name) (i : ℕ) (x : Name) → i < length xs → x ≡ get_or xs i x → NamesWithin n (drop i xs) → NamesWithin n (drop (i + 1) xs)
-names_left n xs i x lt is h = let both : NamesWithin n (x ∷ drop (i + 1) xs) = subst (λ l. NamesWithin n l) (drop_read xs i x lt is) h in both.1
+pub names_left : (n : ℕ) (xs : List Name) (i : ℕ) (x : Name) → i < length xs → x ≡ get_or xs i x
+    → NamesWithin n (drop i xs) → NamesWithin n (drop (i + 1) xs)
+names_left n xs i x lt is h = let both : NamesWithin n (x ∷ drop (i + 1) xs) =
+    subst (λ l. NamesWithin n l) (drop_read xs i x lt is) h in both.1
 
 -- sorts and their numbers are as many
 pub as_many : (ks : List Sort) (ns : List ℕ) → numbers ks ≡ ns → length ks ≡ length ns
@@ -68,7 +83,8 @@ sort_more n old new k is all below = subst (AreSorts n) (sym is) (each old all)
     each (l ∷ ks) h (suc j) d lt = each ks (λ i e less. h (suc i) e (omega arith)) j d (omega arith)
 
 -- what stands at a place of the list does not hang on what is given for a place beyond it
-pub read_again : {A : Type 0} (xs : List A) (i : ℕ) (d : A) → i < length xs → get_or xs i d ≡ get_or xs i (get_or xs i d)
+pub read_again : {A : Type 0} (xs : List A) (i : ℕ) (d : A) → i < length xs
+    → get_or xs i d ≡ get_or xs i (get_or xs i d)
 read_again [] i d lt = absurd (omega arith)
 read_again (x ∷ xs) zero d lt = refl
 read_again (x ∷ xs) (suc i) d lt = read_beyond xs i d (get_or xs i d) (omega arith)

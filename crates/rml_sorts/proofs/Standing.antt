@@ -4,13 +4,19 @@ use Rattle.std.specs.List.{AllByRecursion}
 use Rattle.base.proofs.Lists.{all_append, all_push}
 use Rattle.rml_syntax.specs.declared.tree.Name.{Name}
 use Rattle.rml_syntax.specs.Tree as syntax
-use Rattle.rml_syntax.specs.Tree.{ExprTree, ExprTrees, True, False, Apply, Ite, Equal, Not, And, Or, Implies, Iff, Quantified, no_expr, and_expr, Block, Blocks, Skip, Abort, Assume, Assert, If, Choose, Insert, Remove, Put, Assign, no_command, and_command, no_block, and_block, ItemTree, Relation, Function, Variable, Axiom, Conjecture, Init, Action, Final, block_of}
-use Rattle.rml_syntax.specs.Within.{NameWithin, ExprWithin, ExprsWithin, ValueWithin, CommandWithin, BlockWithin, BlocksWithin, CommandsWithin, ItemWithin, TreeWithin}
+use Rattle.rml_syntax.specs.Tree.{ExprTree, ExprTrees, True, False, Apply, Ite, Equal, Not, And, Or, Implies, Iff}
+use Rattle.rml_syntax.specs.Tree.{Quantified, no_expr, and_expr, Block, Blocks, Skip, Abort, Assume, Assert, If, Choose}
+use Rattle.rml_syntax.specs.Tree.{Insert, Remove, Put, Assign, no_command, and_command, no_block, and_block, ItemTree}
+use Rattle.rml_syntax.specs.Tree.{Relation, Function, Variable, Axiom, Conjecture, Init, Action, Final, block_of}
+use Rattle.rml_syntax.specs.Within.{NameWithin, ExprWithin, ExprsWithin, ValueWithin, CommandWithin, BlockWithin}
+use Rattle.rml_syntax.specs.Within.{BlocksWithin, CommandsWithin, ItemWithin, TreeWithin}
 use Rattle.rml_command.specs.Models.{ModelTree, ArePlacesWithin}
 use Rattle.rml_command.specs.declared.places.Condition.{Condition}
 use Rattle.rml_sorts.specs.Laws.{PlacesStandInText}
-use Rattle.rml_sorts.specs.Formulas.{quantifiers_in, quantifiers_in_each}
-use Rattle.rml_sorts.specs.Commands.{conditions_of, conditions_of_block, conditions_of_blocks, quantifiers_of_side, quantifiers_of, quantifiers_of_block, quantifiers_of_blocks}
+use Rattle.rml_elaborate.specs.Quantifiers.{quantifiers_in, quantifiers_in_each}
+use Rattle.rml_sorts.specs.Commands.{conditions_of, conditions_of_block, conditions_of_blocks}
+use Rattle.rml_elaborate.specs.Quantifiers.{quantifiers_of_side, quantifiers_of, quantifiers_of_block}
+use Rattle.rml_elaborate.specs.Quantifiers.{quantifiers_of_blocks}
 use Rattle.rml_sorts.specs.Items.{Draft, no_items, model_with, with_item, with_items}
 
 module _ (n : ℕ) where
@@ -33,18 +39,26 @@ module _ (n : ℕ) where
     quantifiers_stand all (False at) h = tt
     quantifiers_stand all (Apply name args) h = each_stands all args h.1
     quantifiers_stand all (Ite at c a b) h =
-        both (quantifiers_in true c) (quantifiers_in true a ++ quantifiers_in true b) (quantifiers_stand true c h.1) (both (quantifiers_in true a) (quantifiers_in true b) (quantifiers_stand true a h.2) (quantifiers_stand true b h.3))
-    quantifiers_stand all (Equal at a b) h = both (quantifiers_in all a) (quantifiers_in all b) (quantifiers_stand all a h.1) (quantifiers_stand all b h.2)
+        both (quantifiers_in true c) (quantifiers_in true a ++ quantifiers_in true b) (quantifiers_stand true c h.1)
+        (both (quantifiers_in true a) (quantifiers_in true b) (quantifiers_stand true a h.2)
+        (quantifiers_stand true b h.3))
+    quantifiers_stand all (Equal at a b) h =
+        both (quantifiers_in all a) (quantifiers_in all b) (quantifiers_stand all a h.1) (quantifiers_stand all b h.2)
     quantifiers_stand all (Not at a) h = quantifiers_stand all a h.1
     quantifiers_stand all (And at args) h = each_stands all args h.1
     quantifiers_stand all (Or at args) h = each_stands all args h.1
-    quantifiers_stand all (Implies at a b) h = both (quantifiers_in all a) (quantifiers_in all b) (quantifiers_stand all a h.1) (quantifiers_stand all b h.2)
-    quantifiers_stand all (Iff at a b) h = both (quantifiers_in all a) (quantifiers_in all b) (quantifiers_stand all a h.1) (quantifiers_stand all b h.2)
-    quantifiers_stand all (Quantified q at b a) h = both (if all then at ∷ [] else []) (quantifiers_in all a) (here_or_none all at h.0) (quantifiers_stand all a h.2)
+    quantifiers_stand all (Implies at a b) h =
+        both (quantifiers_in all a) (quantifiers_in all b) (quantifiers_stand all a h.1) (quantifiers_stand all b h.2)
+    quantifiers_stand all (Iff at a b) h =
+        both (quantifiers_in all a) (quantifiers_in all b) (quantifiers_stand all a h.1) (quantifiers_stand all b h.2)
+    quantifiers_stand all (Quantified q at b a) h =
+        both (if all then at ∷ [] else []) (quantifiers_in all a) (here_or_none all at h.0)
+        (quantifiers_stand all a h.2)
 
     each_stands : (all : Bool) (es : ExprTrees) → ExprsWithin n es → AllByRecursion In (quantifiers_in_each all es)
     each_stands all no_expr h = tt
-    each_stands all (and_expr e es) h = both (quantifiers_in all e) (quantifiers_in_each all es) (quantifiers_stand all e h.0) (each_stands all es h.1)
+    each_stands all (and_expr e es) h =
+        both (quantifiers_in all e) (quantifiers_in_each all es) (quantifiers_stand all e h.0) (each_stands all es h.1)
 
   side_stands : (e : Option ExprTree) → ValueWithin n e → AllByRecursion In (quantifiers_of_side e)
   side_stands None h = tt
@@ -57,29 +71,39 @@ module _ (n : ℕ) where
     command_stands (Assume at e) h = quantifiers_stand false e h.1
     command_stands (Assert at e) h = quantifiers_stand false e h.1
     command_stands (If at e a b) h =
-        both (quantifiers_in false e) (quantifiers_of_block a ++ quantifiers_of_block b) (quantifiers_stand false e h.1) (both (quantifiers_of_block a) (quantifiers_of_block b) (block_stands a h.2) (block_stands b h.3))
+        both (quantifiers_in false e) (quantifiers_of_block a ++ quantifiers_of_block b) (quantifiers_stand false e h.1)
+        (both (quantifiers_of_block a) (quantifiers_of_block b) (block_stands a h.2) (block_stands b h.3))
     command_stands (Choose at bs) h = blocks_stand bs h.1
     command_stands (Insert at name args) h = each_stands true args h.2
     command_stands (Remove at name args) h = each_stands true args h.2
-    command_stands (Put at name args e) h = both (quantifiers_in_each true args) (quantifiers_in true e) (each_stands true args h.2) (quantifiers_stand true e h.3)
+    command_stands (Put at name args e) h =
+        both (quantifiers_in_each true args) (quantifiers_in true e) (each_stands true args h.2)
+        (quantifiers_stand true e h.3)
     command_stands (Assign name ps value) h = side_stands value h.2
 
     block_stands : (b : Block) → BlockWithin n b → AllByRecursion In (quantifiers_of_block b)
     block_stands no_command h = tt
-    block_stands (and_command c cs) h = both (quantifiers_of c) (quantifiers_of_block cs) (command_stands c h.0) (block_stands cs h.1)
+    block_stands (and_command c cs) h =
+        both (quantifiers_of c) (quantifiers_of_block cs) (command_stands c h.0) (block_stands cs h.1)
 
     blocks_stand : (bs : Blocks) → BlocksWithin n bs → AllByRecursion In (quantifiers_of_blocks bs)
     blocks_stand no_block h = tt
-    blocks_stand (and_block b bs) h = both (quantifiers_of_block b) (quantifiers_of_blocks bs) (block_stands b h.0) (blocks_stand bs h.1)
+    blocks_stand (and_block b bs) h =
+        both (quantifiers_of_block b) (quantifiers_of_blocks bs) (block_stands b h.0) (blocks_stand bs h.1)
 
   module _ (text : List ℕ) (m : ModelTree) where
     mutual
-      conditions_stand : (c : syntax.CommandTree) → CommandWithin n c → AllByRecursion ConditionIn (conditions_of text m c)
+      conditions_stand : (c : syntax.CommandTree) → CommandWithin n c
+          → AllByRecursion ConditionIn (conditions_of text m c)
       conditions_stand (Skip at) h = tt
       conditions_stand (Abort at) h = tt
       conditions_stand (Assume at e) h = (h.0, tt)
       conditions_stand (Assert at e) h = (h.0, tt)
-      conditions_stand (If at e a b) h = (h.0, all_append ConditionIn (conditions_of_block text m a) (conditions_of_block text m b) (block_conditions_stand a h.2) (block_conditions_stand b h.3))
+      conditions_stand (If at e a b) h = (
+        h.0,
+        all_append ConditionIn (conditions_of_block text m a) (conditions_of_block text m b)
+            (block_conditions_stand a h.2) (block_conditions_stand b h.3),
+      )
       conditions_stand (Choose at bs) h = blocks_conditions_stand bs h.1
       conditions_stand (Insert at name args) h = tt
       conditions_stand (Remove at name args) h = tt
@@ -88,11 +112,16 @@ module _ (n : ℕ) where
 
       block_conditions_stand : (b : Block) → BlockWithin n b → AllByRecursion ConditionIn (conditions_of_block text m b)
       block_conditions_stand no_command h = tt
-      block_conditions_stand (and_command c cs) h = all_append ConditionIn (conditions_of text m c) (conditions_of_block text m cs) (conditions_stand c h.0) (block_conditions_stand cs h.1)
+      block_conditions_stand (and_command c cs) h =
+          all_append ConditionIn (conditions_of text m c) (conditions_of_block text m cs) (conditions_stand c h.0)
+          (block_conditions_stand cs h.1)
 
-      blocks_conditions_stand : (bs : Blocks) → BlocksWithin n bs → AllByRecursion ConditionIn (conditions_of_blocks text m bs)
+      blocks_conditions_stand : (bs : Blocks) → BlocksWithin n bs
+          → AllByRecursion ConditionIn (conditions_of_blocks text m bs)
       blocks_conditions_stand no_block h = tt
-      blocks_conditions_stand (and_block b bs) h = all_append ConditionIn (conditions_of_block text m b) (conditions_of_blocks text m bs) (block_conditions_stand b h.0) (blocks_conditions_stand bs h.1)
+      blocks_conditions_stand (and_block b bs) h =
+          all_append ConditionIn (conditions_of_block text m b) (conditions_of_blocks text m bs)
+          (block_conditions_stand b h.0) (blocks_conditions_stand bs h.1)
 
   within_block : (cs : List syntax.CommandTree) → CommandsWithin n cs → BlockWithin n (block_of cs)
   within_block [] h = tt
@@ -108,8 +137,28 @@ module _ (n : ℕ) where
     step : (m : ModelTree) (item : ItemTree) → Stands m → ItemWithin n item → Stands (model_with text m item)
     step m (syntax.Sort name) s h = s
     step m (Relation name sorts) s h = s
-    step m (Function name sorts sort) s h = record { functions = all_push In m.places.functions name.start s.functions (name_stands name h.0); axioms = s.axioms; conjectures = s.conjectures; init = s.init; actions = s.actions; last = s.last; conditions = s.conditions; quantifiers = s.quantifiers }
-    step m (Variable name sort) s h = record { functions = all_push In m.places.functions name.start s.functions (name_stands name h.0); axioms = s.axioms; conjectures = s.conjectures; init = s.init; actions = s.actions; last = s.last; conditions = s.conditions; quantifiers = s.quantifiers }
+    step m (Function name sorts sort) s h =
+        record {
+          functions = all_push In m.places.functions name.start s.functions (name_stands name h.0);
+          axioms = s.axioms;
+          conjectures = s.conjectures;
+          init = s.init;
+          actions = s.actions;
+          last = s.last;
+          conditions = s.conditions;
+          quantifiers = s.quantifiers;
+        }
+    step m (Variable name sort) s h =
+        record {
+          functions = all_push In m.places.functions name.start s.functions (name_stands name h.0);
+          axioms = s.axioms;
+          conjectures = s.conjectures;
+          init = s.init;
+          actions = s.actions;
+          last = s.last;
+          conditions = s.conditions;
+          quantifiers = s.quantifiers;
+        }
     step m (Axiom name e) s h = record {
       functions = s.functions;
       axioms = all_push In m.places.axioms name.start s.axioms (name_stands name h.0);
@@ -137,8 +186,10 @@ module _ (n : ℕ) where
       init = h.0;
       actions = s.actions;
       last = s.last;
-      conditions = all_append ConditionIn m.places.conditions (conditions_of_block text m (block_of cs)) s.conditions (block_conditions_stand text m (block_of cs) (within_block cs h.1));
-      quantifiers = both m.places.quantifiers (quantifiers_of_block (block_of cs)) s.quantifiers (block_stands (block_of cs) (within_block cs h.1));
+      conditions = all_append ConditionIn m.places.conditions (conditions_of_block text m (block_of cs)) s.conditions
+          (block_conditions_stand text m (block_of cs) (within_block cs h.1));
+      quantifiers = both m.places.quantifiers (quantifiers_of_block (block_of cs)) s.quantifiers
+          (block_stands (block_of cs) (within_block cs h.1));
     }
     step m (Action name cs) s h = record {
       functions = s.functions;
@@ -147,8 +198,10 @@ module _ (n : ℕ) where
       init = s.init;
       actions = all_push In m.places.actions name.start s.actions (name_stands name h.0);
       last = s.last;
-      conditions = all_append ConditionIn m.places.conditions (conditions_of_block text m (block_of cs)) s.conditions (block_conditions_stand text m (block_of cs) (within_block cs h.1));
-      quantifiers = both m.places.quantifiers (quantifiers_of_block (block_of cs)) s.quantifiers (block_stands (block_of cs) (within_block cs h.1));
+      conditions = all_append ConditionIn m.places.conditions (conditions_of_block text m (block_of cs)) s.conditions
+          (block_conditions_stand text m (block_of cs) (within_block cs h.1));
+      quantifiers = both m.places.quantifiers (quantifiers_of_block (block_of cs)) s.quantifiers
+          (block_stands (block_of cs) (within_block cs h.1));
     }
     step m (Final at cs) s h = record {
       functions = s.functions;
@@ -157,14 +210,27 @@ module _ (n : ℕ) where
       init = s.init;
       actions = s.actions;
       last = h.0;
-      conditions = all_append ConditionIn m.places.conditions (conditions_of_block text m (block_of cs)) s.conditions (block_conditions_stand text m (block_of cs) (within_block cs h.1));
-      quantifiers = both m.places.quantifiers (quantifiers_of_block (block_of cs)) s.quantifiers (block_stands (block_of cs) (within_block cs h.1));
+      conditions = all_append ConditionIn m.places.conditions (conditions_of_block text m (block_of cs)) s.conditions
+          (block_conditions_stand text m (block_of cs) (within_block cs h.1));
+      quantifiers = both m.places.quantifiers (quantifiers_of_block (block_of cs)) s.quantifiers
+          (block_stands (block_of cs) (within_block cs h.1));
     }
 
-    steps : (items : List ItemTree) (d : Draft) → Stands d.model → TreeWithin n items → Stands (with_items text d items).model
+    steps : (items : List ItemTree) (d : Draft) → Stands d.model → TreeWithin n items
+        → Stands (with_items text d items).model
     steps [] d s h = s
     steps (item ∷ items) d s h = steps items (with_item text d item) (step d.model item s h.0) h.1
 
 pub places_stand_in_text : PlacesStandInText
 places_stand_in_text text n items h =
-    steps n text items no_items (record { functions = tt; axioms = tt; conjectures = tt; init = omega arith; actions = tt; last = omega arith; conditions = tt; quantifiers = tt }) h
+    steps n text items no_items
+    (record {
+      functions = tt;
+      axioms = tt;
+      conjectures = tt;
+      init = omega arith;
+      actions = tt;
+      last = omega arith;
+      conditions = tt;
+      quantifiers = tt;
+    }) h

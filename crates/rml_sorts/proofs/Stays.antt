@@ -1,21 +1,31 @@
 -- The faults of names and sorts stand in the text.
-use Rattle.std.proofs.Common.{◌≡◌, ◌≤◌, ℕ, suc, Bool, true, false, if◌then◌else◌, List, [], ◌∷◌, ◌++◌, Option, Some, None, subst, arith}
+use Rattle.std.proofs.Common.{◌≡◌, ◌≤◌, ℕ, suc, Bool, true, false, if◌then◌else◌, List, [], ◌∷◌, ◌++◌, Option, Some}
+use Rattle.std.proofs.Common.{None, subst, arith}
 use Rattle.std.specs.List.{AllByRecursion}
 use Rattle.rml_lex.specs.declared.token.Fault.{Fault}
 use Rattle.rml_lex.specs.Tokens.{StandsBy}
 use Rattle.rml_syntax.specs.declared.tree.Name.{Name}
 use Rattle.rml_syntax.specs.declared.tree.Binder.{Binder}
 use Rattle.rml_syntax.specs.Tree as syntax
-use Rattle.rml_syntax.specs.Tree.{ExprTree, ExprTrees, True, False, Apply, Ite, Equal, Not, And, Or, Implies, Iff, Quantified, no_expr, and_expr, Block, Blocks, Skip, Abort, Assume, Assert, If, Choose, Insert, Remove, Put, Assign, no_command, and_command, no_block, and_block, ItemTree, Relation, Function, Variable, Axiom, Conjecture, Init, Action, Final, block_of}
-use Rattle.rml_syntax.specs.Within.{NameWithin, NamesWithin, BinderWithin, ExprWithin, ExprsWithin, ValueWithin, CommandWithin, BlockWithin, BlocksWithin, CommandsWithin, ItemWithin, TreeWithin}
+use Rattle.rml_syntax.specs.Tree.{ExprTree, ExprTrees, True, False, Apply, Ite, Equal, Not, And, Or, Implies, Iff}
+use Rattle.rml_syntax.specs.Tree.{Quantified, no_expr, and_expr, Block, Blocks, Skip, Abort, Assume, Assert, If, Choose}
+use Rattle.rml_syntax.specs.Tree.{Insert, Remove, Put, Assign, no_command, and_command, no_block, and_block, ItemTree}
+use Rattle.rml_syntax.specs.Tree.{Relation, Function, Variable, Axiom, Conjecture, Init, Action, Final, block_of}
+use Rattle.rml_syntax.specs.Within.{NameWithin, NamesWithin, BinderWithin, ExprWithin, ExprsWithin, ValueWithin}
+use Rattle.rml_syntax.specs.Within.{CommandWithin, BlockWithin, BlocksWithin, CommandsWithin, ItemWithin, TreeWithin}
 use Rattle.rml_command.specs.Models.{ModelTree}
-use Rattle.rml_sorts.specs.declared.meaning.Meaning.{Meaning}
-use Rattle.rml_sorts.specs.declared.meaning.Wanted.{Wanted}
-use Rattle.rml_sorts.specs.declared.meaning.Wanted.TheVariants.{Formula, Term}
+use Rattle.rml_names.specs.declared.meaning.Meaning.{Meaning}
+use Rattle.rml_sort_check.specs.declared.wanted.Wanted.{Wanted}
+use Rattle.rml_sort_check.specs.declared.wanted.Wanted.TheVariants.{Formula, Term}
 use Rattle.rml_sorts.specs.Laws.{FaultStandsInText}
-use Rattle.rml_sorts.specs.Meanings.{bytes_of, is_among, is_symbol, symbol_of, argument_sorts, BoundName, meaning_of, binding, with_parameters, term_sort, result_sort}
-use Rattle.rml_sorts.specs.Demands.{Demand, first_fault, expr_count, name_demands, compound, handed_on, binder_demands, demands, formula_demands, argument_demands, tuple_demands, put_demands, parameter_demands, side_of, side_demands, assign_demands, command_demands, block_demands, blocks_demands}
-use Rattle.rml_sorts.specs.Items.{Draft, no_items, declares, sort_known, sort_demands, declares_symbol, item_demands, with_item, items_demands}
+use Rattle.rml_names.specs.Meanings.{bytes_of, is_among, is_symbol, symbol_of, argument_sorts, BoundName, meaning_of}
+use Rattle.rml_names.specs.Meanings.{binding, with_parameters, term_sort, result_sort}
+use Rattle.rml_sort_check.specs.Demands.{Demand, first_fault, expr_count, name_demands, compound, second_sort}
+use Rattle.rml_sort_check.specs.Demands.{binder_demands, demands, formula_demands, argument_demands, tuple_demands}
+use Rattle.rml_sort_check.specs.Demands.{put_demands, parameter_demands, side_of, side_demands, assign_demands}
+use Rattle.rml_sort_check.specs.Demands.{command_demands, block_demands, blocks_demands}
+use Rattle.rml_sorts.specs.Items.{Draft, no_items, declares, sort_known, sort_demands, declares_symbol, item_demands}
+use Rattle.rml_sorts.specs.Items.{with_item, items_demands}
 
 module _ (n : ℕ) where
   -- the places of demands are in the text
@@ -42,68 +52,111 @@ module _ (n : ℕ) where
     binder_stands m b h = (start b.name h.0, (start b.sort h.1, tt))
 
     mutual
-      expr_stands : (m : ModelTree) (bs : List BoundName) (w : Wanted) (e : ExprTree) → ExprWithin n e → Stand (demands text m bs w e)
+      expr_stands : (m : ModelTree) (bs : List BoundName) (w : Wanted) (e : ExprTree) → ExprWithin n e
+          → Stand (demands text m bs w e)
       expr_stands m bs w (True at) h = compound_stands w at [] h tt
       expr_stands m bs w (False at) h = compound_stands w at [] h tt
       expr_stands m bs w (Apply name args) h =
           let x = meaning_of m bs (bytes_of text name) in
-          both (name_demands m w x name.start (expr_count args)) (argument_demands text m bs args (argument_sorts m x)) (name_stands m w x name.start (expr_count args) (start name h.0)) (arguments_stand m bs args (argument_sorts m x) h.1)
+          both (name_demands m w x name.start (expr_count args)) (argument_demands text m bs args (argument_sorts m x))
+          (name_stands m w x name.start (expr_count args) (start name h.0))
+          (arguments_stand m bs args (argument_sorts m x) h.1)
       expr_stands m bs Formula (Ite at c a b) h = (h.0, tt)
       expr_stands m bs (Term k) (Ite at c a b) h =
           let dc = demands text m bs Formula c in
           let da = demands text m bs (Term k) a in
-          let db = demands text m bs (Term (handed_on k (term_sort text m bs a))) b in
-          both dc (da ++ db) (expr_stands m bs Formula c h.1) (both da db (expr_stands m bs (Term k) a h.2) (expr_stands m bs (Term (handed_on k (term_sort text m bs a))) b h.3))
+          let db = demands text m bs (Term (second_sort k (term_sort text m bs a))) b in
+          both dc (da ++ db) (expr_stands m bs Formula c h.1)
+          (both da db (expr_stands m bs (Term k) a h.2)
+          (expr_stands m bs (Term (second_sort k (term_sort text m bs a))) b h.3))
       expr_stands m bs w (Equal at a b) h =
           let da = demands text m bs (Term None) a in
           let db = demands text m bs (Term (term_sort text m bs a)) b in
-          compound_stands w at (da ++ db) h.0 (both da db (expr_stands m bs (Term None) a h.1) (expr_stands m bs (Term (term_sort text m bs a)) b h.2))
-      expr_stands m bs w (Not at a) h = compound_stands w at (demands text m bs Formula a) h.0 (expr_stands m bs Formula a h.1)
-      expr_stands m bs w (And at args) h = compound_stands w at (formula_demands text m bs args) h.0 (formulas_stand m bs args h.1)
-      expr_stands m bs w (Or at args) h = compound_stands w at (formula_demands text m bs args) h.0 (formulas_stand m bs args h.1)
+          compound_stands w at (da ++ db) h.0
+          (both da db (expr_stands m bs (Term None) a h.1) (expr_stands m bs (Term (term_sort text m bs a)) b h.2))
+      expr_stands m bs w (Not at a) h =
+          compound_stands w at (demands text m bs Formula a) h.0 (expr_stands m bs Formula a h.1)
+      expr_stands m bs w (And at args) h =
+          compound_stands w at (formula_demands text m bs args) h.0 (formulas_stand m bs args h.1)
+      expr_stands m bs w (Or at args) h =
+          compound_stands w at (formula_demands text m bs args) h.0 (formulas_stand m bs args h.1)
       expr_stands m bs w (Implies at a b) h =
           let da = demands text m bs Formula a in
           let db = demands text m bs Formula b in
-          compound_stands w at (da ++ db) h.0 (both da db (expr_stands m bs Formula a h.1) (expr_stands m bs Formula b h.2))
+          compound_stands w at (da ++ db) h.0
+          (both da db (expr_stands m bs Formula a h.1) (expr_stands m bs Formula b h.2))
       expr_stands m bs w (Iff at a b) h =
           let da = demands text m bs Formula a in
           let db = demands text m bs Formula b in
-          compound_stands w at (da ++ db) h.0 (both da db (expr_stands m bs Formula a h.1) (expr_stands m bs Formula b h.2))
+          compound_stands w at (da ++ db) h.0
+          (both da db (expr_stands m bs Formula a h.1) (expr_stands m bs Formula b h.2))
       expr_stands m bs w (Quantified q at b a) h =
           let db = binder_demands text m b in
           let da = demands text m (binding text m b ∷ bs) Formula a in
-          compound_stands w at (db ++ da) h.0 (both db da (binder_stands m b h.1) (expr_stands m (binding text m b ∷ bs) Formula a h.2))
+          compound_stands w at (db ++ da) h.0
+          (both db da (binder_stands m b h.1) (expr_stands m (binding text m b ∷ bs) Formula a h.2))
 
-      formulas_stand : (m : ModelTree) (bs : List BoundName) (es : ExprTrees) → ExprsWithin n es → Stand (formula_demands text m bs es)
+      formulas_stand : (m : ModelTree) (bs : List BoundName) (es : ExprTrees) → ExprsWithin n es
+          → Stand (formula_demands text m bs es)
       formulas_stand m bs no_expr h = tt
-      formulas_stand m bs (and_expr e es) h = both (demands text m bs Formula e) (formula_demands text m bs es) (expr_stands m bs Formula e h.0) (formulas_stand m bs es h.1)
+      formulas_stand m bs (and_expr e es) h =
+          both (demands text m bs Formula e) (formula_demands text m bs es) (expr_stands m bs Formula e h.0)
+          (formulas_stand m bs es h.1)
 
-      arguments_stand : (m : ModelTree) (bs : List BoundName) (es : ExprTrees) (ks : List ℕ) → ExprsWithin n es → Stand (argument_demands text m bs es ks)
+      arguments_stand : (m : ModelTree) (bs : List BoundName) (es : ExprTrees) (ks : List ℕ) → ExprsWithin n es
+          → Stand (argument_demands text m bs es ks)
       arguments_stand m bs no_expr ks h = tt
       arguments_stand m bs (and_expr e es) [] h = tt
-      arguments_stand m bs (and_expr e es) (k ∷ ks) h = both (demands text m bs (Term (Some k)) e) (argument_demands text m bs es ks) (expr_stands m bs (Term (Some k)) e h.0) (arguments_stand m bs es ks h.1)
+      arguments_stand m bs (and_expr e es) (k ∷ ks) h =
+          both (demands text m bs (Term (Some k)) e) (argument_demands text m bs es ks)
+          (expr_stands m bs (Term (Some k)) e h.0) (arguments_stand m bs es ks h.1)
 
     -- ---- commands
 
-    tuple_stands : (m : ModelTree) (x : Meaning) (at : ℕ) (args : ExprTrees) → at ≤ n → ExprsWithin n args → Stand (tuple_demands text m x at args)
+    tuple_stands : (m : ModelTree) (x : Meaning) (at : ℕ) (args : ExprTrees) → at ≤ n → ExprsWithin n args
+        → Stand (tuple_demands text m x at args)
     tuple_stands m x at args h k = (h, (h, (h, arguments_stand m [] args (argument_sorts m x) k)))
 
-    put_stands : (m : ModelTree) (x : Meaning) (at : ℕ) (args : ExprTrees) (e : ExprTree) → at ≤ n → ExprsWithin n args → ExprWithin n e → Stand (put_demands text m x at args e)
-    put_stands m x at args e h k l =
-        (h, (h, (h, both (argument_demands text m [] args (argument_sorts m x)) (demands text m [] (Term (result_sort m x)) e) (arguments_stand m [] args (argument_sorts m x) k) (expr_stands m [] (Term (result_sort m x)) e l))))
+    put_stands : (m : ModelTree) (x : Meaning) (at : ℕ) (args : ExprTrees) (e : ExprTree) → at ≤ n → ExprsWithin n args
+        → ExprWithin n e → Stand (put_demands text m x at args e)
+    put_stands m x at args e h k l = (
+      h,
+      (
+        h,
+        (
+          h,
+          both (argument_demands text m [] args (argument_sorts m x))
+              (demands text m [] (Term (result_sort m x)) e) (arguments_stand m [] args (argument_sorts m x) k)
+              (expr_stands m [] (Term (result_sort m x)) e l),
+        ),
+      ),
+    )
 
-    parameters_stand : (m : ModelTree) (earlier : List (List ℕ)) (ps : List Name) → NamesWithin n ps → Stand (parameter_demands text m earlier ps)
+    parameters_stand : (m : ModelTree) (earlier : List (List ℕ)) (ps : List Name) → NamesWithin n ps
+        → Stand (parameter_demands text m earlier ps)
     parameters_stand m earlier [] h = tt
-    parameters_stand m earlier (p ∷ ps) h = (start p h.0, (start p h.0, parameters_stand m (bytes_of text p ∷ earlier) ps h.1))
+    parameters_stand m earlier (p ∷ ps) h =
+        (start p h.0, (start p h.0, parameters_stand m (bytes_of text p ∷ earlier) ps h.1))
 
-    side_stands : (m : ModelTree) (bs : List BoundName) (x : Meaning) (value : Option ExprTree) → ValueWithin n value → Stand (side_demands text m bs x value)
+    side_stands : (m : ModelTree) (bs : List BoundName) (x : Meaning) (value : Option ExprTree) → ValueWithin n value
+        → Stand (side_demands text m bs x value)
     side_stands m bs x None h = tt
     side_stands m bs x (Some e) h = expr_stands m bs (side_of text m x) e h
 
-    assign_stands : (m : ModelTree) (x : Meaning) (at : ℕ) (ps : List Name) (value : Option ExprTree) → at ≤ n → NamesWithin n ps → ValueWithin n value → Stand (assign_demands text m x at ps value)
+    assign_stands : (m : ModelTree) (x : Meaning) (at : ℕ) (ps : List Name) (value : Option ExprTree) → at ≤ n
+        → NamesWithin n ps → ValueWithin n value → Stand (assign_demands text m x at ps value)
     assign_stands m x at ps value h k l =
-        let bs = with_parameters text [] ps (argument_sorts m x) in
-        (h, (h, (h, both (parameter_demands text m [] ps) (side_demands text m bs x value) (parameters_stand m [] ps k) (side_stands m bs x value l))))
+        let bs = with_parameters text [] ps (argument_sorts m x) in (
+          h,
+          (
+            h,
+            (
+              h,
+              both (parameter_demands text m [] ps) (side_demands text m bs x value) (parameters_stand m [] ps k)
+                  (side_stands m bs x value l),
+            ),
+          ),
+        )
 
     mutual
       command_stands : (m : ModelTree) (c : syntax.CommandTree) → CommandWithin n c → Stand (command_demands text m c)
@@ -112,20 +165,28 @@ module _ (n : ℕ) where
       command_stands m (Assume at e) h = expr_stands m [] Formula e h.1
       command_stands m (Assert at e) h = expr_stands m [] Formula e h.1
       command_stands m (If at e a b) h =
-          both (demands text m [] Formula e) (block_demands text m a ++ block_demands text m b) (expr_stands m [] Formula e h.1) (both (block_demands text m a) (block_demands text m b) (block_stands m a h.2) (block_stands m b h.3))
+          both (demands text m [] Formula e) (block_demands text m a ++ block_demands text m b)
+          (expr_stands m [] Formula e h.1)
+          (both (block_demands text m a) (block_demands text m b) (block_stands m a h.2) (block_stands m b h.3))
       command_stands m (Choose at bs) h = blocks_stand m bs h.1
-      command_stands m (Insert at name args) h = tuple_stands m (symbol_of m (bytes_of text name)) name.start args (start name h.1) h.2
-      command_stands m (Remove at name args) h = tuple_stands m (symbol_of m (bytes_of text name)) name.start args (start name h.1) h.2
-      command_stands m (Put at name args e) h = put_stands m (symbol_of m (bytes_of text name)) name.start args e (start name h.1) h.2 h.3
-      command_stands m (Assign name ps value) h = assign_stands m (symbol_of m (bytes_of text name)) name.start ps value (start name h.0) h.1 h.2
+      command_stands m (Insert at name args) h =
+          tuple_stands m (symbol_of m (bytes_of text name)) name.start args (start name h.1) h.2
+      command_stands m (Remove at name args) h =
+          tuple_stands m (symbol_of m (bytes_of text name)) name.start args (start name h.1) h.2
+      command_stands m (Put at name args e) h =
+          put_stands m (symbol_of m (bytes_of text name)) name.start args e (start name h.1) h.2 h.3
+      command_stands m (Assign name ps value) h =
+          assign_stands m (symbol_of m (bytes_of text name)) name.start ps value (start name h.0) h.1 h.2
 
       block_stands : (m : ModelTree) (b : Block) → BlockWithin n b → Stand (block_demands text m b)
       block_stands m no_command h = tt
-      block_stands m (and_command c cs) h = both (command_demands text m c) (block_demands text m cs) (command_stands m c h.0) (block_stands m cs h.1)
+      block_stands m (and_command c cs) h =
+          both (command_demands text m c) (block_demands text m cs) (command_stands m c h.0) (block_stands m cs h.1)
 
       blocks_stand : (m : ModelTree) (bs : Blocks) → BlocksWithin n bs → Stand (blocks_demands text m bs)
       blocks_stand m no_block h = tt
-      blocks_stand m (and_block b bs) h = both (block_demands text m b) (blocks_demands text m bs) (block_stands m b h.0) (blocks_stand m bs h.1)
+      blocks_stand m (and_block b bs) h =
+          both (block_demands text m b) (blocks_demands text m bs) (block_stands m b h.0) (blocks_stand m bs h.1)
 
     block_within : (cs : List syntax.CommandTree) → CommandsWithin n cs → BlockWithin n (block_of cs)
     block_within [] h = tt
@@ -136,26 +197,38 @@ module _ (n : ℕ) where
     declared_stands : (m : ModelTree) (taken : Bool) (name : Name) → NameWithin n name → Stand (declares m taken name)
     declared_stands m taken name h = (start name h, (start name h, tt))
 
-    sorts_stand : (m : ModelTree) (i : ℕ) (sorts : List Name) → NamesWithin n sorts → Stand (sort_demands text m i sorts)
+    sorts_stand : (m : ModelTree) (i : ℕ) (sorts : List Name) → NamesWithin n sorts
+        → Stand (sort_demands text m i sorts)
     sorts_stand m i [] h = tt
     sorts_stand m i (sort ∷ sorts) h = (start sort h.0, (start sort h.0, sorts_stand m (suc i) sorts h.1))
 
     item_stands : (d : Draft) (item : ItemTree) → ItemWithin n item → Stand (item_demands text d item)
-    item_stands d (syntax.Sort name) h = declared_stands d.model (is_among d.model.names.sorts (bytes_of text name)) name h
-    item_stands d (Relation name sorts) h = both (declares_symbol text d.model name) (sort_demands text d.model 0 sorts) (declared_stands d.model (is_symbol d.model (bytes_of text name)) name h.0) (sorts_stand d.model 0 sorts h.1)
+    item_stands d (syntax.Sort name) h =
+        declared_stands d.model (is_among d.model.names.sorts (bytes_of text name)) name h
+    item_stands d (Relation name sorts) h =
+        both (declares_symbol text d.model name) (sort_demands text d.model 0 sorts)
+        (declared_stands d.model (is_symbol d.model (bytes_of text name)) name h.0) (sorts_stand d.model 0 sorts h.1)
     item_stands d (Function name sorts sort) h =
-        both (declares_symbol text d.model name) (sort_demands text d.model 0 sorts ++ (sort_known text d.model sort ∷ [])) (declared_stands d.model (is_symbol d.model (bytes_of text name)) name h.0)
-        (both (sort_demands text d.model 0 sorts) (sort_known text d.model sort ∷ []) (sorts_stand d.model 0 sorts h.1) (start sort h.2, tt))
-    item_stands d (Variable name sort) h = both (declares_symbol text d.model name) (sort_known text d.model sort ∷ []) (declared_stands d.model (is_symbol d.model (bytes_of text name)) name h.0) (start sort h.1, tt)
+        both (declares_symbol text d.model name)
+        (sort_demands text d.model 0 sorts ++ (sort_known text d.model sort ∷ []))
+        (declared_stands d.model (is_symbol d.model (bytes_of text name)) name h.0)
+        (both (sort_demands text d.model 0 sorts) (sort_known text d.model sort ∷ []) (sorts_stand d.model 0 sorts h.1)
+        (start sort h.2, tt))
+    item_stands d (Variable name sort) h =
+        both (declares_symbol text d.model name) (sort_known text d.model sort ∷ [])
+        (declared_stands d.model (is_symbol d.model (bytes_of text name)) name h.0) (start sort h.1, tt)
     item_stands d (Axiom name e) h = (start name h.0, (start name h.0, expr_stands d.model [] Formula e h.1))
     item_stands d (Conjecture name e) h = (start name h.0, (start name h.0, expr_stands d.model [] Formula e h.1))
     item_stands d (Init at cs) h = (h.0, block_stands d.model (block_of cs) (block_within cs h.1))
-    item_stands d (Action name cs) h = (start name h.0, (start name h.0, block_stands d.model (block_of cs) (block_within cs h.1)))
+    item_stands d (Action name cs) h =
+        (start name h.0, (start name h.0, block_stands d.model (block_of cs) (block_within cs h.1)))
     item_stands d (Final at cs) h = (h.0, block_stands d.model (block_of cs) (block_within cs h.1))
 
     items_stand : (d : Draft) (items : List ItemTree) → TreeWithin n items → Stand (items_demands text d items)
     items_stand d [] h = tt
-    items_stand d (item ∷ items) h = both (item_demands text d item) (items_demands text (with_item text d item) items) (item_stands d item h.0) (items_stand (with_item text d item) items h.1)
+    items_stand d (item ∷ items) h =
+        both (item_demands text d item) (items_demands text (with_item text d item) items) (item_stands d item h.0)
+        (items_stand (with_item text d item) items h.1)
 
   -- the first fault is that of one of the demands
   first_stands : (ds : List Demand) (f : Fault) → Stand ds → first_fault ds ≡ Some f → StandsBy n f
@@ -165,9 +238,11 @@ module _ (n : ℕ) where
       some_is : (g : Fault) → g.at ≤ n → Some g ≡ Some f → StandsBy n f
       some_is g le is = let same : g ≡ f = cc in subst (StandsBy n) same le
 
-      by : (b : Bool) → (first_fault ds ≡ Some f → StandsBy n f) → (if b then first_fault ds else Some d.fault) ≡ Some f → StandsBy n f
+      by : (b : Bool) → (first_fault ds ≡ Some f → StandsBy n f) → (if b then first_fault ds else Some d.fault) ≡ Some f
+          → StandsBy n f
       by true so k = so k
       by false so k = some_is d.fault h.0 k
 
 pub faults_stand : FaultStandsInText
-faults_stand text n items f within is = first_stands n (items_demands text no_items items) f (items_stand n text no_items items within) is
+faults_stand text n items f within is =
+    first_stands n (items_demands text no_items items) f (items_stand n text no_items items within) is

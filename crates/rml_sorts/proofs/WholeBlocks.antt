@@ -8,22 +8,29 @@ use Rattle.fol_formula.specs.Syntax.{TermTree, TermTrees, no_terms, term_then}
 use Rattle.fol_formula.specs.Fits.{FitsForm}
 use Rattle.fol_formula.specs.Fragments.{HasPlainTerms, AreQuantifierFree, IsQuantifierFreeTerm, AreQuantifierFreeTerms}
 use Rattle.rml_syntax.specs.declared.tree.Name.{Name}
-use Rattle.rml_syntax.specs.Tree.{ExprTree, ExprTrees, Block, Blocks, Skip, Abort, Assume, Assert, If, Choose, Insert, Remove, Put, Assign, no_command, and_command, no_block, and_block}
+use Rattle.rml_syntax.specs.Tree.{ExprTree, ExprTrees, Block, Blocks, Skip, Abort, Assume, Assert, If, Choose, Insert}
+use Rattle.rml_syntax.specs.Tree.{Remove, Put, Assign, no_command, and_command, no_block, and_block}
 use Rattle.rml_syntax.specs.Tree as syntax
 use Rattle.rml_syntax.specs.Shape.{CommandNests, BlockNests, BlocksNest}
 use Rattle.rml_command.specs.Lists.{SomeOf}
-use Rattle.rml_command.specs.Trees.{PrimitiveTree, assume, set_rel, set_fun, havoc, abort, CommandTrees, EachPrimitive, EachPrimitiveOf, HasBranches, HaveBranches}
+use Rattle.rml_command.specs.Trees.{PrimitiveTree, assume, set_rel, set_fun, havoc, abort, CommandTrees, EachPrimitive}
+use Rattle.rml_command.specs.Trees.{EachPrimitiveOf, HasBranches, HaveBranches}
 use Rattle.rml_command.specs.Models.{ModelTree, IsNamed, FitsPrimitive, IsWritten, HasPlainSides}
 use Rattle.rml_command.specs.declared.places.Condition.{Condition}
 use Rattle.rml_command.specs.declared.places.Word.TheVariants as word
-use Rattle.rml_sorts.specs.declared.meaning.Meaning.{Meaning}
-use Rattle.rml_sorts.specs.declared.meaning.Meaning.TheVariants as meaning
-use Rattle.rml_sorts.specs.declared.meaning.Wanted.TheVariants.{Formula}
-use Rattle.rml_sorts.specs.Meanings.{bytes_of, symbol_of, argument_sorts, with_parameters}
-use Rattle.rml_sorts.specs.Demands.{first_fault, demands, command_demands, block_demands, blocks_demands}
-use Rattle.rml_sorts.specs.Formulas.{formula_of, term_of, terms_of, quantifiers_in, quantifiers_in_each}
-use Rattle.rml_sorts.specs.Commands.{term_count, parameters, equations, insertion, removal, placement, assignment, command_of, commands_of, branches_of, conditions_of, conditions_of_block, conditions_of_blocks, quantifiers_of_side, quantifiers_of, quantifiers_of_block, quantifiers_of_blocks}
-use Rattle.rml_sorts.proofs.Firsts.{met_left, met_right}
+use Rattle.rml_names.specs.declared.meaning.Meaning.{Meaning}
+use Rattle.rml_names.specs.declared.meaning.Meaning.TheVariants as meaning
+use Rattle.rml_sort_check.specs.declared.wanted.Wanted.TheVariants.{Formula}
+use Rattle.rml_names.specs.Meanings.{bytes_of, symbol_of, argument_sorts, with_parameters}
+use Rattle.rml_sort_check.specs.Demands.{first_fault, demands, command_demands, block_demands, blocks_demands}
+use Rattle.rml_elaborate.specs.Formulas.{formula_of, term_of, terms_of}
+use Rattle.rml_elaborate.specs.Quantifiers.{quantifiers_in, quantifiers_in_each}
+use Rattle.rml_elaborate.specs.Updates.{term_count, parameters, equations, insertion, removal, placement, assignment}
+use Rattle.rml_sorts.specs.Commands.{command_of, commands_of, branches_of, conditions_of, conditions_of_block}
+use Rattle.rml_sorts.specs.Commands.{conditions_of_blocks}
+use Rattle.rml_elaborate.specs.Quantifiers.{quantifiers_of_side, quantifiers_of, quantifiers_of_block}
+use Rattle.rml_elaborate.specs.Quantifiers.{quantifiers_of_blocks}
+use Rattle.rml_sort_check.specs.Firsts.{met_left, met_right}
 use Rattle.rml_sorts.proofs.Extending.{each_more, each_of_more}
 use Rattle.rml_sorts.proofs.Fitting.{IsThere, symbol_is_there, formula_fits}
 use Rattle.rml_sorts.proofs.Sides.{insert_fits, remove_fits, put_fits, assign_fits}
@@ -36,7 +43,8 @@ module _ (text : List ℕ) (m : ModelTree) (named : IsNamed m) (sorted : AreSort
   there name = symbol_is_there m named [] (bytes_of text name)
 
   mutual
-    command_fits : (c : syntax.CommandTree) → first_fault (command_demands text m c) ≡ None → EachPrimitive (FitsPrimitive (symbols m.signature)) (command_of text m c)
+    command_fits : (c : syntax.CommandTree) → first_fault (command_demands text m c) ≡ None
+        → EachPrimitive (FitsPrimitive (symbols m.signature)) (command_of text m c)
     command_fits (Skip at) d = tt
     command_fits (Abort at) d = tt
     command_fits (Assume at e) d = formula_fits text m named sorted [] e d
@@ -44,21 +52,34 @@ module _ (text : List ℕ) (m : ModelTree) (named : IsNamed m) (sorted : AreSort
     command_fits (If at e a b) d =
         let de = demands text m [] Formula e in
         let ab = met_right de (block_demands text m a ++ block_demands text m b) d in
-        let p = formula_fits text m named sorted [] e (met_left de _ d) in
-        ((p, block_fits a (met_left (block_demands text m a) _ ab)), ((p, block_fits b (met_right (block_demands text m a) _ ab)), tt))
+        let p = formula_fits text m named sorted [] e (met_left de _ d) in (
+          (p, block_fits a (met_left (block_demands text m a) _ ab)),
+          ((p, block_fits b (met_right (block_demands text m a) _ ab)), tt),
+        )
     command_fits (Choose at bs) d = branches_fit bs d
-    command_fits (Insert at name args) d = insert_fits text m named sorted (symbol_of m (bytes_of text name)) name.start args (there name) d
-    command_fits (Remove at name args) d = remove_fits text m named sorted (symbol_of m (bytes_of text name)) name.start args (there name) d
-    command_fits (Put at name args e) d = put_fits text m named sorted (symbol_of m (bytes_of text name)) name.start args e (there name) d
-    command_fits (Assign name ps value) d = assign_fits text m named sorted (symbol_of m (bytes_of text name)) name.start ps value (there name) d
+    command_fits (Insert at name args) d =
+        insert_fits text m named sorted (symbol_of m (bytes_of text name)) name.start args (there name) d
+    command_fits (Remove at name args) d =
+        remove_fits text m named sorted (symbol_of m (bytes_of text name)) name.start args (there name) d
+    command_fits (Put at name args e) d =
+        put_fits text m named sorted (symbol_of m (bytes_of text name)) name.start args e (there name) d
+    command_fits (Assign name ps value) d =
+        assign_fits text m named sorted (symbol_of m (bytes_of text name)) name.start ps value (there name) d
 
-    pub block_fits : (b : Block) → first_fault (block_demands text m b) ≡ None → EachPrimitiveOf (FitsPrimitive (symbols m.signature)) (commands_of text m b)
+    pub block_fits : (b : Block) → first_fault (block_demands text m b) ≡ None
+        → EachPrimitiveOf (FitsPrimitive (symbols m.signature)) (commands_of text m b)
     block_fits no_command d = tt
-    block_fits (and_command c cs) d = (command_fits c (met_left (command_demands text m c) _ d), block_fits cs (met_right (command_demands text m c) _ d))
+    block_fits (and_command c cs) d = (
+      command_fits c (met_left (command_demands text m c) _ d),
+      block_fits cs
+          (met_right (command_demands text m c) _ d),
+    )
 
-    branches_fit : (bs : Blocks) → first_fault (blocks_demands text m bs) ≡ None → EachPrimitiveOf (FitsPrimitive (symbols m.signature)) (branches_of text m bs)
+    branches_fit : (bs : Blocks) → first_fault (blocks_demands text m bs) ≡ None
+        → EachPrimitiveOf (FitsPrimitive (symbols m.signature)) (branches_of text m bs)
     branches_fit no_block d = tt
-    branches_fit (and_block b bs) d = (block_fits b (met_left (block_demands text m b) _ d), branches_fit bs (met_right (block_demands text m b) _ d))
+    branches_fit (and_block b bs) d =
+        (block_fits b (met_left (block_demands text m b) _ d), branches_fit bs (met_right (block_demands text m b) _ d))
 
   -- ---- so do the conditions
 
@@ -66,7 +87,8 @@ module _ (text : List ℕ) (m : ModelTree) (named : IsNamed m) (sorted : AreSort
   SentenceFits c = FitsForm (symbols m.signature) [] c.sentence
 
   mutual
-    conditions_fit : (c : syntax.CommandTree) → first_fault (command_demands text m c) ≡ None → AllByRecursion SentenceFits (conditions_of text m c)
+    conditions_fit : (c : syntax.CommandTree) → first_fault (command_demands text m c) ≡ None
+        → AllByRecursion SentenceFits (conditions_of text m c)
     conditions_fit (Skip at) d = tt
     conditions_fit (Abort at) d = tt
     conditions_fit (Assume at e) d = (formula_fits text m named sorted [] e d, tt)
@@ -76,7 +98,8 @@ module _ (text : List ℕ) (m : ModelTree) (named : IsNamed m) (sorted : AreSort
         let ab = met_right de (block_demands text m a ++ block_demands text m b) d in (
           formula_fits text m named sorted [] e (met_left de _ d),
           all_append SentenceFits (conditions_of_block text m a) (conditions_of_block text m b)
-              (block_conditions_fit a (met_left (block_demands text m a) _ ab)) (block_conditions_fit b (met_right (block_demands text m a) _ ab)),
+              (block_conditions_fit a (met_left (block_demands text m a) _ ab))
+              (block_conditions_fit b (met_right (block_demands text m a) _ ab)),
         )
     conditions_fit (Choose at bs) d = blocks_conditions_fit bs d
     conditions_fit (Insert at name args) d = tt
@@ -84,15 +107,21 @@ module _ (text : List ℕ) (m : ModelTree) (named : IsNamed m) (sorted : AreSort
     conditions_fit (Put at name args e) d = tt
     conditions_fit (Assign name ps value) d = tt
 
-    pub block_conditions_fit : (b : Block) → first_fault (block_demands text m b) ≡ None → AllByRecursion SentenceFits (conditions_of_block text m b)
+    pub block_conditions_fit : (b : Block) → first_fault (block_demands text m b) ≡ None
+        → AllByRecursion SentenceFits (conditions_of_block text m b)
     block_conditions_fit no_command d = tt
-    block_conditions_fit (and_command c cs) d = all_append SentenceFits (conditions_of text m c) (conditions_of_block text m cs)
-        (conditions_fit c (met_left (command_demands text m c) _ d)) (block_conditions_fit cs (met_right (command_demands text m c) _ d))
+    block_conditions_fit (and_command c cs) d =
+        all_append SentenceFits (conditions_of text m c) (conditions_of_block text m cs)
+        (conditions_fit c (met_left (command_demands text m c) _ d))
+        (block_conditions_fit cs (met_right (command_demands text m c) _ d))
 
-    blocks_conditions_fit : (bs : Blocks) → first_fault (blocks_demands text m bs) ≡ None → AllByRecursion SentenceFits (conditions_of_blocks text m bs)
+    blocks_conditions_fit : (bs : Blocks) → first_fault (blocks_demands text m bs) ≡ None
+        → AllByRecursion SentenceFits (conditions_of_blocks text m bs)
     blocks_conditions_fit no_block d = tt
-    blocks_conditions_fit (and_block b bs) d = all_append SentenceFits (conditions_of_block text m b) (conditions_of_blocks text m bs)
-        (block_conditions_fit b (met_left (block_demands text m b) _ d)) (blocks_conditions_fit bs (met_right (block_demands text m b) _ d))
+    blocks_conditions_fit (and_block b bs) d =
+        all_append SentenceFits (conditions_of_block text m b) (conditions_of_blocks text m bs)
+        (block_conditions_fit b (met_left (block_demands text m b) _ d))
+        (blocks_conditions_fit bs (met_right (block_demands text m b) _ d))
 
 -- ---- each choice has a branch
 
@@ -155,14 +184,16 @@ removal_written cs (meaning.Relation r) ts = tt
 removal_written cs (meaning.Function f) ts = tt
 removal_written cs meaning.Unknown ts = tt
 
-placement_written : (cs : List Condition) (x : Meaning) (ts : TermTrees) (u : TermTree) → IsWritten cs (placement x ts u)
+placement_written : (cs : List Condition) (x : Meaning) (ts : TermTrees) (u : TermTree)
+    → IsWritten cs (placement x ts u)
 placement_written cs (meaning.Bound i k) ts u = tt
 placement_written cs (meaning.Relation r) ts u = tt
 placement_written cs (meaning.Function f) ts u = tt
 placement_written cs meaning.Unknown ts u = tt
 
 module _ (text : List ℕ) (m : ModelTree) where
-  assignment_written : (cs : List Condition) (x : Meaning) (ps : List Name) (value : Option ExprTree) → IsWritten cs (assignment text m x ps value)
+  assignment_written : (cs : List Condition) (x : Meaning) (ps : List Name) (value : Option ExprTree)
+      → IsWritten cs (assignment text m x ps value)
   assignment_written cs (meaning.Bound i k) ps value = tt
   assignment_written cs (meaning.Relation r) ps None = tt
   assignment_written cs (meaning.Relation r) ps (Some e) = tt
@@ -170,14 +201,17 @@ module _ (text : List ℕ) (m : ModelTree) where
   assignment_written cs (meaning.Function f) ps (Some e) = tt
   assignment_written cs meaning.Unknown ps value = tt
 
-  each_left : (xs ys : List Condition) (cs : CommandTrees) → EachPrimitiveOf (IsWritten xs) cs → EachPrimitiveOf (IsWritten (xs ++ ys)) cs
+  each_left : (xs ys : List Condition) (cs : CommandTrees) → EachPrimitiveOf (IsWritten xs) cs
+      → EachPrimitiveOf (IsWritten (xs ++ ys)) cs
   each_left xs ys cs h = each_of_more (IsWritten xs) (IsWritten (xs ++ ys)) (written_left xs ys) cs h
 
-  each_right : (xs ys : List Condition) (cs : CommandTrees) → EachPrimitiveOf (IsWritten ys) cs → EachPrimitiveOf (IsWritten (xs ++ ys)) cs
+  each_right : (xs ys : List Condition) (cs : CommandTrees) → EachPrimitiveOf (IsWritten ys) cs
+      → EachPrimitiveOf (IsWritten (xs ++ ys)) cs
   each_right xs ys cs h = each_of_more (IsWritten ys) (IsWritten (xs ++ ys)) (written_right xs ys) cs h
 
   mutual
-    command_written : (c : syntax.CommandTree) → EachPrimitive (IsWritten (conditions_of text m c)) (command_of text m c)
+    command_written : (c : syntax.CommandTree)
+        → EachPrimitive (IsWritten (conditions_of text m c)) (command_of text m c)
     command_written (Skip at) = tt
     command_written (Abort at) = tt
     command_written (Assume at e) = inl refl
@@ -185,27 +219,47 @@ module _ (text : List ℕ) (m : ModelTree) where
     command_written (If at e a b) =
         let x = conditions_of_block text m a in
         let y = conditions_of_block text m b in (
-          (inl (inl refl), each_right (record { word = word.If; at = at; sentence = formula_of text m [] e } ∷ []) (x ++ y) (commands_of text m a) (each_left x y (commands_of text m a) (block_written a))),
-          ((inl (inr refl), each_right (record { word = word.If; at = at; sentence = formula_of text m [] e } ∷ []) (x ++ y) (commands_of text m b) (each_right x y (commands_of text m b) (block_written b))), tt),
+          (
+            inl (inl refl),
+            each_right (record { word = word.If; at = at; sentence = formula_of text m [] e } ∷ [])
+                (x ++ y) (commands_of text m a) (each_left x y (commands_of text m a) (block_written a)),
+          ),
+          (
+            (
+              inl (inr refl),
+              each_right (record { word = word.If; at = at; sentence = formula_of text m [] e } ∷ [])
+                  (x ++ y) (commands_of text m b) (each_right x y (commands_of text m b) (block_written b)),
+            ),
+            tt,
+          ),
         )
     command_written (Choose at bs) = branches_written bs
-    command_written (Insert at name args) = insertion_written [] (symbol_of m (bytes_of text name)) (terms_of text m [] args)
-    command_written (Remove at name args) = removal_written [] (symbol_of m (bytes_of text name)) (terms_of text m [] args)
-    command_written (Put at name args e) = placement_written [] (symbol_of m (bytes_of text name)) (terms_of text m [] args) (term_of text m [] e)
+    command_written (Insert at name args) =
+        insertion_written [] (symbol_of m (bytes_of text name)) (terms_of text m [] args)
+    command_written (Remove at name args) =
+        removal_written [] (symbol_of m (bytes_of text name)) (terms_of text m [] args)
+    command_written (Put at name args e) =
+        placement_written [] (symbol_of m (bytes_of text name)) (terms_of text m [] args) (term_of text m [] e)
     command_written (Assign name ps value) = assignment_written [] (symbol_of m (bytes_of text name)) ps value
 
     pub block_written : (b : Block) → EachPrimitiveOf (IsWritten (conditions_of_block text m b)) (commands_of text m b)
     block_written no_command = tt
     block_written (and_command c cs) = (
-      each_more (IsWritten (conditions_of text m c)) (IsWritten (conditions_of text m c ++ conditions_of_block text m cs)) (written_left (conditions_of text m c) (conditions_of_block text m cs)) (command_of text m c) (command_written c),
+      each_more (IsWritten (conditions_of text m c))
+          (IsWritten (conditions_of text m c ++ conditions_of_block text m cs))
+          (written_left (conditions_of text m c) (conditions_of_block text m cs)) (command_of text m c)
+          (command_written c),
       each_right (conditions_of text m c) (conditions_of_block text m cs) (commands_of text m cs) (block_written cs),
     )
 
-    branches_written : (bs : Blocks) → EachPrimitiveOf (IsWritten (conditions_of_blocks text m bs)) (branches_of text m bs)
+    branches_written : (bs : Blocks)
+        → EachPrimitiveOf (IsWritten (conditions_of_blocks text m bs)) (branches_of text m bs)
     branches_written no_block = tt
     branches_written (and_block b bs) = (
-      each_left (conditions_of_block text m b) (conditions_of_blocks text m bs) (commands_of text m b) (block_written b),
-      each_right (conditions_of_block text m b) (conditions_of_blocks text m bs) (branches_of text m bs) (branches_written bs),
+      each_left (conditions_of_block text m b) (conditions_of_blocks text m bs) (commands_of text m b)
+          (block_written b),
+      each_right (conditions_of_block text m b) (conditions_of_blocks text m bs) (branches_of text m bs)
+          (branches_written bs),
     )
 
 -- ---- sides are plain
@@ -230,19 +284,23 @@ removal_plain (meaning.Relation r) ts h = (parameters_free (term_count ts), (equ
 removal_plain (meaning.Function f) ts h = tt
 removal_plain meaning.Unknown ts h = tt
 
-placement_plain : (x : Meaning) (ts : TermTrees) (u : TermTree) → AreQuantifierFreeTerms ts → IsQuantifierFreeTerm u → HasPlainSides (placement x ts u)
+placement_plain : (x : Meaning) (ts : TermTrees) (u : TermTree) → AreQuantifierFreeTerms ts → IsQuantifierFreeTerm u
+    → HasPlainSides (placement x ts u)
 placement_plain (meaning.Bound i k) ts u h g = tt
 placement_plain (meaning.Relation r) ts u h g = tt
 placement_plain (meaning.Function f) ts u h g = (equations_free ts h, g, parameters_free (term_count ts))
 placement_plain meaning.Unknown ts u h g = tt
 
 module _ (text : List ℕ) (m : ModelTree) where
-  assignment_plain : (x : Meaning) (ps : List Name) (value : Option ExprTree) → quantifiers_of_side value ≡ [] → HasPlainSides (assignment text m x ps value)
+  assignment_plain : (x : Meaning) (ps : List Name) (value : Option ExprTree) → quantifiers_of_side value ≡ []
+      → HasPlainSides (assignment text m x ps value)
   assignment_plain (meaning.Bound i k) ps value h = tt
   assignment_plain (meaning.Relation r) ps None h = tt
-  assignment_plain (meaning.Relation r) ps (Some e) h = formula_free text m (with_parameters text [] ps (argument_sorts m (meaning.Relation r))) e h
+  assignment_plain (meaning.Relation r) ps (Some e) h =
+      formula_free text m (with_parameters text [] ps (argument_sorts m (meaning.Relation r))) e h
   assignment_plain (meaning.Function f) ps None h = tt
-  assignment_plain (meaning.Function f) ps (Some e) h = term_free text m (with_parameters text [] ps (argument_sorts m (meaning.Function f))) true e h
+  assignment_plain (meaning.Function f) ps (Some e) h =
+      term_free text m (with_parameters text [] ps (argument_sorts m (meaning.Function f))) true e h
   assignment_plain meaning.Unknown ps value h = tt
 
   mutual
@@ -253,28 +311,41 @@ module _ (text : List ℕ) (m : ModelTree) where
     command_plain (Assert at e) h = ((formula_plain text m [] e h, (tt, tt)), (tt, tt))
     command_plain (If at e a b) h =
         let ab = nil_right (quantifiers_in false e) (quantifiers_of_block a ++ quantifiers_of_block b) h in
-        let p = formula_plain text m [] e (nil_left (quantifiers_in false e) _ h) in
-        ((p, block_plain a (nil_left (quantifiers_of_block a) _ ab)), ((p, block_plain b (nil_right (quantifiers_of_block a) _ ab)), tt))
+        let p = formula_plain text m [] e (nil_left (quantifiers_in false e) _ h) in (
+          (p, block_plain a (nil_left (quantifiers_of_block a) _ ab)),
+          ((p, block_plain b (nil_right (quantifiers_of_block a) _ ab)), tt),
+        )
     command_plain (Choose at bs) h = branches_plain bs h
-    command_plain (Insert at name args) h = insertion_plain (symbol_of m (bytes_of text name)) (terms_of text m [] args) (terms_free text m [] true args h)
-    command_plain (Remove at name args) h = removal_plain (symbol_of m (bytes_of text name)) (terms_of text m [] args) (terms_free text m [] true args h)
-    command_plain (Put at name args e) h = placement_plain (symbol_of m (bytes_of text name)) (terms_of text m [] args) (term_of text m [] e)
-        (terms_free text m [] true args (nil_left (quantifiers_in_each true args) _ h)) (term_free text m [] true e (nil_right (quantifiers_in_each true args) _ h))
+    command_plain (Insert at name args) h =
+        insertion_plain (symbol_of m (bytes_of text name)) (terms_of text m [] args) (terms_free text m [] true args h)
+    command_plain (Remove at name args) h =
+        removal_plain (symbol_of m (bytes_of text name)) (terms_of text m [] args) (terms_free text m [] true args h)
+    command_plain (Put at name args e) h =
+        placement_plain (symbol_of m (bytes_of text name)) (terms_of text m [] args) (term_of text m [] e)
+        (terms_free text m [] true args (nil_left (quantifiers_in_each true args) _ h))
+        (term_free text m [] true e (nil_right (quantifiers_in_each true args) _ h))
     command_plain (Assign name ps value) h = assignment_plain (symbol_of m (bytes_of text name)) ps value h
 
     pub block_plain : (b : Block) → quantifiers_of_block b ≡ [] → EachPrimitiveOf HasPlainSides (commands_of text m b)
     block_plain no_command h = tt
-    block_plain (and_command c cs) h = (command_plain c (nil_left (quantifiers_of c) _ h), block_plain cs (nil_right (quantifiers_of c) _ h))
+    block_plain (and_command c cs) h =
+        (command_plain c (nil_left (quantifiers_of c) _ h), block_plain cs (nil_right (quantifiers_of c) _ h))
 
-    branches_plain : (bs : Blocks) → quantifiers_of_blocks bs ≡ [] → EachPrimitiveOf HasPlainSides (branches_of text m bs)
+    branches_plain : (bs : Blocks) → quantifiers_of_blocks bs ≡ []
+        → EachPrimitiveOf HasPlainSides (branches_of text m bs)
     branches_plain no_block h = tt
-    branches_plain (and_block b bs) h = (block_plain b (nil_left (quantifiers_of_block b) _ h), branches_plain bs (nil_right (quantifiers_of_block b) _ h))
+    branches_plain (and_block b bs) h = (
+      block_plain b (nil_left (quantifiers_of_block b) _ h),
+      branches_plain bs
+          (nil_right (quantifiers_of_block b) _ h),
+    )
 
   abbrev SentencePlain : Condition → Type 0
   SentencePlain c = HasPlainTerms c.sentence
 
   mutual
-    conditions_plain : (c : syntax.CommandTree) → quantifiers_of c ≡ [] → AllByRecursion SentencePlain (conditions_of text m c)
+    conditions_plain : (c : syntax.CommandTree) → quantifiers_of c ≡ []
+        → AllByRecursion SentencePlain (conditions_of text m c)
     conditions_plain (Skip at) h = tt
     conditions_plain (Abort at) h = tt
     conditions_plain (Assume at e) h = (formula_plain text m [] e h, tt)
@@ -283,7 +354,8 @@ module _ (text : List ℕ) (m : ModelTree) where
         let ab = nil_right (quantifiers_in false e) (quantifiers_of_block a ++ quantifiers_of_block b) h in (
           formula_plain text m [] e (nil_left (quantifiers_in false e) _ h),
           all_append SentencePlain (conditions_of_block text m a) (conditions_of_block text m b)
-              (block_conditions_plain a (nil_left (quantifiers_of_block a) _ ab)) (block_conditions_plain b (nil_right (quantifiers_of_block a) _ ab)),
+              (block_conditions_plain a (nil_left (quantifiers_of_block a) _ ab))
+              (block_conditions_plain b (nil_right (quantifiers_of_block a) _ ab)),
         )
     conditions_plain (Choose at bs) h = blocks_conditions_plain bs h
     conditions_plain (Insert at name args) h = tt
@@ -291,12 +363,18 @@ module _ (text : List ℕ) (m : ModelTree) where
     conditions_plain (Put at name args e) h = tt
     conditions_plain (Assign name ps value) h = tt
 
-    pub block_conditions_plain : (b : Block) → quantifiers_of_block b ≡ [] → AllByRecursion SentencePlain (conditions_of_block text m b)
+    pub block_conditions_plain : (b : Block) → quantifiers_of_block b ≡ []
+        → AllByRecursion SentencePlain (conditions_of_block text m b)
     block_conditions_plain no_command h = tt
-    block_conditions_plain (and_command c cs) h = all_append SentencePlain (conditions_of text m c) (conditions_of_block text m cs)
-        (conditions_plain c (nil_left (quantifiers_of c) _ h)) (block_conditions_plain cs (nil_right (quantifiers_of c) _ h))
+    block_conditions_plain (and_command c cs) h =
+        all_append SentencePlain (conditions_of text m c) (conditions_of_block text m cs)
+        (conditions_plain c (nil_left (quantifiers_of c) _ h))
+        (block_conditions_plain cs (nil_right (quantifiers_of c) _ h))
 
-    blocks_conditions_plain : (bs : Blocks) → quantifiers_of_blocks bs ≡ [] → AllByRecursion SentencePlain (conditions_of_blocks text m bs)
+    blocks_conditions_plain : (bs : Blocks) → quantifiers_of_blocks bs ≡ []
+        → AllByRecursion SentencePlain (conditions_of_blocks text m bs)
     blocks_conditions_plain no_block h = tt
-    blocks_conditions_plain (and_block b bs) h = all_append SentencePlain (conditions_of_block text m b) (conditions_of_blocks text m bs)
-        (block_conditions_plain b (nil_left (quantifiers_of_block b) _ h)) (blocks_conditions_plain bs (nil_right (quantifiers_of_block b) _ h))
+    blocks_conditions_plain (and_block b bs) h =
+        all_append SentencePlain (conditions_of_block text m b) (conditions_of_blocks text m bs)
+        (block_conditions_plain b (nil_left (quantifiers_of_block b) _ h))
+        (blocks_conditions_plain bs (nil_right (quantifiers_of_block b) _ h))

@@ -3,7 +3,7 @@ use Rattle.std.specs.Prelude.{◌≡◌, List, Some, None, Result, Ok, Err}
 use Rattle.base.specs.declared.refused.Refused.{Refused}
 use Rattle.base.specs.Because.{Because}
 use Rattle.rml_lex.specs.declared.token.Fault.{Fault}
-use Rattle.rml_sorts.specs.Demands.{Demand, first_fault}
+use Rattle.rml_sort_check.specs.Demands.{Demand, first_fault}
 
 -- The value is what the part stands for, and all demands are met; or the refusal is the first fault, or want of memory.
 abbrev pub Answers : {X V : Type 0} → (X → V) → Result X (Refused Fault) → List Demand → V → Type 0

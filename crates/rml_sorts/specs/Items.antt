@@ -2,17 +2,22 @@
 -- item on.
 use Rattle.std.specs.Prelude.{ℕ, suc, ◌+◌, nat_lt, Bool, true, false, not, is_some, List, [], ◌∷◌, ◌++◌, map, Option}
 use Rattle.rml_lex.specs.declared.token.Fault.{Fault}
+use Rattle.rml_lex.specs.declared.fault_code.FaultCode.TheVariants as fault_code
 use Rattle.rml_syntax.specs.declared.tree.Name.{Name}
 use Rattle.rml_syntax.specs.Tree as syntax
-use Rattle.rml_syntax.specs.Tree.{ItemTree, Relation, Function, Variable, Axiom, Conjecture, Init, Action, Final, block_of}
+use Rattle.rml_syntax.specs.Tree.{ItemTree, Relation, Function, Variable, Axiom, Conjecture, Init, Action, Final}
+use Rattle.rml_syntax.specs.Tree.{block_of}
 use Rattle.rml_command.specs.Trees.{CommandTree, seq, no_commands}
 use Rattle.rml_command.specs.Models.{ModelTree}
 use Rattle.rml_command.specs.declared.places.Places.{Places}
-use Rattle.rml_sorts.specs.declared.meaning.Wanted.TheVariants.{Formula}
-use Rattle.rml_sorts.specs.Meanings.{bytes_of, is_among, name_count, is_symbol, sort_by_name, sort_number}
-use Rattle.rml_sorts.specs.Demands.{Demand, asks, first_fault, demands, block_demands}
-use Rattle.rml_sorts.specs.Formulas.{formula_of, quantifiers_in}
-use Rattle.rml_sorts.specs.Commands.{commands_of, conditions_of_block, quantifiers_of_block}
+use Rattle.rml_sort_check.specs.declared.wanted.Wanted.TheVariants.{Formula}
+use Rattle.rml_names.specs.Growth.{empty_model, with_function}
+use Rattle.rml_names.specs.Meanings.{bytes_of, is_among, name_count, is_symbol, sort_by_name, sort_number}
+use Rattle.rml_sort_check.specs.Demands.{Demand, asks, first_fault, demands, block_demands}
+use Rattle.rml_elaborate.specs.Formulas.{formula_of}
+use Rattle.rml_elaborate.specs.Quantifiers.{quantifiers_in}
+use Rattle.rml_sorts.specs.Commands.{commands_of, conditions_of_block}
+use Rattle.rml_elaborate.specs.Quantifiers.{quantifiers_of_block}
 
 -- the model of some items, and which of the blocks that may stand once they have
 pub record Draft : Type 0 where
@@ -22,38 +27,31 @@ pub record Draft : Type 0 where
 
 abbrev pub no_items : Draft
 no_items = record {
-  model = record {
-    signature = record { sorts = 0; relations = []; functions = [] };
-    names = record { sorts = []; relations = []; functions = []; axioms = []; conjectures = []; actions = [] };
-    axioms = [];
-    conjectures = [];
-    init = seq no_commands;
-    actions = [];
-    last = seq no_commands;
-    places = record { functions = []; axioms = []; conjectures = []; init = 0; actions = []; last = 0; conditions = []; quantifiers = [] };
-  };
+  model = empty_model;
   has_init = false;
   has_last = false;
 }
 
--- a declared name: F6 where its kind has it already, F14 where there are 1,000 names
+-- a declared name: its kind does not have it already, and there are fewer than 1,000 names
 abbrev pub declares : ModelTree → Bool → Name → List Demand
-declares m taken name = asks name.start 6 (not taken) ∷ asks name.start 14 (nat_lt (name_count m.names) 1000) ∷ []
+declares m taken name = asks name.start fault_code.DeclaredTwice (not taken)
+    ∷ asks name.start fault_code.TooManyNames (nat_lt (name_count m.names) 1000) ∷ []
 
--- `init` or `final`: F6 where it stands a second time
+-- `init` or `final`: it does not stand a second time
 abbrev pub stands_once : ℕ → Bool → List Demand
-stands_once at taken = asks at 6 (not taken) ∷ []
+stands_once at taken = asks at fault_code.DeclaredTwice (not taken) ∷ []
 
 module _ (text : List ℕ) where
   -- ---- demands
 
   abbrev pub sort_known : ModelTree → Name → Demand
-  sort_known m sort = asks sort.start 7 (is_some (sort_by_name text m sort))
+  sort_known m sort = asks sort.start fault_code.UnknownName (is_some (sort_by_name text m sort))
 
-  -- argument sorts, the first of them as the i-th: F7 unknown, F8 the ninth
+  -- argument sorts, the first of them as the i-th: known, and at most 8
   abbrev pub sort_demands : ModelTree → ℕ → List Name → List Demand
   sort_demands m i [] = []
-  sort_demands m i (sort ∷ sorts) = sort_known m sort ∷ asks sort.start 8 (nat_lt i 8) ∷ sort_demands m (suc i) sorts
+  sort_demands m i (sort ∷ sorts) = sort_known m sort ∷ asks sort.start fault_code.WrongArgumentCount (nat_lt i 8)
+      ∷ sort_demands m (suc i) sorts
 
   abbrev pub declares_symbol : ModelTree → Name → List Demand
   declares_symbol m name = declares m (is_symbol m (bytes_of text name)) name
@@ -65,23 +63,19 @@ module _ (text : List ℕ) where
   abbrev pub item_demands : Draft → ItemTree → List Demand
   item_demands d (syntax.Sort name) = declares d.model (is_among d.model.names.sorts (bytes_of text name)) name
   item_demands d (Relation name sorts) = declares_symbol d.model name ++ sort_demands d.model 0 sorts
-  item_demands d (Function name sorts sort) = declares_symbol d.model name ++ (sort_demands d.model 0 sorts ++ (sort_known d.model sort ∷ []))
+  item_demands d (Function name sorts sort) = declares_symbol d.model name
+      ++ (sort_demands d.model 0 sorts ++ (sort_known d.model sort ∷ []))
   item_demands d (Variable name sort) = declares_symbol d.model name ++ (sort_known d.model sort ∷ [])
-  item_demands d (Axiom name e) = declares d.model (is_sentence d.model (bytes_of text name)) name ++ demands text d.model [] Formula e
-  item_demands d (Conjecture name e) = declares d.model (is_sentence d.model (bytes_of text name)) name ++ demands text d.model [] Formula e
+  item_demands d (Axiom name e) = declares d.model (is_sentence d.model (bytes_of text name)) name
+      ++ demands text d.model [] Formula e
+  item_demands d (Conjecture name e) = declares d.model (is_sentence d.model (bytes_of text name)) name
+      ++ demands text d.model [] Formula e
   item_demands d (Init at cs) = stands_once at d.has_init ++ block_demands text d.model (block_of cs)
-  item_demands d (Action name cs) = declares d.model (is_among d.model.names.actions (bytes_of text name)) name ++ block_demands text d.model (block_of cs)
+  item_demands d (Action name cs) = declares d.model (is_among d.model.names.actions (bytes_of text name)) name
+      ++ block_demands text d.model (block_of cs)
   item_demands d (Final at cs) = stands_once at d.has_last ++ block_demands text d.model (block_of cs)
 
   -- ---- the model
-
-  -- a function or variable more
-  abbrev pub with_function : ModelTree → Name → List ℕ → ℕ → ModelTree
-  with_function m name from into = record m {
-    signature = record m.signature { functions = m.signature.functions ++ (from, record { 0 = into }) ∷ [] };
-    names = record m.names { functions = m.names.functions ++ bytes_of text name ∷ [] };
-    places = record m.places { functions = m.places.functions ++ name.start ∷ [] };
-  }
 
   -- a sentence's quantifiers inside an `ite`
   abbrev pub with_quantifiers : Places → List ℕ → Places
@@ -107,17 +101,20 @@ module _ (text : List ℕ) where
     signature = record m.signature { relations = m.signature.relations ++ map (sort_number text m) sorts ∷ [] };
     names = record m.names { relations = m.names.relations ++ bytes_of text name ∷ [] };
   }
-  model_with m (Function name sorts sort) = with_function m name (map (sort_number text m) sorts) (sort_number text m sort)
-  model_with m (Variable name sort) = with_function m name [] (sort_number text m sort)
+  model_with m (Function name sorts sort) =
+      with_function text m name (map (sort_number text m) sorts) (sort_number text m sort)
+  model_with m (Variable name sort) = with_function text m name [] (sort_number text m sort)
   model_with m (Axiom name e) = record m {
     names = record m.names { axioms = m.names.axioms ++ bytes_of text name ∷ [] };
     axioms = m.axioms ++ formula_of text m [] e ∷ [];
-    places = with_quantifiers (record m.places { axioms = m.places.axioms ++ name.start ∷ [] }) (quantifiers_in false e);
+    places = with_quantifiers (record m.places { axioms = m.places.axioms ++ name.start ∷ [] })
+        (quantifiers_in false e);
   }
   model_with m (Conjecture name e) = record m {
     names = record m.names { conjectures = m.names.conjectures ++ bytes_of text name ∷ [] };
     conjectures = m.conjectures ++ formula_of text m [] e ∷ [];
-    places = with_quantifiers (record m.places { conjectures = m.places.conjectures ++ name.start ∷ [] }) (quantifiers_in false e);
+    places = with_quantifiers (record m.places { conjectures = m.places.conjectures ++ name.start ∷ [] })
+        (quantifiers_in false e);
   }
   model_with m (Init at cs) = record m {
     init = block_command m cs;

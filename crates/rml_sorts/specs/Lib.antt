@@ -1,12 +1,5 @@
-pub mod Meanings
-pub mod Demands
-pub mod Formulas
+pub mod Answering
 pub mod Commands
 pub mod Items
-pub mod Scopes
-pub mod Drafts
 pub mod Progress
-pub mod Sound
-pub mod Answering
-pub mod Judging
 pub mod Laws

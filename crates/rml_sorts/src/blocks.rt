@@ -1,23 +1,26 @@
 // Blocks: each command is judged, and made into one of primitives.
 ghost use Rattle.std.specs.Prelude.{◌≡◌, ◌++◌, [], length, OnOk};
-ghost use Rattle.rml_syntax.specs.Tree.{expr_tree, exprs_of, expr_trees, command_tree, command_trees, block_of, block_trees, blocks_of, CommandTree};
+ghost use Rattle.rml_syntax.specs.Tree.{expr_tree, exprs_of, expr_trees, command_tree, command_trees, block_of};
+ghost use Rattle.rml_syntax.specs.Tree.{block_trees, blocks_of, CommandTree};
 ghost use Rattle.rml_syntax.specs.Tree as syntax;
-ghost use Rattle.rml_syntax.specs.Within.{ExprWithin, ExprsWithin, NameWithin, NamesWithin, ValueWithin, CommandWithin, BlockWithin, BlocksWithin};
+ghost use Rattle.rml_syntax.specs.Within.{ExprWithin, ExprsWithin, NameWithin, NamesWithin, ValueWithin, CommandWithin};
+ghost use Rattle.rml_syntax.specs.Within.{BlockWithin, BlocksWithin};
 ghost use Rattle.rml_syntax.specs.Shape.{ExprNests, ExprsNest, SideNests, CommandNests, BlockNests, BlocksNest};
 ghost use Rattle.rml_command.specs.View.{command as command_view, commands as commands_view};
 ghost use Rattle.rml_command.specs.Trees.{seq, choose};
-ghost use Rattle.rml_sorts.specs.Demands.{command_demands, block_demands, blocks_demands};
-ghost use Rattle.rml_sorts.specs.Commands.{command_of, commands_of, branches_of, conditions_of, conditions_of_block, conditions_of_blocks};
-ghost use Rattle.rml_sorts.specs.Drafts.{model_in};
-ghost use Rattle.rml_sorts.specs.Sound.{IsSound};
+ghost use Rattle.rml_sort_check.specs.Demands.{command_demands, block_demands, blocks_demands};
+ghost use Rattle.rml_sorts.specs.Commands.{command_of, commands_of, branches_of, conditions_of, conditions_of_block};
+ghost use Rattle.rml_sorts.specs.Commands.{conditions_of_blocks};
+ghost use Rattle.rml_names.specs.Drafts.{model_in};
+ghost use Rattle.rml_names.specs.Sound.{IsSound};
 ghost use Rattle.rml_sorts.specs.Answering.{Answers};
 
-use crate::draft::ModelDraft;
 use crate::sentences::{assertion, branching, noted_sentence};
-use crate::steps::{assigned, inserted, placed, removed};
+use crate::update_commands::{assign_command, insert_command, put_command, remove_command};
 use base::Refused;
 use rml_command::{Command, Condition, Primitive, Word};
 use rml_lex::Fault;
+use rml_names::ModelDraft;
 use rml_syntax as syntax;
 use rml_syntax::Expr;
 use std::alloc::Global;
@@ -46,8 +49,11 @@ fn command(
     requires nests { CommandNests 100 (command_tree c.now) }
     requires within { CommandWithin (length text.now) (command_tree c.now) }
     requires sound { IsSound (model_in draft.now) }
-    ensures command { Answers command_view result (command_demands text.now (model_in draft.now) (command_tree c.now)) (command_of text.now (model_in draft.now) (command_tree c.now)) }
-    ensures conditions { OnOk result (conditions.new.items ≡ conditions.old.items ++ conditions_of text.now (model_in draft.now) (command_tree c.now)) }
+    ensures command { Answers command_view result (command_demands text.now (model_in draft.now) (command_tree c.now))
+        (command_of text.now (model_in draft.now) (command_tree c.now)) }
+    ensures conditions { OnOk result
+        (conditions.new.items ≡ conditions.old.items
+        ++ conditions_of text.now (model_in draft.now) (command_tree c.now)) }
 {
     match c {
         syntax::Command::Skip(_) => Ok(Command::Seq(Vec::new(alloc))),
@@ -70,11 +76,11 @@ fn command(
             }
             Ok(choice_between(branches))
         }
-        syntax::Command::Insert(_, name, args) => inserted(alloc, text, draft, *name, args),
-        syntax::Command::Remove(_, name, args) => removed(alloc, text, draft, *name, args),
-        syntax::Command::Put(_, name, args, e) => placed(alloc, text, draft, *name, args, e),
+        syntax::Command::Insert(_, name, args) => insert_command(alloc, text, draft, *name, args),
+        syntax::Command::Remove(_, name, args) => remove_command(alloc, text, draft, *name, args),
+        syntax::Command::Put(_, name, args, e) => put_command(alloc, text, draft, *name, args, e),
         syntax::Command::Assign(name, parameters, value) => {
-            assigned(alloc, text, draft, *name, parameters, value)
+            assign_command(alloc, text, draft, *name, parameters, value)
         }
     }
 }
@@ -90,8 +96,12 @@ fn assumed(
     requires nests { ExprNests 100 (expr_tree e.now) }
     requires within { ExprWithin (length text.now) (expr_tree e.now) }
     requires sound { IsSound (model_in draft.now) }
-    ensures command { Answers command_view result (command_demands text.now (model_in draft.now) (syntax.Assume at (expr_tree e.now))) (command_of text.now (model_in draft.now) (syntax.Assume at (expr_tree e.now))) }
-    ensures conditions { OnOk result (conditions.new.items ≡ conditions.old.items ++ conditions_of text.now (model_in draft.now) (syntax.Assume at (expr_tree e.now))) }
+    ensures command { Answers command_view result
+        (command_demands text.now (model_in draft.now) (syntax.Assume at (expr_tree e.now)))
+        (command_of text.now (model_in draft.now) (syntax.Assume at (expr_tree e.now))) }
+    ensures conditions { OnOk result
+        (conditions.new.items ≡ conditions.old.items
+        ++ conditions_of text.now (model_in draft.now) (syntax.Assume at (expr_tree e.now))) }
 {
     let sentence = noted_sentence(alloc, text, draft, Word::Assume, at, e, conditions)?;
     Ok(Command::Prim(Primitive::Assume(sentence)))
@@ -108,8 +118,12 @@ fn asserted(
     requires nests { ExprNests 100 (expr_tree e.now) }
     requires within { ExprWithin (length text.now) (expr_tree e.now) }
     requires sound { IsSound (model_in draft.now) }
-    ensures command { Answers command_view result (command_demands text.now (model_in draft.now) (syntax.Assert at (expr_tree e.now))) (command_of text.now (model_in draft.now) (syntax.Assert at (expr_tree e.now))) }
-    ensures conditions { OnOk result (conditions.new.items ≡ conditions.old.items ++ conditions_of text.now (model_in draft.now) (syntax.Assert at (expr_tree e.now))) }
+    ensures command { Answers command_view result
+        (command_demands text.now (model_in draft.now) (syntax.Assert at (expr_tree e.now)))
+        (command_of text.now (model_in draft.now) (syntax.Assert at (expr_tree e.now))) }
+    ensures conditions { OnOk result
+        (conditions.new.items ≡ conditions.old.items
+        ++ conditions_of text.now (model_in draft.now) (syntax.Assert at (expr_tree e.now))) }
 {
     let sentence = noted_sentence(alloc, text, draft, Word::Assert, at, e, conditions)?;
     let command = assertion(alloc, sentence)?;
@@ -127,9 +141,12 @@ pub fn block(
     requires nests { BlockNests 100 (block_of (command_trees commands.now)) }
     requires within { BlockWithin (length text.now) (block_of (command_trees commands.now)) }
     requires sound { IsSound (model_in draft.now) }
-    ensures command { Answers (λ r. commands_view r.items) result (block_demands text.now (model_in draft.now) (block_of (command_trees commands.now)))
+    ensures command { Answers (λ r. commands_view r.items) result
+        (block_demands text.now (model_in draft.now) (block_of (command_trees commands.now)))
         (commands_of text.now (model_in draft.now) (block_of (command_trees commands.now))) }
-    ensures conditions { OnOk result (conditions.new.items ≡ conditions.old.items ++ conditions_of_block text.now (model_in draft.now) (block_of (command_trees commands.now))) }
+    ensures conditions { OnOk result
+        (conditions.new.items ≡ conditions.old.items
+        ++ conditions_of_block text.now (model_in draft.now) (block_of (command_trees commands.now))) }
 {
     let mut all = Vec::new(alloc);
     for c in commands {

@@ -5,25 +5,27 @@ ghost use Rattle.rml_syntax.specs.Tree.{expr_tree, command_trees, item_tree, blo
 ghost use Rattle.rml_syntax.specs.Tree as syntax;
 ghost use Rattle.rml_syntax.specs.Within.{NameWithin, NamesWithin, ExprWithin, CommandsWithin, ItemWithin};
 ghost use Rattle.rml_syntax.specs.Shape.{ExprNests, CommandsNest, ItemNests};
-ghost use Rattle.rml_sorts.specs.declared.meaning.Wanted.TheVariants as wanted;
-ghost use Rattle.rml_sorts.specs.Meanings.{bytes_of, is_among, sort_number};
-ghost use Rattle.rml_sorts.specs.Demands.{first_fault, demands, block_demands};
-ghost use Rattle.rml_sorts.specs.Items.{declares, declares_symbol, stands_once, sort_demands, sort_known, is_sentence, block_command, model_with, item_demands, with_item};
-ghost use Rattle.rml_sorts.specs.Commands.{conditions_of_block, quantifiers_of_block};
+ghost use Rattle.rml_sort_check.specs.declared.wanted.Wanted.TheVariants as wanted;
+ghost use Rattle.rml_names.specs.Meanings.{bytes_of, is_among, sort_number};
+ghost use Rattle.rml_sort_check.specs.Demands.{first_fault, demands, block_demands};
+ghost use Rattle.rml_sorts.specs.Items.{declares, declares_symbol, stands_once, sort_demands, sort_known, is_sentence};
+ghost use Rattle.rml_sorts.specs.Items.{block_command, model_with, item_demands, with_item};
+ghost use Rattle.rml_sorts.specs.Commands.{conditions_of_block};
+ghost use Rattle.rml_elaborate.specs.Quantifiers.{quantifiers_of_block};
 ghost use Rattle.rml_command.specs.View.{command as command_view};
-ghost use Rattle.rml_sorts.specs.Drafts.{model_in};
+ghost use Rattle.rml_names.specs.Drafts.{model_in};
 ghost use Rattle.rml_sorts.specs.Progress.{draft_of};
-ghost use Rattle.rml_sorts.specs.Sound.{IsSound};
+ghost use Rattle.rml_names.specs.Sound.{IsSound};
 ghost use Rattle.rml_sorts.specs.Answering.{Answers};
 
 use crate::blocks::{block, sequence};
-use crate::draft::{ModelDraft, bytes};
-use crate::quantifiers::{add_block_quantifiers, add_quantifiers};
 use crate::sentences::judged_sentence;
 use base::Refused;
 use fol_sig::{Sort, Sorts};
 use rml_command::{Command, Condition};
-use rml_lex::Fault;
+use rml_elaborate::{add_block_quantifiers, add_quantifiers};
+use rml_lex::{Fault, FaultCode};
+use rml_names::{ModelDraft, bytes};
 use rml_syntax as syntax;
 use rml_syntax::{Expr, Item, Name};
 use std::alloc::Global;
@@ -37,53 +39,55 @@ pub struct Progress {
 }
 
 // A declared name: it is new, and there are fewer than 1,000.
-fn declare(draft: &ModelDraft, taken: bool, name: Name) -> Option<Fault>
+fn declaration_fault(draft: &ModelDraft, taken: bool, name: Name) -> Option<Fault>
     requires { IsSound (model_in draft.now) }
     ensures { result ≡ first_fault (declares (model_in draft.now) taken name) }
 {
     if taken {
         return Some(Fault {
-            code: 6,
+            code: FaultCode::DeclaredTwice,
             at: name.start,
         });
     }
     if draft.name_count() >= 1000 {
         return Some(Fault {
-            code: 14,
+            code: FaultCode::TooManyNames,
             at: name.start,
         });
     }
     None
 }
 
-fn declare_symbol(text: &[u8], draft: &ModelDraft, name: Name) -> Option<Fault>
+fn symbol_fault(text: &[u8], draft: &ModelDraft, name: Name) -> Option<Fault>
     requires within { NameWithin (length text.now) name }
     requires sound { IsSound (model_in draft.now) }
     ensures { result ≡ first_fault (declares_symbol text.now (model_in draft.now) name) }
 {
-    declare(draft, draft.is_symbol(bytes(text, name)), name)
+    declaration_fault(draft, draft.is_symbol(bytes(text, name)), name)
 }
 
-fn declare_sentence(text: &[u8], draft: &ModelDraft, name: Name) -> Option<Fault>
+fn sentence_name_fault(text: &[u8], draft: &ModelDraft, name: Name) -> Option<Fault>
     requires within { NameWithin (length text.now) name }
     requires sound { IsSound (model_in draft.now) }
-    ensures { result ≡ first_fault (declares (model_in draft.now) (is_sentence text.now (model_in draft.now) (bytes_of text.now name)) name) }
+    ensures { result ≡ first_fault
+        (declares (model_in draft.now) (is_sentence text.now (model_in draft.now) (bytes_of text.now name)) name) }
 {
     let bytes = bytes(text, name);
     let taken = draft.names.axioms.contains(bytes) || draft.names.conjectures.contains(bytes);
-    declare(draft, taken, name)
+    declaration_fault(draft, taken, name)
 }
 
 fn known_sort(text: &[u8], draft: &ModelDraft, name: Name) -> Result<Sort, Refused<Fault>>
     requires within { NameWithin (length text.now) name }
     requires sound { IsSound (model_in draft.now) }
-    ensures sort { Answers (λ k. k.0) result (sort_known text.now (model_in draft.now) name ∷ []) (sort_number text.now (model_in draft.now) name) }
+    ensures sort { Answers (λ k. k.0) result (sort_known text.now (model_in draft.now) name ∷ [])
+        (sort_number text.now (model_in draft.now) name) }
     ensures known { IfOk result (λ k. k.0 < (model_in draft.now).signature.sorts) }
 {
     match draft.sort(bytes(text, name)) {
         Some(place) => Ok(Sort(place)),
         None => Err(Refused::For(Fault {
-            code: 7,
+            code: FaultCode::UnknownName,
             at: name.start,
         })),
     }
@@ -97,7 +101,8 @@ fn argument_sorts(
 ) -> Result<Sorts, Refused<Fault>>
     requires within { NamesWithin (length text.now) names.now }
     requires sound { IsSound (model_in draft.now) }
-    ensures sorts { Answers (λ ks. ks) result (sort_demands text.now (model_in draft.now) 0 names.now) (map (sort_number text.now (model_in draft.now)) names.now) }
+    ensures sorts { Answers (λ ks. ks) result (sort_demands text.now (model_in draft.now) 0 names.now)
+        (map (sort_number text.now (model_in draft.now)) names.now) }
     ensures known { IfOk result (AreSorts (model_in draft.now).signature.sorts) }
 {
     let mut sorts = Sorts::new(alloc);
@@ -105,7 +110,7 @@ fn argument_sorts(
         let sort = known_sort(text, draft, *name)?;
         if sorts.as_slice().len() >= 8 {
             return Err(Refused::For(Fault {
-                code: 8,
+                code: FaultCode::WrongArgumentCount,
                 at: name.start,
             }));
         }
@@ -123,10 +128,12 @@ fn add_sort(
 ) -> Result<(), Refused<Fault>>
     requires within { NameWithin (length text.now) name }
     requires sound { IsSound (model_in draft.old) }
-    ensures { Answers (λ _. model_in draft.new) result (declares (model_in draft.old) (is_among (model_in draft.old).names.sorts (bytes_of text.now name)) name) (model_with text.now (model_in draft.old) (syntax.Sort name)) }
+    ensures { Answers (λ _. model_in draft.new) result
+        (declares (model_in draft.old) (is_among (model_in draft.old).names.sorts (bytes_of text.now name)) name)
+        (model_with text.now (model_in draft.old) (syntax.Sort name)) }
 {
     let taken = draft.names.sorts.contains(bytes(text, name));
-    if let Some(fault) = declare(draft, taken, name) {
+    if let Some(fault) = declaration_fault(draft, taken, name) {
         return Err(Refused::For(fault));
     }
     draft.add_sort(alloc, text, name)?;
@@ -144,9 +151,11 @@ fn add_relation(
     requires within { NameWithin (length text.now) name }
     requires sorts { NamesWithin (length text.now) sorts.now }
     requires sound { IsSound (model_in draft.old) }
-    ensures { Answers (λ _. model_in draft.new) result (declares_symbol text.now (model_in draft.old) name ++ sort_demands text.now (model_in draft.old) 0 sorts.now) (model_with text.now (model_in draft.old) (syntax.Relation name sorts.now)) }
+    ensures { Answers (λ _. model_in draft.new) result
+        (declares_symbol text.now (model_in draft.old) name ++ sort_demands text.now (model_in draft.old) 0 sorts.now)
+        (model_with text.now (model_in draft.old) (syntax.Relation name sorts.now)) }
 {
-    if let Some(fault) = declare_symbol(text, draft, name) {
+    if let Some(fault) = symbol_fault(text, draft, name) {
         return Err(Refused::For(fault));
     }
     let sorts = argument_sorts(alloc, text, draft, sorts)?;
@@ -165,7 +174,8 @@ fn function_sorts(
     requires sorts { NamesWithin (length text.now) sorts.now }
     requires sort { NameWithin (length text.now) sort }
     requires sound { IsSound (model_in draft.now) }
-    ensures sorts { Answers {V = List ℕ × ℕ} (λ p. (p.0, p.1.0)) result (sort_demands text.now (model_in draft.now) 0 sorts.now ++ (sort_known text.now (model_in draft.now) sort ∷ []))
+    ensures sorts { Answers {V = List ℕ × ℕ} (λ p. (p.0, p.1.0)) result
+        (sort_demands text.now (model_in draft.now) 0 sorts.now ++ (sort_known text.now (model_in draft.now) sort ∷ []))
         (map (sort_number text.now (model_in draft.now)) sorts.now, sort_number text.now (model_in draft.now) sort) }
     ensures from_known { IfOk result (λ p. AreSorts (model_in draft.now).signature.sorts p.0) }
     ensures into_known { IfOk result (λ p. p.1.0 < (model_in draft.now).signature.sorts) }
@@ -188,9 +198,13 @@ fn add_function(
     requires sorts { NamesWithin (length text.now) sorts.now }
     requires sort { NameWithin (length text.now) sort }
     requires sound { IsSound (model_in draft.old) }
-    ensures { Answers (λ _. model_in draft.new) result (declares_symbol text.now (model_in draft.old) name ++ (sort_demands text.now (model_in draft.old) 0 sorts.now ++ (sort_known text.now (model_in draft.old) sort ∷ []))) (model_with text.now (model_in draft.old) (syntax.Function name sorts.now sort)) }
+    ensures { Answers (λ _. model_in draft.new) result
+        (declares_symbol text.now (model_in draft.old) name
+        ++ (sort_demands text.now (model_in draft.old) 0 sorts.now
+        ++ (sort_known text.now (model_in draft.old) sort ∷ [])))
+        (model_with text.now (model_in draft.old) (syntax.Function name sorts.now sort)) }
 {
-    if let Some(fault) = declare_symbol(text, draft, name) {
+    if let Some(fault) = symbol_fault(text, draft, name) {
         return Err(Refused::For(fault));
     }
     let (from, into) = function_sorts(alloc, text, draft, sorts, sort)?;
@@ -209,9 +223,11 @@ fn add_variable(
     requires within { NameWithin (length text.now) name }
     requires sort { NameWithin (length text.now) sort }
     requires sound { IsSound (model_in draft.old) }
-    ensures { Answers (λ _. model_in draft.new) result (declares_symbol text.now (model_in draft.old) name ++ (sort_known text.now (model_in draft.old) sort ∷ [])) (model_with text.now (model_in draft.old) (syntax.Variable name sort)) }
+    ensures { Answers (λ _. model_in draft.new) result
+        (declares_symbol text.now (model_in draft.old) name ++ (sort_known text.now (model_in draft.old) sort ∷ []))
+        (model_with text.now (model_in draft.old) (syntax.Variable name sort)) }
 {
-    if let Some(fault) = declare_symbol(text, draft, name) {
+    if let Some(fault) = symbol_fault(text, draft, name) {
         return Err(Refused::For(fault));
     }
     let into = known_sort(text, draft, sort)?;
@@ -231,9 +247,12 @@ fn add_axiom(
     requires nests { ExprNests 100 (expr_tree e.now) }
     requires sentence { ExprWithin (length text.now) (expr_tree e.now) }
     requires sound { IsSound (model_in draft.old) }
-    ensures { Answers (λ _. model_in draft.new) result (declares (model_in draft.old) (is_sentence text.now (model_in draft.old) (bytes_of text.now name)) name ++ demands text.now (model_in draft.old) [] wanted.Formula (expr_tree e.now)) (model_with text.now (model_in draft.old) (syntax.Axiom name (expr_tree e.now))) }
+    ensures { Answers (λ _. model_in draft.new) result
+        (declares (model_in draft.old) (is_sentence text.now (model_in draft.old) (bytes_of text.now name)) name
+        ++ demands text.now (model_in draft.old) [] wanted.Formula (expr_tree e.now))
+        (model_with text.now (model_in draft.old) (syntax.Axiom name (expr_tree e.now))) }
 {
-    if let Some(fault) = declare_sentence(text, draft, name) {
+    if let Some(fault) = sentence_name_fault(text, draft, name) {
         return Err(Refused::For(fault));
     }
     let sentence = judged_sentence(alloc, text, draft, e)?;
@@ -255,9 +274,12 @@ fn add_conjecture(
     requires nests { ExprNests 100 (expr_tree e.now) }
     requires sentence { ExprWithin (length text.now) (expr_tree e.now) }
     requires sound { IsSound (model_in draft.old) }
-    ensures { Answers (λ _. model_in draft.new) result (declares (model_in draft.old) (is_sentence text.now (model_in draft.old) (bytes_of text.now name)) name ++ demands text.now (model_in draft.old) [] wanted.Formula (expr_tree e.now)) (model_with text.now (model_in draft.old) (syntax.Conjecture name (expr_tree e.now))) }
+    ensures { Answers (λ _. model_in draft.new) result
+        (declares (model_in draft.old) (is_sentence text.now (model_in draft.old) (bytes_of text.now name)) name
+        ++ demands text.now (model_in draft.old) [] wanted.Formula (expr_tree e.now))
+        (model_with text.now (model_in draft.old) (syntax.Conjecture name (expr_tree e.now))) }
 {
-    if let Some(fault) = declare_sentence(text, draft, name) {
+    if let Some(fault) = sentence_name_fault(text, draft, name) {
         return Err(Refused::For(fault));
     }
     let sentence = judged_sentence(alloc, text, draft, e)?;
@@ -285,9 +307,14 @@ fn judged_block(
     requires nests { CommandsNest 100 (command_trees commands.now) }
     requires within { CommandsWithin (length text.now) (command_trees commands.now) }
     requires sound { IsSound (model_in draft.now) }
-    ensures command { Answers (λ b. command_view b.command) result (block_demands text.now (model_in draft.now) (block_of (command_trees commands.now))) (block_command text.now (model_in draft.now) (command_trees commands.now)) }
-    ensures conditions { IfOk result (λ b. b.conditions.items ≡ conditions_of_block text.now (model_in draft.now) (block_of (command_trees commands.now))) }
-    ensures quantifiers { IfOk result (λ b. b.quantifiers.items ≡ quantifiers_of_block (block_of (command_trees commands.now))) }
+    ensures command { Answers (λ b. command_view b.command) result
+        (block_demands text.now (model_in draft.now) (block_of (command_trees commands.now)))
+        (block_command text.now (model_in draft.now) (command_trees commands.now)) }
+    ensures conditions { IfOk result
+        (λ b. b.conditions.items
+        ≡ conditions_of_block text.now (model_in draft.now) (block_of (command_trees commands.now))) }
+    ensures quantifiers { IfOk result
+        (λ b. b.quantifiers.items ≡ quantifiers_of_block (block_of (command_trees commands.now))) }
 {
     let mut conditions = Vec::new(alloc);
     let commands_built = block(alloc, text, draft, commands, &mut conditions)?;
@@ -311,10 +338,13 @@ fn add_action(
     requires nests { CommandsNest 100 (command_trees commands.now) }
     requires block { CommandsWithin (length text.now) (command_trees commands.now) }
     requires sound { IsSound (model_in draft.old) }
-    ensures { Answers (λ _. model_in draft.new) result (declares (model_in draft.old) (is_among (model_in draft.old).names.actions (bytes_of text.now name)) name ++ block_demands text.now (model_in draft.old) (block_of (command_trees commands.now))) (model_with text.now (model_in draft.old) (syntax.Action name (command_trees commands.now))) }
+    ensures { Answers (λ _. model_in draft.new) result
+        (declares (model_in draft.old) (is_among (model_in draft.old).names.actions (bytes_of text.now name)) name
+        ++ block_demands text.now (model_in draft.old) (block_of (command_trees commands.now)))
+        (model_with text.now (model_in draft.old) (syntax.Action name (command_trees commands.now))) }
 {
     let taken = draft.names.actions.contains(bytes(text, name));
-    if let Some(fault) = declare(draft, taken, name) {
+    if let Some(fault) = declaration_fault(draft, taken, name) {
         return Err(Refused::For(fault));
     }
     let block = judged_block(alloc, text, draft, commands)?;
@@ -328,7 +358,10 @@ fn stand(taken: bool, at: u64) -> Option<Fault>
     ensures { result ≡ first_fault (stands_once at taken) }
 {
     if taken {
-        Some(Fault { code: 6, at })
+        Some(Fault {
+            code: FaultCode::DeclaredTwice,
+            at,
+        })
     } else {
         None
     }
@@ -345,7 +378,9 @@ fn add_init(
     requires nests { CommandsNest 100 (command_trees commands.now) }
     requires block { CommandsWithin (length text.now) (command_trees commands.now) }
     requires sound { IsSound (model_in draft.old) }
-    ensures { Answers (λ _. model_in draft.new) result (stands_once at taken ++ block_demands text.now (model_in draft.old) (block_of (command_trees commands.now))) (model_with text.now (model_in draft.old) (syntax.Init at (command_trees commands.now))) }
+    ensures { Answers (λ _. model_in draft.new) result
+        (stands_once at taken ++ block_demands text.now (model_in draft.old) (block_of (command_trees commands.now)))
+        (model_with text.now (model_in draft.old) (syntax.Init at (command_trees commands.now))) }
 {
     if let Some(fault) = stand(taken, at) {
         return Err(Refused::For(fault));
@@ -368,7 +403,9 @@ fn add_last(
     requires nests { CommandsNest 100 (command_trees commands.now) }
     requires block { CommandsWithin (length text.now) (command_trees commands.now) }
     requires sound { IsSound (model_in draft.old) }
-    ensures { Answers (λ _. model_in draft.new) result (stands_once at taken ++ block_demands text.now (model_in draft.old) (block_of (command_trees commands.now))) (model_with text.now (model_in draft.old) (syntax.Final at (command_trees commands.now))) }
+    ensures { Answers (λ _. model_in draft.new) result
+        (stands_once at taken ++ block_demands text.now (model_in draft.old) (block_of (command_trees commands.now)))
+        (model_with text.now (model_in draft.old) (syntax.Final at (command_trees commands.now))) }
 {
     if let Some(fault) = stand(taken, at) {
         return Err(Refused::For(fault));
@@ -390,7 +427,9 @@ pub fn add_item(
     requires nests { ItemNests 100 (item_tree item.now) }
     requires within { ItemWithin (length text.now) (item_tree item.now) }
     requires sound { IsSound (draft_of progress.old).model }
-    ensures { Answers (λ _. draft_of progress.new) result (item_demands text.now (draft_of progress.old) (item_tree item.now)) (with_item text.now (draft_of progress.old) (item_tree item.now)) }
+    ensures { Answers (λ _. draft_of progress.new) result
+        (item_demands text.now (draft_of progress.old) (item_tree item.now))
+        (with_item text.now (draft_of progress.old) (item_tree item.now)) }
 {
     let Progress {
         draft,

@@ -2,22 +2,11 @@
 #![tactic(auto)]
 
 mod blocks;
-mod draft;
-mod faults;
-mod formulas;
-mod growing;
 mod items;
 mod laws;
-mod meaning;
-mod quantifiers;
-mod resolving;
-mod scope;
 mod sentences;
-mod steps;
-mod table;
-mod targets;
-mod updates;
+mod update_commands;
+mod whole_tree;
 
 pub use laws::{fault_law, model_law, place_law};
-pub use meaning::{Meaning, Wanted};
-pub use resolving::resolve;
+pub use whole_tree::resolve;

@@ -1,28 +1,42 @@
 // Sentences, and the commands that are made of one.
-ghost use Rattle.std.specs.Prelude.{◌≡◌, ◌++◌, ◌∷◌, [], length, OnOk, IfOk};
+ghost use Rattle.std.specs.Prelude.{◌≡◌, ◌++◌, ◌∷◌, [], None, length, OnOk, IfOk};
 ghost use Rattle.fol_formula.specs.Syntax.{negation};
 ghost use Rattle.rml_syntax.specs.Tree.{expr_tree};
 ghost use Rattle.rml_syntax.specs.Within.{ExprWithin};
 ghost use Rattle.rml_syntax.specs.Shape.{ExprNests};
 ghost use Rattle.rml_command.specs.View.{command as command_view, commands as commands_view};
 ghost use Rattle.rml_command.specs.Trees.{assume, prim, seq, choose, command_then, no_commands};
-ghost use Rattle.rml_sorts.specs.declared.meaning.Wanted.TheVariants as wanted;
-ghost use Rattle.rml_sorts.specs.Demands.{demands};
-ghost use Rattle.rml_sorts.specs.Formulas.{formula_of};
+ghost use Rattle.rml_sort_check.specs.declared.wanted.Wanted.TheVariants as wanted;
+ghost use Rattle.rml_sort_check.specs.Demands.{demands, first_fault};
+ghost use Rattle.rml_elaborate.specs.Formulas.{formula_of};
 ghost use Rattle.rml_sorts.specs.Commands.{assertion as assertion_of, branching as branching_of};
-ghost use Rattle.rml_sorts.specs.Drafts.{model_in};
-ghost use Rattle.rml_sorts.specs.Sound.{IsSound};
+ghost use Rattle.rml_names.specs.Drafts.{model_in};
+ghost use Rattle.rml_names.specs.Sound.{IsSound};
 ghost use Rattle.rml_sorts.specs.Answering.{Answers};
 
-use crate::draft::ModelDraft;
-use crate::targets::sentence_fault;
-use crate::updates::sentence;
 use base::{Mem, Refused};
 use fol_formula::{Formula, Sentence};
 use rml_command::{Command, Condition, Primitive, Word};
+use rml_elaborate::formula_outside;
 use rml_lex::Fault;
+use rml_names::ModelDraft;
+use rml_sort_check::sentence_fault;
 use rml_syntax::Expr;
 use std::alloc::Global;
+
+// The sentence of an expression whose names and sorts have no fault.
+fn sentence(alloc: Global, text: &[u8], draft: &ModelDraft, e: &Expr) -> Mem<Sentence>
+    requires nests { ExprNests 100 (expr_tree e.now) }
+    requires within { ExprWithin (length text.now) (expr_tree e.now) }
+    requires sound { IsSound (model_in draft.now) }
+    requires faultless { first_fault (demands text.now (model_in draft.now) [] wanted.Formula (expr_tree e.now))
+        ≡ None }
+    ensures { IfOk result (λ p. p ≡ formula_of text.now (model_in draft.now) [] (expr_tree e.now)) }
+{
+    fol_formula::indices();
+    let p = formula_outside(alloc, text, draft, e)?;
+    Ok(Sentence::of(p))
+}
 
 // The sentence that an expression stands for, or its fault.
 pub fn judged_sentence(
@@ -34,7 +48,8 @@ pub fn judged_sentence(
     requires nests { ExprNests 100 (expr_tree e.now) }
     requires within { ExprWithin (length text.now) (expr_tree e.now) }
     requires sound { IsSound (model_in draft.now) }
-    ensures { Answers (λ p. p) result (demands text.now (model_in draft.now) [] wanted.Formula (expr_tree e.now)) (formula_of text.now (model_in draft.now) [] (expr_tree e.now)) }
+    ensures { Answers (λ p. p) result (demands text.now (model_in draft.now) [] wanted.Formula (expr_tree e.now))
+        (formula_of text.now (model_in draft.now) [] (expr_tree e.now)) }
 {
     match sentence_fault(text, draft, e) {
         Some(fault) => Err(Refused::For(fault)),
@@ -58,9 +73,12 @@ pub fn noted_sentence(
     requires nests { ExprNests 100 (expr_tree e.now) }
     requires within { ExprWithin (length text.now) (expr_tree e.now) }
     requires sound { IsSound (model_in draft.now) }
-    ensures sentence { Answers (λ p. p) result (demands text.now (model_in draft.now) [] wanted.Formula (expr_tree e.now)) (formula_of text.now (model_in draft.now) [] (expr_tree e.now)) }
+    ensures sentence { Answers (λ p. p) result
+        (demands text.now (model_in draft.now) [] wanted.Formula (expr_tree e.now))
+        (formula_of text.now (model_in draft.now) [] (expr_tree e.now)) }
     ensures noted { OnOk result (conditions.new.items ≡ conditions.old.items
-        ++ record { word = word; at = at; sentence = formula_of text.now (model_in draft.now) [] (expr_tree e.now) } ∷ []) }
+        ++ record { word = word; at = at; sentence = formula_of text.now (model_in draft.now) [] (expr_tree e.now) }
+        ∷ []) }
 {
     let sentence = judged_sentence(alloc, text, draft, e)?;
     add_condition(alloc, word, at, &sentence, conditions)?;
@@ -74,7 +92,8 @@ fn add_condition(
     sentence: &Sentence,
     conditions: &mut Vec<Condition>,
 ) -> Mem<()>
-    ensures { OnOk result (conditions.new.items ≡ conditions.old.items ++ record { word = word; at = at; sentence = sentence.now } ∷ []) }
+    ensures { OnOk result (conditions.new.items ≡ conditions.old.items
+        ++ record { word = word; at = at; sentence = sentence.now } ∷ []) }
 {
     let sentence = sentence.copy(alloc)?;
     conditions.push(Condition { word, at, sentence })?;
@@ -96,14 +115,16 @@ fn assumption(sentence: Sentence) -> Command
 
 // A sequence that begins with an assumption.
 fn guarded(sentence: Sentence, mut block: Vec<Command>) -> Mem<Command>
-    ensures { IfOk result (λ c. command_view c ≡ seq (command_then (prim (assume sentence)) (commands_view block.items))) }
+    ensures { IfOk result (λ c. command_view c
+        ≡ seq (command_then (prim (assume sentence)) (commands_view block.items))) }
 {
     block.insert(0, assumption(sentence))?;
     Ok(Command::Seq(block))
 }
 
 fn choice(alloc: Global, first: Command, second: Command) -> Mem<Command>
-    ensures { IfOk result (λ c. command_view c ≡ choose (command_then (command_view first) (command_then (command_view second) no_commands))) }
+    ensures { IfOk result (λ c. command_view c
+        ≡ choose (command_then (command_view first) (command_then (command_view second) no_commands))) }
 {
     let branches = vec![in alloc; first, second]?;
     Ok(Command::Choose(branches))
@@ -144,7 +165,8 @@ pub fn branching(
     first: Vec<Command>,
     second: Vec<Command>,
 ) -> Mem<Command>
-    ensures { IfOk result (λ c. command_view c ≡ branching_of sentence (commands_view first.items) (commands_view second.items)) }
+    ensures { IfOk result (λ c. command_view c
+        ≡ branching_of sentence (commands_view first.items) (commands_view second.items)) }
 {
     let copy = sentence.copy(alloc)?;
     let first = guarded(copy, first)?;

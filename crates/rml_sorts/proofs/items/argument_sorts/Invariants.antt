@@ -1,17 +1,19 @@
 use Rattle.std.proofs.Common.{◌≡◌, ◌≤◌, ◌++◌, drop, length, map}
 use Rattle.fol_sig.specs.Tables.{AreSorts}
 use Rattle.rml_syntax.specs.Within.{NamesWithin}
-use Rattle.rml_sorts.specs.Meanings.{sort_number}
-use Rattle.rml_sorts.specs.Demands.{first_fault}
+use Rattle.rml_names.specs.Meanings.{sort_number}
+use Rattle.rml_sort_check.specs.Demands.{first_fault}
 use Rattle.rml_sorts.specs.Items.{sort_demands}
-use Rattle.rml_sorts.specs.Drafts.{model_in}
+use Rattle.rml_names.specs.Drafts.{model_in}
 use Rattle.rml_sorts.proofs.items.argument_sorts.Given as goal
 
 abbrev pub invariant-loop-name : goal.invariant-loop-name
 invariant-loop-name l = record {
   within : NamesWithin (length l.text) (drop l.name-index l.names);
-  demands : first_fault (sort_demands l.text (model_in l.draft) (length l.sorts) (drop l.name-index l.names)) ≡ first_fault (sort_demands l.text (model_in l.draft) 0 l.names);
-  made : l.sorts ++ map (sort_number l.text (model_in l.draft)) (drop l.name-index l.names) ≡ map (sort_number l.text (model_in l.draft)) l.names;
+  demands : first_fault (sort_demands l.text (model_in l.draft) (length l.sorts) (drop l.name-index l.names))
+      ≡ first_fault (sort_demands l.text (model_in l.draft) 0 l.names);
+  made : l.sorts ++ map (sort_number l.text (model_in l.draft)) (drop l.name-index l.names)
+      ≡ map (sort_number l.text (model_in l.draft)) l.names;
   known : AreSorts (model_in l.draft).signature.sorts l.sorts;
   few : length l.sorts ≤ 8;
 }

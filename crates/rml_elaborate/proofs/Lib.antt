@@ -1,0 +1,3 @@
+pub mod Nesting
+pub mod Turns
+pub mod Tuples

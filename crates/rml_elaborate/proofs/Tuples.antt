@@ -1,0 +1,36 @@
+-- The parameters of an update, and how many arguments a tuple has.
+use Rattle.std.proofs.Common.{◌≡◌, ◌<◌, ◌-◌, ℕ, zero, suc, List, [], ◌∷◌, ◌++◌, length, map, refl, sym, ap, ◌∙◌, arith}
+use Rattle.fol_formula.specs.Syntax.{TermTrees, bound, term_then, terms_then}
+use Rattle.fol_formula.specs.View.{term}
+use Rattle.fol_formula.specs.declared.Term.{Term}
+use Rattle.fol_formula.specs.Lists.{TermLists}
+use Rattle.rml_syntax.specs.declared.tree.Expr.{Expr}
+use Rattle.rml_syntax.specs.Tree.{expr_trees, exprs_of}
+use Rattle.rml_command.specs.Models.{ModelTree}
+use Rattle.rml_names.specs.Meanings.{BoundName}
+use Rattle.rml_elaborate.specs.Formulas.{terms_of}
+use Rattle.rml_elaborate.specs.Updates.{parameters, term_count}
+
+-- one parameter more
+parameters-more : (n : ℕ) → 0 < n → parameters n ≡ term_then (bound (n - 1)) (parameters (n - 1))
+parameters-more zero h = absurd (omega arith)
+parameters-more (suc n) h =
+    let e : n ≡ suc n - 1 = omega arith in
+    ap (λ (k : ℕ). term_then (bound k) (parameters k)) e
+
+pub parameters_turn : TermLists → (n : ℕ) (all more : List Term) (t : Term) (whole : TermTrees) → 0 < n
+    → more ≡ all ++ t ∷ [] → term t ≡ bound (n - 1)
+    → terms_then (map term all) (parameters n) ≡ whole → terms_then (map term more) (parameters (n - 1)) ≡ whole
+parameters_turn lists n all more t whole some pushed made before =
+    let rest = parameters (n - 1) in
+    ap (λ z. terms_then (map term z) rest) pushed
+    ∙ lists.pushed all t rest
+    ∙ ap (λ z. terms_then (map term all) (term_then z rest)) made
+    ∙ ap (terms_then (map term all)) (sym (parameters-more n some))
+    ∙ before
+
+-- there is a term for each expression
+pub terms_counted : (text : List ℕ) (m : ModelTree) (bs : List BoundName) (es : List Expr)
+    → term_count (terms_of text m bs (exprs_of (expr_trees es))) ≡ length es
+terms_counted text m bs [] = refl
+terms_counted text m bs (e ∷ es) = ap suc (terms_counted text m bs es)

@@ -1,0 +1,28 @@
+use Rattle.std.proofs.Common.{◌≡◌, ◌-◌, length, map, drop}
+use Rattle.fol_formula.specs.Syntax.{forms_then, terms_then}
+use Rattle.fol_formula.specs.View.{form, term}
+use Rattle.rml_syntax.specs.Tree.{expr_trees, exprs_of}
+use Rattle.rml_syntax.specs.Shape.{ExprsNest}
+use Rattle.rml_syntax.specs.Within.{ExprsWithin}
+use Rattle.rml_elaborate.specs.Formulas.{formulas_of, terms_of}
+use Rattle.rml_names.specs.Scopes.{bound_names}
+use Rattle.rml_names.specs.Drafts.{model_in}
+use Rattle.rml_elaborate.proofs.formulas.+formula.Given as goal
+
+abbrev pub invariant-formulas-loop-e : goal.invariant-formulas-loop-e
+invariant-formulas-loop-e l = record {
+  nests : ExprsNest (108 - length (bound_names l.scope)) (exprs_of (expr_trees (drop l.e-index l.es)));
+  within : ExprsWithin (length l.text) (exprs_of (expr_trees (drop l.e-index l.es)));
+  made : forms_then (map form l.all.items)
+      (formulas_of l.text (model_in l.draft) (bound_names l.scope) (exprs_of (expr_trees (drop l.e-index l.es))))
+      ≡ formulas_of l.text (model_in l.draft) (bound_names l.scope) (exprs_of (expr_trees l.es));
+}
+
+abbrev pub invariant-terms-loop-e : goal.invariant-terms-loop-e
+invariant-terms-loop-e l = record {
+  nests : ExprsNest (108 - length (bound_names l.scope)) (exprs_of (expr_trees (drop l.e-index l.es)));
+  within : ExprsWithin (length l.text) (exprs_of (expr_trees (drop l.e-index l.es)));
+  made : terms_then (map term l.all.items)
+      (terms_of l.text (model_in l.draft) (bound_names l.scope) (exprs_of (expr_trees (drop l.e-index l.es))))
+      ≡ terms_of l.text (model_in l.draft) (bound_names l.scope) (exprs_of (expr_trees l.es));
+}

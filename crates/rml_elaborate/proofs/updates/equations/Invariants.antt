@@ -1,0 +1,20 @@
+use Rattle.std.proofs.Common.{◌≡◌, ◌+◌, [], length, map, drop}
+use Rattle.fol_formula.specs.Syntax.{forms_then}
+use Rattle.fol_formula.specs.View.{form}
+use Rattle.rml_syntax.specs.Tree.{expr_trees, exprs_of}
+use Rattle.rml_syntax.specs.Shape.{ExprsNest}
+use Rattle.rml_syntax.specs.Within.{ExprsWithin}
+use Rattle.rml_elaborate.specs.Formulas.{terms_of}
+use Rattle.rml_elaborate.specs.Updates.{equations}
+use Rattle.rml_names.specs.Drafts.{model_in}
+use Rattle.rml_elaborate.proofs.updates.equations.Given as goal
+
+abbrev pub invariant-loop-e : goal.invariant-loop-e
+invariant-loop-e l = record {
+  left : l.left + l.e-index ≡ length l.args;
+  nests : ExprsNest 100 (exprs_of (expr_trees (drop l.e-index l.args)));
+  within : ExprsWithin (length l.text) (exprs_of (expr_trees (drop l.e-index l.args)));
+  made : forms_then (map form l.all.items)
+      (equations (terms_of l.text (model_in l.draft) [] (exprs_of (expr_trees (drop l.e-index l.args)))))
+      ≡ equations (terms_of l.text (model_in l.draft) [] (exprs_of (expr_trees l.args)));
+}

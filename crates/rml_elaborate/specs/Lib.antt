@@ -1,0 +1,4 @@
+pub mod Formulas
+pub mod Updates
+pub mod Quantifiers
+pub mod Branches

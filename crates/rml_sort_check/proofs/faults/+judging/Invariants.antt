@@ -1,0 +1,28 @@
+use Rattle.std.proofs.Common.{◌≡◌, ◌-◌, length, drop}
+use Rattle.fol_sig.specs.Tables.{numbers}
+use Rattle.rml_syntax.specs.Tree.{expr_trees, exprs_of}
+use Rattle.rml_syntax.specs.Shape.{ExprsNest}
+use Rattle.rml_syntax.specs.Within.{ExprsWithin}
+use Rattle.rml_sort_check.specs.Demands.{first_fault, formula_demands, argument_demands}
+use Rattle.rml_names.specs.Scopes.{bound_names}
+use Rattle.rml_names.specs.Drafts.{model_in}
+use Rattle.rml_sort_check.proofs.faults.+judging.Given as goal
+
+abbrev pub invariant-arguments_fault-loop-e : goal.invariant-arguments_fault-loop-e
+invariant-arguments_fault-loop-e l = record {
+  nests : ExprsNest (108 - length (bound_names l.scope)) (exprs_of (expr_trees (drop l.e-index l.args)));
+  within : ExprsWithin (length l.text) (exprs_of (expr_trees (drop l.e-index l.args)));
+  left : first_fault (argument_demands l.text (model_in l.draft) (bound_names l.scope)
+      (exprs_of (expr_trees (drop l.e-index l.args))) (numbers l.sorts))
+      ≡ first_fault (argument_demands l.text (model_in l.draft) (bound_names l.scope) (exprs_of (expr_trees l.args))
+      (numbers l.initial.sorts));
+}
+
+abbrev pub invariant-formulas_fault-loop-e : goal.invariant-formulas_fault-loop-e
+invariant-formulas_fault-loop-e l = record {
+  nests : ExprsNest (108 - length (bound_names l.scope)) (exprs_of (expr_trees (drop l.e-index l.args)));
+  within : ExprsWithin (length l.text) (exprs_of (expr_trees (drop l.e-index l.args)));
+  left : first_fault (formula_demands l.text (model_in l.draft) (bound_names l.scope)
+      (exprs_of (expr_trees (drop l.e-index l.args))))
+      ≡ first_fault (formula_demands l.text (model_in l.draft) (bound_names l.scope) (exprs_of (expr_trees l.args)));
+}

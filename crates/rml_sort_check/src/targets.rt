@@ -1,0 +1,324 @@
+// The first fault of the left side of an update, and of what becomes of it.
+ghost use Rattle.std.specs.Prelude.{◌≡◌, ◌==◌, ◌||◌, ◌≤◌, is_some, ◌+◌, ◌++◌, ◌∷◌, [], None, Some, length, option_map};
+ghost use Rattle.fol_sig.specs.Tables.{numbers};
+ghost use Rattle.rml_syntax.specs.Tree.{expr_tree, expr_trees, exprs_of};
+ghost use Rattle.rml_syntax.specs.Shape.{ExprNests, ExprsNest, SideNests};
+ghost use Rattle.rml_syntax.specs.Within.{NameWithin, NamesWithin, ExprWithin, ExprsWithin, ValueWithin};
+ghost use Rattle.rml_sort_check.specs.declared.wanted.Wanted.TheVariants.{Formula, Term};
+ghost use Rattle.rml_names.specs.Meanings.{bytes_of, symbol_of, is_among, argument_sorts as sorts_of_arguments};
+ghost use Rattle.rml_names.specs.Meanings.{result_sort as sort_of_result, is_variable as means_variable};
+ghost use Rattle.rml_names.specs.Meanings.{is_function_with_arguments as means_function_with_arguments};
+ghost use Rattle.rml_names.specs.Meanings.{with_parameters};
+ghost use Rattle.rml_sort_check.specs.Demands.{first_fault, expr_count, demands, argument_demands, tuple_demands};
+ghost use Rattle.rml_sort_check.specs.Demands.{put_demands, assign_demands, parameter_demands, side_of as wanted_side};
+ghost use Rattle.rml_sort_check.specs.Demands.{side_demands};
+ghost use Rattle.rml_names.specs.Scopes.{bound_names, names_of};
+ghost use Rattle.rml_names.specs.Drafts.{model_in};
+ghost use Rattle.rml_names.specs.Sound.{IsSound, IsDeclared};
+
+use crate::faults::{arguments_fault, expression_fault, first_of, is_known, is_relation};
+use crate::wanted::Wanted;
+use fol_sig::Sort;
+use rml_lex::{Fault, FaultCode};
+use rml_names::{Meaning, ModelDraft, Scope, bytes};
+use rml_syntax::{Expr, Name};
+
+// A fault where a name begins.
+fn fault_at(code: FaultCode, name: Name) -> Fault
+    ensures { result ≡ record { code = code; at = name.start } }
+{
+    Fault {
+        code,
+        at: name.start,
+    }
+}
+
+/// The first fault of an expression that has to be a formula, under no binder.
+pub fn sentence_fault(text: &[u8], draft: &ModelDraft, e: &Expr) -> Option<Fault>
+    requires nests { ExprNests 100 (expr_tree e.now) }
+    requires within { ExprWithin (length text.now) (expr_tree e.now) }
+    requires sound { IsSound (model_in draft.now) }
+    ensures { result ≡ first_fault (demands text.now (model_in draft.now) [] Formula (expr_tree e.now)) }
+{
+    outer_fault(text, draft, Wanted::Formula, e)
+}
+
+// An expression under no binder.
+fn outer_fault(text: &[u8], draft: &ModelDraft, wanted: Wanted, e: &Expr) -> Option<Fault>
+    requires nests { ExprNests 100 (expr_tree e.now) }
+    requires within { ExprWithin (length text.now) (expr_tree e.now) }
+    requires sound { IsSound (model_in draft.now) }
+    ensures { result ≡ first_fault (demands text.now (model_in draft.now) [] wanted (expr_tree e.now)) }
+{
+    let outside = Scope::outside();
+    shallow_fault(text, draft, &outside, wanted, e)
+}
+
+// An expression under at most 8 names.
+fn shallow_fault(
+    text: &[u8],
+    draft: &ModelDraft,
+    scope: &Scope,
+    wanted: Wanted,
+    e: &Expr,
+) -> Option<Fault>
+    requires few { length (bound_names scope.now) ≤ 8 }
+    requires nests { ExprNests 100 (expr_tree e.now) }
+    requires within { ExprWithin (length text.now) (expr_tree e.now) }
+    requires sound { IsSound (model_in draft.now) }
+    ensures { result ≡ first_fault
+        (demands text.now (model_in draft.now) (bound_names scope.now) wanted (expr_tree e.now)) }
+{
+    expression_fault(text, draft, scope, wanted, e)
+}
+
+// Arguments under no binder, each of its sort.
+fn outer_arguments_fault(
+    text: &[u8],
+    draft: &ModelDraft,
+    args: &[Expr],
+    sorts: &[Sort],
+) -> Option<Fault>
+    requires nests { ExprsNest 100 (exprs_of (expr_trees args.now)) }
+    requires within { ExprsWithin (length text.now) (exprs_of (expr_trees args.now)) }
+    requires sound { IsSound (model_in draft.now) }
+    ensures { result ≡ first_fault
+        (argument_demands text.now (model_in draft.now) [] (exprs_of (expr_trees args.now)) (numbers sorts.now)) }
+{
+    let outside = Scope::outside();
+    arguments_fault(text, draft, &outside, args, sorts)
+}
+
+// Whether there are as many arguments as sorts.
+fn is_counted(args: &[Expr], sorts: &[Sort]) -> bool
+    ensures { result ≡ (expr_count (exprs_of (expr_trees args.now)) == length (numbers sorts.now)) }
+{
+    args.len() == sorts.len()
+}
+
+/// The first fault of a relation and its arguments, of `insert` or `remove`.
+pub fn tuple_fault(text: &[u8], draft: &ModelDraft, name: Name, args: &[Expr]) -> Option<Fault>
+    requires nests { ExprsNest 100 (exprs_of (expr_trees args.now)) }
+    requires name { NameWithin (length text.now) name }
+    requires within { ExprsWithin (length text.now) (exprs_of (expr_trees args.now)) }
+    requires sound { IsSound (model_in draft.now) }
+    ensures { result ≡ first_fault
+        (tuple_demands text.now (model_in draft.now) (symbol_of (model_in draft.now) (bytes_of text.now name))
+        name.start (exprs_of (expr_trees args.now))) }
+{
+    let symbol = draft.symbol(bytes(text, name));
+    if !is_known(symbol) {
+        return Some(fault_at(FaultCode::UnknownName, name));
+    }
+    if !is_relation(symbol) {
+        return Some(fault_at(FaultCode::BadTarget, name));
+    }
+    let sorts = draft.argument_sorts(symbol);
+    if !is_counted(args, sorts) {
+        return Some(fault_at(FaultCode::WrongArgumentCount, name));
+    }
+    outer_arguments_fault(text, draft, args, sorts)
+}
+
+/// The first fault of `put`: a function with arguments, and its new value at them.
+pub fn put_fault(
+    text: &[u8],
+    draft: &ModelDraft,
+    name: Name,
+    args: &[Expr],
+    value: &Expr,
+) -> Option<Fault>
+    requires nests { ExprsNest 100 (exprs_of (expr_trees args.now)) }
+    requires value_nests { ExprNests 100 (expr_tree value.now) }
+    requires name { NameWithin (length text.now) name }
+    requires within { ExprsWithin (length text.now) (exprs_of (expr_trees args.now)) }
+    requires value_within { ExprWithin (length text.now) (expr_tree value.now) }
+    requires sound { IsSound (model_in draft.now) }
+    ensures { result ≡ first_fault
+        (put_demands text.now (model_in draft.now) (symbol_of (model_in draft.now) (bytes_of text.now name)) name.start
+        (exprs_of (expr_trees args.now)) (expr_tree value.now)) }
+{
+    let symbol = draft.symbol(bytes(text, name));
+    if !is_known(symbol) {
+        return Some(fault_at(FaultCode::UnknownName, name));
+    }
+    if !is_function_with_arguments(draft, symbol) {
+        return Some(fault_at(FaultCode::BadTarget, name));
+    }
+    if !is_counted(args, draft.argument_sorts(symbol)) {
+        return Some(fault_at(FaultCode::WrongArgumentCount, name));
+    }
+    entry_fault(text, draft, symbol, args, value)
+}
+
+// The arguments of a function, and its new value there.
+fn entry_fault(
+    text: &[u8],
+    draft: &ModelDraft,
+    symbol: Meaning,
+    args: &[Expr],
+    value: &Expr,
+) -> Option<Fault>
+    requires nests { ExprsNest 100 (exprs_of (expr_trees args.now)) }
+    requires value_nests { ExprNests 100 (expr_tree value.now) }
+    requires within { ExprsWithin (length text.now) (exprs_of (expr_trees args.now)) }
+    requires value_within { ExprWithin (length text.now) (expr_tree value.now) }
+    requires declared { IsDeclared (model_in draft.now) symbol }
+    requires sound { IsSound (model_in draft.now) }
+    ensures { result ≡ first_fault
+        (argument_demands text.now (model_in draft.now) [] (exprs_of (expr_trees args.now))
+        (sorts_of_arguments (model_in draft.now) symbol)
+        ++ demands text.now (model_in draft.now) [] (Term (sort_of_result (model_in draft.now) symbol))
+        (expr_tree value.now)) }
+{
+    let sorts = draft.argument_sorts(symbol);
+    let arguments = outer_arguments_fault(text, draft, args, sorts);
+    let sort = draft.result_sort(symbol);
+    let entry = outer_fault(text, draft, Wanted::Term(sort), value);
+    first_of(arguments, entry)
+}
+
+fn is_variable(draft: &ModelDraft, symbol: Meaning) -> bool
+    requires { IsDeclared (model_in draft.now) symbol }
+    ensures { result ≡ means_variable (model_in draft.now) symbol }
+{
+    match symbol {
+        Meaning::Function(_) => draft.argument_sorts(symbol).is_empty(),
+        Meaning::Bound(_, _) | Meaning::Relation(_) | Meaning::Unknown => false,
+    }
+}
+
+fn is_function_with_arguments(draft: &ModelDraft, symbol: Meaning) -> bool
+    requires { IsDeclared (model_in draft.now) symbol }
+    ensures { result ≡ means_function_with_arguments (model_in draft.now) symbol }
+{
+    match symbol {
+        Meaning::Function(_) => !draft.argument_sorts(symbol).is_empty(),
+        Meaning::Bound(_, _) | Meaning::Relation(_) | Meaning::Unknown => false,
+    }
+}
+
+// Whether the name may stand at the left of `:=`; where there is no new value, any value is meant.
+fn is_assignable(draft: &ModelDraft, symbol: Meaning, value: &Option<Expr>) -> bool
+    requires { IsDeclared (model_in draft.now) symbol }
+    ensures { result ≡ (is_some (option_map expr_tree value.now) || means_variable (model_in draft.now) symbol) }
+{
+    match value {
+        Some(_) => true,
+        None => is_variable(draft, symbol),
+    }
+}
+
+// Whether there are as many parameters as sorts.
+fn is_named(parameters: &[Name], sorts: &[Sort]) -> bool
+    ensures { result ≡ (length parameters.now == length (numbers sorts.now)) }
+{
+    parameters.len() == sorts.len()
+}
+
+/// The first fault of `:=`: a name, its parameters, and its new value; where there is none, any value.
+pub fn assign_fault(
+    text: &[u8],
+    draft: &ModelDraft,
+    name: Name,
+    parameters: &[Name],
+    value: &Option<Expr>,
+) -> Option<Fault>
+    requires nests { SideNests 100 (option_map expr_tree value.now) }
+    requires name { NameWithin (length text.now) name }
+    requires parameters { NamesWithin (length text.now) parameters.now }
+    requires within { ValueWithin (length text.now) (option_map expr_tree value.now) }
+    requires sound { IsSound (model_in draft.now) }
+    ensures { result ≡ first_fault
+        (assign_demands text.now (model_in draft.now) (symbol_of (model_in draft.now) (bytes_of text.now name))
+        name.start parameters.now (option_map expr_tree value.now)) }
+{
+    let symbol = draft.symbol(bytes(text, name));
+    if !is_known(symbol) {
+        return Some(fault_at(FaultCode::UnknownName, name));
+    }
+    if !is_assignable(draft, symbol, value) {
+        return Some(fault_at(FaultCode::BadTarget, name));
+    }
+    let sorts = draft.argument_sorts(symbol);
+    if !is_named(parameters, sorts) {
+        return Some(fault_at(FaultCode::WrongArgumentCount, name));
+    }
+    let outside = Scope::outside();
+    assigned_fault(text, draft, symbol, &outside, parameters, sorts, value)
+}
+
+// The parameters that are left, under those before them, and the value under them all.
+fn assigned_fault(
+    text: &[u8],
+    draft: &ModelDraft,
+    symbol: Meaning,
+    scope: &Scope,
+    parameters: &[Name],
+    sorts: &[Sort],
+    value: &Option<Expr>,
+) -> Option<Fault>
+    requires as_many { length parameters.now ≡ length sorts.now }
+    requires few { length (bound_names scope.now) + length parameters.now ≤ 8 }
+    requires parameters_within { NamesWithin (length text.now) parameters.now }
+    requires nests { SideNests 100 (option_map expr_tree value.now) }
+    requires within { ValueWithin (length text.now) (option_map expr_tree value.now) }
+    requires declared { IsDeclared (model_in draft.now) symbol }
+    requires sound { IsSound (model_in draft.now) }
+    ensures { result ≡ first_fault
+        (parameter_demands text.now (model_in draft.now) (names_of (bound_names scope.now)) parameters.now
+        ++ side_demands text.now (model_in draft.now)
+        (with_parameters text.now (bound_names scope.now) parameters.now (numbers sorts.now)) symbol
+        (option_map expr_tree value.now)) }
+{
+    let [parameter, others @ ..] = parameters else {
+        return side_fault(text, draft, symbol, scope, value);
+    };
+    let [sort, behind @ ..] = sorts else {
+        unreachable!()
+    };
+    let name = bytes(text, *parameter);
+    if draft.is_symbol(name) {
+        return Some(fault_at(FaultCode::TakenName, *parameter));
+    }
+    if scope.has(name) {
+        return Some(fault_at(FaultCode::DeclaredTwice, *parameter));
+    }
+    let inside = Scope::inside(name, sort.0, &*scope);
+    assigned_fault(text, draft, symbol, &inside, others, behind, value)
+}
+
+// The new value under the parameters.
+fn side_fault(
+    text: &[u8],
+    draft: &ModelDraft,
+    symbol: Meaning,
+    scope: &Scope,
+    value: &Option<Expr>,
+) -> Option<Fault>
+    requires few { length (bound_names scope.now) ≤ 8 }
+    requires nests { SideNests 100 (option_map expr_tree value.now) }
+    requires within { ValueWithin (length text.now) (option_map expr_tree value.now) }
+    requires declared { IsDeclared (model_in draft.now) symbol }
+    requires sound { IsSound (model_in draft.now) }
+    ensures { result ≡ first_fault
+        (side_demands text.now (model_in draft.now) (bound_names scope.now) symbol (option_map expr_tree value.now)) }
+{
+    match value {
+        Some(value) => shallow_fault(text, draft, scope, side_of(text, draft, symbol), value),
+        None => None,
+    }
+}
+
+// What the right side of an assignment has to be.
+fn side_of(text: &[u8], draft: &ModelDraft, symbol: Meaning) -> Wanted
+    requires { IsDeclared (model_in draft.now) symbol }
+    ensures { result ≡ wanted_side text.now (model_in draft.now) symbol }
+{
+    match symbol {
+        Meaning::Relation(_) => Wanted::Formula,
+        Meaning::Bound(_, _) => Wanted::Term(draft.result_sort(symbol)),
+        Meaning::Function(_) => Wanted::Term(draft.result_sort(symbol)),
+        Meaning::Unknown => Wanted::Term(draft.result_sort(symbol)),
+    }
+}

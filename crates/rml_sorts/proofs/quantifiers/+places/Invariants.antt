@@ -1,7 +1,0 @@
-use Rattle.std.proofs.Common.{◌≡◌, ◌++◌, drop}
-use Rattle.rml_syntax.specs.Tree.{expr_trees, exprs_of}
-use Rattle.rml_sorts.specs.Formulas.{quantifiers_in_each}
-use Rattle.rml_sorts.proofs.quantifiers.+places.Given as goal
-
-abbrev pub invariant-add_quantifiers_each-loop-e : goal.invariant-add_quantifiers_each-loop-e
-invariant-add_quantifiers_each-loop-e l = l.places.items ++ quantifiers_in_each l.all (exprs_of (expr_trees (drop l.e-index l.es))) ≡ l.initial.places.items ++ quantifiers_in_each l.all (exprs_of (expr_trees l.es))

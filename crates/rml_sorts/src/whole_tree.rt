@@ -1,0 +1,63 @@
+// A whole tree.
+ghost use Rattle.std.specs.Prelude.{◌≡◌, length, None, Some, IfOk, OnOk, IfErr};
+ghost use Rattle.base.specs.Because.{Because};
+ghost use Rattle.rml_lex.specs.Tokens.{StandsBy};
+ghost use Rattle.rml_syntax.specs.Tree.{file_tree, item_trees};
+ghost use Rattle.rml_syntax.specs.Within.{TreeWithin};
+ghost use Rattle.rml_syntax.specs.Shape.{IsShaped};
+ghost use Rattle.rml_sorts.specs.Items.{no_items, items_demands, model_of, fault_of};
+ghost use Rattle.rml_names.specs.Drafts.{model_in};
+ghost use Rattle.rml_sorts.specs.Progress.{draft_of};
+ghost use Rattle.rml_names.specs.Sound.{IsSound};
+ghost use Rattle.rml_sorts.specs.Answering.{Answers};
+
+use crate::items::{Progress, add_item};
+use crate::laws::fault_law;
+use base::Refused;
+use rml_command::Model;
+use rml_lex::Fault;
+use rml_names::ModelDraft;
+use rml_syntax::{Item, Tree};
+use std::alloc::Global;
+
+impl Progress {
+    fn new(alloc: Global) -> Self
+        ensures { draft_of result ≡ no_items }
+    {
+        Progress {
+            draft: ModelDraft::new(alloc),
+            has_init: false,
+            has_last: false,
+        }
+    }
+}
+
+fn read_items(alloc: Global, text: &[u8], items: &[Item]) -> Result<ModelDraft, Refused<Fault>>
+    requires within { TreeWithin (length text.now) (item_trees items.now) }
+    requires shape { IsShaped (item_trees items.now) }
+    ensures draft { Answers model_in result (items_demands text.now no_items (item_trees items.now))
+        (model_of text.now (item_trees items.now)) }
+    ensures sound { IfOk result (λ d. IsSound (model_in d)) }
+{
+    let mut progress = Progress::new(alloc);
+    for item in items {
+        add_item(alloc, text, &mut progress, item)?;
+    }
+    Ok(progress.draft)
+}
+
+/// The model of a tree, or the fault of its names and sorts, at the first place that breaks a
+/// rule of the language in the order of reading.
+pub fn resolve(alloc: Global, text: &[u8], tree: &Tree) -> Result<Model, Refused<Fault>>
+    requires within { TreeWithin (length text.now) (file_tree tree.now) }
+    requires shape { IsShaped (file_tree tree.now) }
+    ensures model { IfOk result (λ m. m ≡ model_of text.now (file_tree tree.now)) }
+    ensures accepted { OnOk result (fault_of text.now (file_tree tree.now) ≡ None) }
+    ensures fault { IfErr result (Because (λ f. fault_of text.now (file_tree tree.now) ≡ Some f)) }
+    ensures place { IfErr result (Because (StandsBy (length text.now))) }
+{
+    fault_law();
+    let draft = read_items(alloc, text, &tree.items)?;
+    let model = draft.into_model(alloc)?;
+    Ok(model)
+}
