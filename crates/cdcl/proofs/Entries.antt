@@ -1,5 +1,6 @@
 -- Clauses by their ids.
-use Rattle.std.proofs.Common.{◌≡◌, ℕ, zero, suc, ◌+◌, ◌-◌, ◌<◌, ◌≤◌, ◌⊎◌, eqb, Bool, true, false, cond, List, [], ◌∷◌, ◌++◌, length, length-append, slice_get, refl, arith, ap, sym, ◌∙◌, inl, inr, Some, None}
+use Rattle.std.proofs.Common.{◌≡◌, ℕ, zero, suc, ◌+◌, ◌-◌, ◌<◌, ◌≤◌, ◌⊎◌, eqb, Bool, true, false, cond, List, [], ◌∷◌}
+use Rattle.std.proofs.Common.{◌++◌, length, length-append, slice_get, refl, arith, ap, sym, ◌∙◌, inl, inr, Some, None}
 use Rattle.std.proofs.lemmas.Grind.{common_steps}
 use Rattle.std.proofs.lemmas.Option.{slice_get_within}
 use Rattle.cnf_base.specs.declared.cnf.Entry.{Entry}
@@ -37,13 +38,15 @@ held_old es x e zero h = absurd (cc)
 held_old es x e (suc k) h =
     let q : suc k ≡ k + 1 = omega arith in
     let g = ap (held_by es) (sym q) ∙ h in
-    ap (held_by (es ++ x ∷ [])) q ∙ held_at (es ++ x ∷ []) k ∙ get_old es x k (held_place es k e g) ∙ sym (held_at es k) ∙ g
+    ap (held_by (es ++ x ∷ [])) q ∙ held_at (es ++ x ∷ []) k ∙ get_old es x k (held_place es k e g) ∙ sym (held_at es k)
+    ∙ g
 
 pub held_new : (es : List Entry) (x : Entry) → held_by (es ++ x ∷ []) (length es + 1) ≡ Some x
 held_new es x = held_at (es ++ x ∷ []) (length es) ∙ get_new es x
 
 -- what is held with one more entry was held before, or is the new one
-pub held_either : (es : List Entry) (x e : Entry) (id : ℕ) → held_by (es ++ x ∷ []) id ≡ Some e → (held_by es id ≡ Some e) ⊎ ((id ≡ length es + 1) × (x ≡ e))
+pub held_either : (es : List Entry) (x e : Entry) (id : ℕ) → held_by (es ++ x ∷ []) id ≡ Some e
+    → (held_by es id ≡ Some e) ⊎ ((id ≡ length es + 1) × (x ≡ e))
 held_either es x e zero h = absurd (cc)
 held_either es x e (suc k) h = at (eqb k (length es)) refl
   where
@@ -59,4 +62,5 @@ held_either es x e (suc k) h = at (eqb k (length es)) refl
         let l = held_place (es ++ x ∷ []) k e g in
         let n = length-append es (x ∷ []) in
         let lt : k < length es = grind (arith, common_steps, q, l, n) in
-        inl (ap (held_by es) (let r : suc k ≡ k + 1 = omega arith in r) ∙ held_at es k ∙ sym (get_old es x k lt) ∙ sym (held_at (es ++ x ∷ []) k) ∙ g)
+        inl (ap (held_by es) (let r : suc k ≡ k + 1 = omega arith in r) ∙ held_at es k ∙ sym (get_old es x k lt)
+        ∙ sym (held_at (es ++ x ∷ []) k) ∙ g)

@@ -1,5 +1,6 @@
 -- A trail that grows.
-use Rattle.std.proofs.Common.{◌≡◌, ℕ, zero, suc, ◌+◌, ◌<◌, ◌≤◌, ◌⊎◌, ◌||◌, eqb, Bool, true, false, if◌then◌else◌, List, [], ◌∷◌, ◌++◌, length, length-append, get_or, refl, arith, ap, sym, subst, ◌∙◌, inl, inr}
+use Rattle.std.proofs.Common.{◌≡◌, ℕ, zero, suc, ◌+◌, ◌<◌, ◌≤◌, ◌⊎◌, ◌||◌, eqb, Bool, true, false, if◌then◌else◌, List}
+use Rattle.std.proofs.Common.{[], ◌∷◌, ◌++◌, length, length-append, get_or, refl, arith, ap, sym, subst, ◌∙◌, inl, inr}
 use Rattle.std.proofs.lemmas.Grind.{common_steps}
 use Rattle.std.proofs.lemmas.Bool.{cases_lt}
 use Rattle.cdcl.specs.declared.trail.Step.{Step}
@@ -21,11 +22,13 @@ free_same set set' l (suc n) a h =
     let s : set' n ≡ set n = grind (arith, common_steps, e, d) in
     rw (s, r) refl
 
-pub free_less : (set set' : ℕ → Bool) (l n : ℕ) → ((x : ℕ) → set' x ≡ (eqb l x || set x)) → set l ≡ false → l < n → free set' n + 1 ≡ free set n
+pub free_less : (set set' : ℕ → Bool) (l n : ℕ) → ((x : ℕ) → set' x ≡ (eqb l x || set x)) → set l ≡ false → l < n
+    → free set' n + 1 ≡ free set n
 free_less set set' l zero a u h = absurd (omega arith)
 free_less set set' l (suc n) a u h = at (cases_lt l n) (λ k. free_less set set' l n a u k)
   where
-    at : (l < n) ⊎ (n ≤ l) → (l < n → free set' n + 1 ≡ free set n) → ((if set' n then 0 else 1) + free set' n) + 1 ≡ (if set n then 0 else 1) + free set n
+    at : (l < n) ⊎ (n ≤ l) → (l < n → free set' n + 1 ≡ free set n)
+        → ((if set' n then 0 else 1) + free set' n) + 1 ≡ (if set n then 0 else 1) + free set n
     at (inl k) r =
         let e = a n in
         let d : eqb l n ≡ false = grind (arith, common_steps, k) in
@@ -41,7 +44,14 @@ free_less set set' l (suc n) a u h = at (cases_lt l n) (λ k. free_less set set'
         rw (s0, s1) (omega (arith, g))
 
 pub extends_refl : (t : TrailValue) → Extends t t
-extends_refl t = record { size = refl; longer = omega arith; same = λ i h. refl; forced = λ i h k. absurd (omega arith); fewer = refl }
+extends_refl t =
+    record {
+      size = refl;
+      longer = omega arith;
+      same = λ i h. refl;
+      forced = λ i h k. absurd (omega arith);
+      fewer = refl;
+    }
 
 pub extends_trans : (a b c : TrailValue) → Extends a b → Extends b c → Extends a c
 extends_trans a b c f g = record {
@@ -52,12 +62,14 @@ extends_trans a b c f g = record {
   fewer = g.fewer ∙ f.fewer;
 }
   where
-    at : (i : ℕ) → length a.steps ≤ i → i < length c.steps → (i < length b.steps) ⊎ (length b.steps ≤ i) → reason_at c.steps i ≡ 0 → ⊥
+    at : (i : ℕ) → length a.steps ≤ i → i < length c.steps → (i < length b.steps) ⊎ (length b.steps ≤ i)
+        → reason_at c.steps i ≡ 0 → ⊥
     at i h k (inl q) e = f.forced i h q (ap (λ (x : Step). x.reason) (sym (g.same i q)) ∙ e)
     at i h k (inr q) e = g.forced i q k e
 
 -- a forced literal
-pub extends_push : (t u : TrailValue) (s : Step) → u.size ≡ t.size → u.steps ≡ t.steps ++ s ∷ [] → is_set t.steps s.literal ≡ false → s.literal < t.size → (s.reason ≡ 0 → ⊥) → Extends t u
+pub extends_push : (t u : TrailValue) (s : Step) → u.size ≡ t.size → u.steps ≡ t.steps ++ s ∷ []
+    → is_set t.steps s.literal ≡ false → s.literal < t.size → (s.reason ≡ 0 → ⊥) → Extends t u
 extends_push t u s z e n h r = record {
   size = z;
   longer = (let l = len in omega arith);
@@ -76,9 +88,11 @@ extends_push t u s z e n h r = record {
     new i a b =
         let l = len in
         let q : i ≡ length t.steps = omega arith in
-        ap (λ (x : List Step). reason_at x i) e ∙ ap (reason_at (t.steps ++ s ∷ [])) q ∙ ap (λ (x : Step). x.reason) (get-push_new t.steps s)
+        ap (λ (x : List Step). reason_at x i) e ∙ ap (reason_at (t.steps ++ s ∷ [])) q
+        ∙ ap (λ (x : Step). x.reason) (get-push_new t.steps s)
 
-pub was_set-extends : (a b : TrailValue) (s l : ℕ) → Extends a b → s ≤ length a.steps → was_set b.steps s l ≡ was_set a.steps s l
+pub was_set-extends : (a b : TrailValue) (s l : ℕ) → Extends a b → s ≤ length a.steps
+    → was_set b.steps s l ≡ was_set a.steps s l
 was_set-extends a b zero l f h = refl
 was_set-extends a b (suc s) l f h =
     let r = was_set-extends a b s l f (omega arith) in
@@ -95,5 +109,6 @@ grows_trans a b c f g = record {
   safe = λ n h v. g.safe n (let x = f.extends.longer in omega arith) (f.safe n h v);
 }
 
-pub visiting_at : (s : State) (head : ℕ) (list : List Watch) (n m : ℕ) → n ≡ m → IsVisiting s head list n → IsVisiting s head list m
+pub visiting_at : (s : State) (head : ℕ) (list : List Watch) (n m : ℕ) → n ≡ m → IsVisiting s head list n
+    → IsVisiting s head list m
 visiting_at s head list n m e v = subst (λ (k : ℕ). IsVisiting s head list k) e v

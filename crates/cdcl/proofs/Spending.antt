@@ -14,7 +14,8 @@ use Rattle.cdcl.proofs.Trails.{trail_consistent}
 use Rattle.cdcl.proofs.Searching.{level_quiet}
 
 -- where there is a level, nothing was false or unit where the first one began
-pub unrefuted : (f : Formula) (s : Search) (lines : List Line) → IsSearch s → 0 < length s.starts.items → IsLogged f s.state.clauses lines
+pub unrefuted : (f : Formula) (s : Search) (lines : List Line) → IsSearch s → 0 < length s.starts.items
+    → IsLogged f s.state.clauses lines
     → IsPropagationConsistent (after_lines (held_of f) lines)
 unrefuted f s lines i some g = subst IsPropagationConsistent (sym (fun_ext g.after)) here
   where
@@ -23,5 +24,9 @@ unrefuted f s lines i some g = subst IsPropagationConsistent (sym (fun_ext g.aft
 
     here : IsPropagationConsistent (held_in s.state)
     here =
-        let inside = i.search.decisions.inside 0 some in
-        (was_set s.state.trail.steps start, trail_consistent (held_in s.state) s.state.trail.steps start i.search.state.trail (omega arith), level_quiet s.state s.starts.items s.head 0 i.search some)
+        let inside = i.search.decisions.inside 0 some in (
+          was_set s.state.trail.steps start,
+          trail_consistent (held_in s.state) s.state.trail.steps start
+              i.search.state.trail (omega arith),
+          level_quiet s.state s.starts.items s.head 0 i.search some,
+        )

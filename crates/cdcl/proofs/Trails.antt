@@ -1,5 +1,7 @@
 -- A trail: what is set on it, one more step, and a trail that is cut.
-use Rattle.std.proofs.Common.{◌≡◌, ℕ, zero, suc, ◌+◌, ◌-◌, ◌*◌, ◌<◌, ◌≤◌, ◌⊎◌, ◌||◌, eqb, Bool, true, false, cond, List, [], ◌∷◌, ◌++◌, length, get_or, set, take, refl, arith, ap, sym, subst, ◌∙◌, inl, inr, Some, length-append}
+use Rattle.std.proofs.Common.{◌≡◌, ℕ, zero, suc, ◌+◌, ◌-◌, ◌*◌, ◌<◌, ◌≤◌, ◌⊎◌, ◌||◌, eqb, Bool, true, false, cond, List}
+use Rattle.std.proofs.Common.{[], ◌∷◌, ◌++◌, length, get_or, set, take, refl, arith, ap, sym, subst, ◌∙◌, inl, inr}
+use Rattle.std.proofs.Common.{Some, length-append}
 use Rattle.std.proofs.lemmas.Grind.{common_steps}
 use Rattle.std.proofs.lemmas.Bool.{cases_lt}
 use Rattle.cnf_base.specs.declared.cnf.Entry.TheVariants.{Clause}
@@ -15,7 +17,8 @@ pub was_set_below : (trail : List Step) (s l : ℕ) → was_set trail s l ≡ tr
 was_set_below trail zero l h = absurd (cc)
 was_set_below trail (suc s) l h = at (eqb (literal_at trail s) l) refl h (λ k. was_set_below trail s l k)
   where
-    at : (b : Bool) → eqb (literal_at trail s) l ≡ b → (b || was_set trail s l) ≡ true → (was_set trail s l ≡ true → IsBelow trail s l) → IsBelow trail (suc s) l
+    at : (b : Bool) → eqb (literal_at trail s) l ≡ b → (b || was_set trail s l) ≡ true
+        → (was_set trail s l ≡ true → IsBelow trail s l) → IsBelow trail (suc s) l
     at true e k r = (s, omega arith, grind (arith, common_steps, e))
     at false e k r = let b = r k in (b.0, omega arith, b.2)
 
@@ -23,14 +26,18 @@ pub below_was_set : (trail : List Step) (s l : ℕ) → IsBelow trail s l → wa
 below_was_set trail zero l b = let h = b.1 in absurd (omega arith)
 below_was_set trail (suc s) l b = at b.0 b.1 b.2 (λ r. below_was_set trail s l r)
   where
-    at : (j : ℕ) → j < suc s → literal_at trail j ≡ l → (IsBelow trail s l → was_set trail s l ≡ true) → was_set trail (suc s) l ≡ true
+    at : (j : ℕ) → j < suc s → literal_at trail j ≡ l → (IsBelow trail s l → was_set trail s l ≡ true)
+        → was_set trail (suc s) l ≡ true
     at j h e r = cases (eqb j s) refl
       where
         cases : (b : Bool) → eqb j s ≡ b → was_set trail (suc s) l ≡ true
-        cases true q = let js : j ≡ s = grind (arith, common_steps, q) in let e2 : literal_at trail s ≡ l = ap (literal_at trail) (sym js) ∙ e in grind (arith, common_steps, e2)
-        cases false q = let lt : j < s = grind (arith, common_steps, q, h) in let k = r (j, lt, e) in grind (arith, common_steps, k)
+        cases true q = let js : j ≡ s = grind (arith, common_steps, q) in
+            let e2 : literal_at trail s ≡ l = ap (literal_at trail) (sym js) ∙ e in grind (arith, common_steps, e2)
+        cases false q = let lt : j < s = grind (arith, common_steps, q, h) in let k = r (j, lt, e) in
+            grind (arith, common_steps, k)
 
-pub trail_consistent : (held : Held) (trail : List Step) (s : ℕ) → IsTrail held trail → s ≤ length trail → IsConsistent (was_set trail s)
+pub trail_consistent : (held : Held) (trail : List Step) (s : ℕ) → IsTrail held trail → s ≤ length trail
+    → IsConsistent (was_set trail s)
 trail_consistent held trail s t h l e = at (was_set trail s (opposite l)) refl
   where
     at : (b : Bool) → was_set trail s (opposite l) ≡ b → b ≡ false
@@ -54,9 +61,12 @@ trail_consistent held trail s t h l e = at (was_set trail s (opposite l)) refl
                 same : (b : Bool) → eqb i j ≡ b → ⊥
                 same true q = let ij : i ≡ j = grind (arith, common_steps, q) in
                     opposite-differs l (sym ej ∙ ap (literal_at trail) (sym ij) ∙ ei)
-                same false q = t.apart j i (grind (arith, common_steps, q, k)) (omega arith) (ap opposite ej ∙ opposite-opposite l ∙ sym ei)
+                same false q =
+                    t.apart j i (grind (arith, common_steps, q, k)) (omega arith)
+                    (ap opposite ej ∙ opposite-opposite l ∙ sym ei)
 
-pub get-push_old : (t : List Step) (s : Step) (i : ℕ) → i < length t → get_or (t ++ s ∷ []) i no_step ≡ get_or t i no_step
+pub get-push_old : (t : List Step) (s : Step) (i : ℕ) → i < length t
+    → get_or (t ++ s ∷ []) i no_step ≡ get_or t i no_step
 get-push_old [] s i h = absurd (omega arith)
 get-push_old (x ∷ t) s zero h = refl
 get-push_old (x ∷ t) s (suc i) h = get-push_old t s i (omega arith)
@@ -78,15 +88,23 @@ was_set-push t s (suc n) l h =
 pub below_push : (t : List Step) (s : Step) (n l : ℕ) → n ≤ length t → IsBelow t n l → IsBelow (t ++ s ∷ []) n l
 below_push t s n l h b = (b.0, b.1, literal-push t s b.0 (let k = b.1 in omega arith) ∙ b.2)
 
-pub trail_push : (held : Held) (t : List Step) (s : Step) → IsTrail held t → MayPush held t s → IsTrail held (t ++ s ∷ [])
+pub trail_push : (held : Held) (t : List Step) (s : Step) → IsTrail held t → MayPush held t s
+    → IsTrail held (t ++ s ∷ [])
 trail_push held t s r m = record {
-  once = λ i j h k e. two i j h (short k) (λ q. r.once i j h q (sym (literal-push t s i (omega arith)) ∙ e ∙ literal-push t s j q))
-      (λ q. (let w = below_was_set t (length t) s.literal (i, (let z = q in omega arith), sym (literal-push t s i (let z = q in omega arith)) ∙ e ∙ top q) in let n = m.not_true in absurd (cc)));
-  apart = λ i j h k e. two i j h (short k) (λ q. r.apart i j h q (ap opposite (sym (literal-push t s i (omega arith))) ∙ e ∙ literal-push t s j q))
+  once = λ i j h k e. two i j h (short k)
+      (λ q. r.once i j h q (sym (literal-push t s i (omega arith)) ∙ e ∙ literal-push t s j q))
+      (λ q. (let w = below_was_set t (length t) s.literal (
+        i,
+        (let z = q in omega arith),
+        sym (literal-push t s i (let z = q in omega arith)) ∙ e ∙ top q,
+      ) in let n = m.not_true in absurd (cc)));
+  apart = λ i j h k e. two i j h (short k)
+      (λ q. r.apart i j h q (ap opposite (sym (literal-push t s i (omega arith))) ∙ e ∙ literal-push t s j q))
       (λ q. (let w = below_was_set t (length t) (opposite s.literal) (
         i,
         (let z = q in omega arith),
-        sym (opposite-opposite (literal_at t i)) ∙ ap opposite (ap opposite (sym (literal-push t s i (let z = q in omega arith))) ∙ e ∙ top q),
+        sym (opposite-opposite (literal_at t i))
+            ∙ ap opposite (ap opposite (sym (literal-push t s i (let z = q in omega arith))) ∙ e ∙ top q),
       ) in let n = m.not_false in absurd (cc)));
   reasons = λ i k. why i (cases_lt i (length t)) (short k);
 }
@@ -104,13 +122,15 @@ trail_push held t s r m = record {
         at (inl q) = f q
         at (inr q) = g (omega arith)
 
-    why : (i : ℕ) → (i < length t) ⊎ (length t ≤ i) → i < length t + 1 → (reason_at (t ++ s ∷ []) i ≡ 0) ⊎ HasReason held (t ++ s ∷ []) i
+    why : (i : ℕ) → (i < length t) ⊎ (length t ≤ i) → i < length t + 1 → (reason_at (t ++ s ∷ []) i ≡ 0)
+        ⊎ HasReason held (t ++ s ∷ []) i
     why i (inl q) k = old (r.reasons i q)
       where
         same : get_or (t ++ s ∷ []) i no_step ≡ get_or t i no_step
         same = get-push_old t s i q
 
-        old : (reason_at t i ≡ 0) ⊎ HasReason held t i → (reason_at (t ++ s ∷ []) i ≡ 0) ⊎ HasReason held (t ++ s ∷ []) i
+        old : (reason_at t i ≡ 0) ⊎ HasReason held t i → (reason_at (t ++ s ∷ []) i ≡ 0)
+            ⊎ HasReason held (t ++ s ∷ []) i
         old (inl e) = inl (ap (λ (x : Step). x.reason) same ∙ e)
         old (inr w) = inr (record {
           clause = w.clause;
@@ -119,7 +139,8 @@ trail_push held t s r m = record {
           others = λ x h. other x (w.others x h);
         })
           where
-            other : (x : ℕ) → (x ≡ literal_at t i) ⊎ IsBelow t i (opposite x) → (x ≡ literal_at (t ++ s ∷ []) i) ⊎ IsBelow (t ++ s ∷ []) i (opposite x)
+            other : (x : ℕ) → (x ≡ literal_at t i) ⊎ IsBelow t i (opposite x)
+                → (x ≡ literal_at (t ++ s ∷ []) i) ⊎ IsBelow (t ++ s ∷ []) i (opposite x)
             other x (inl e) = inl (e ∙ sym (ap (λ (y : Step). y.literal) same))
             other x (inr b) = inr (below_push t s i (opposite x) (omega arith) b)
     why i (inr q) k = new m.because
@@ -141,17 +162,21 @@ trail_push held t s r m = record {
           others = λ x h. other x (w.3 x h);
         })
           where
-            other : (x : ℕ) → (x ≡ s.literal) ⊎ (was_set t (length t) (opposite x) ≡ true) → (x ≡ literal_at (t ++ s ∷ []) i) ⊎ IsBelow (t ++ s ∷ []) i (opposite x)
+            other : (x : ℕ) → (x ≡ s.literal) ⊎ (was_set t (length t) (opposite x) ≡ true)
+                → (x ≡ literal_at (t ++ s ∷ []) i) ⊎ IsBelow (t ++ s ∷ []) i (opposite x)
             other x (inl e) = inl (e ∙ sym (ap (λ (y : Step). y.literal) same))
             other x (inr b) = inr (subst (λ (n : ℕ). IsBelow (t ++ s ∷ []) n (opposite x)) (sym at_end)
                 (below_push t s (length t) (opposite x) (omega arith) (was_set_below t (length t) (opposite x) b)))
 
-pub all_set_push : (t : List Step) (s : Step) (l : ℕ) → was_set (t ++ s ∷ []) (length (t ++ s ∷ [])) l ≡ (eqb s.literal l || was_set t (length t) l)
+pub all_set_push : (t : List Step) (s : Step) (l : ℕ) → was_set (t ++ s ∷ []) (length (t ++ s ∷ [])) l
+    ≡ (eqb s.literal l || was_set t (length t) l)
 all_set_push t s l =
-    let n : length (t ++ s ∷ []) ≡ suc (length t) = length-append t (s ∷ []) ∙ (let e : length t + 1 ≡ suc (length t) = omega arith in e) in
+    let n : length (t ++ s ∷ []) ≡ suc (length t) =
+    length-append t (s ∷ []) ∙ (let e : length t + 1 ≡ suc (length t) = omega arith in e) in
     let a : literal_at (t ++ s ∷ []) (length t) ≡ s.literal = ap (λ (x : Step). x.literal) (get-push_new t s) in
     let b = was_set-push t s (length t) l (omega arith) in
-    ap (λ (k : ℕ). was_set (t ++ s ∷ []) k l) n ∙ ap (λ (x : ℕ). eqb x l || was_set (t ++ s ∷ []) (length t) l) a ∙ ap (λ (y : Bool). eqb s.literal l || y) b
+    ap (λ (k : ℕ). was_set (t ++ s ∷ []) k l) n ∙ ap (λ (x : ℕ). eqb x l || was_set (t ++ s ∷ []) (length t) l) a
+    ∙ ap (λ (y : Bool). eqb s.literal l || y) b
 
 -- a trail that is cut
 pub get-take : (t : List Step) (n i : ℕ) → i < n → get_or (take n t) i no_step ≡ get_or t i no_step
@@ -173,14 +198,16 @@ was_set-take t n (suc s) l h =
 pub trail_cut : (held : Held) (t : List Step) (n : ℕ) → IsTrail held t → IsTrail held (take n t)
 trail_cut held t n r = record {
   once = λ i j h k e. (let s = short-take t n j k in r.once i j h s.1 (sym (lit i (omega arith)) ∙ e ∙ lit j s.0));
-  apart = λ i j h k e. (let s = short-take t n j k in r.apart i j h s.1 (ap opposite (sym (lit i (omega arith))) ∙ e ∙ lit j s.0));
+  apart = λ i j h k e. (let s = short-take t n j k in
+      r.apart i j h s.1 (ap opposite (sym (lit i (omega arith))) ∙ e ∙ lit j s.0));
   reasons = λ i k. (let s = short-take t n i k in why i s.0 (r.reasons i s.1));
 }
   where
     lit : (i : ℕ) → i < n → literal_at (take n t) i ≡ literal_at t i
     lit i h = ap (λ (x : Step). x.literal) (get-take t n i h)
 
-    why : (i : ℕ) → i < n → (reason_at t i ≡ 0) ⊎ HasReason held t i → (reason_at (take n t) i ≡ 0) ⊎ HasReason held (take n t) i
+    why : (i : ℕ) → i < n → (reason_at t i ≡ 0) ⊎ HasReason held t i → (reason_at (take n t) i ≡ 0)
+        ⊎ HasReason held (take n t) i
     why i h (inl e) = inl (ap (λ (x : Step). x.reason) (get-take t n i h) ∙ e)
     why i h (inr w) = inr (record {
       clause = w.clause;
@@ -189,7 +216,8 @@ trail_cut held t n r = record {
       others = λ x m. other x (w.others x m);
     })
       where
-        other : (x : ℕ) → (x ≡ literal_at t i) ⊎ IsBelow t i (opposite x) → (x ≡ literal_at (take n t) i) ⊎ IsBelow (take n t) i (opposite x)
+        other : (x : ℕ) → (x ≡ literal_at t i) ⊎ IsBelow t i (opposite x) → (x ≡ literal_at (take n t) i)
+            ⊎ IsBelow (take n t) i (opposite x)
         other x (inl e) = inl (e ∙ sym (lit i h))
         other x (inr b) = inr (b.0, b.1, lit b.0 (let s = b.1 in omega arith) ∙ b.2)
 
@@ -205,13 +233,19 @@ once_push t s o n i j h k e = at (cases_lt j (length t))
     at (inr q) =
         let len : length (t ++ s ∷ []) ≡ length t + 1 = length-append t (s ∷ []) in
         let jn : j ≡ length t = omega arith in
-        let w = below_was_set t (length t) s.literal (i, omega arith, sym (literal-push t s i (omega arith)) ∙ e ∙ ap (literal_at (t ++ s ∷ [])) jn ∙ ap (λ (x : Step). x.literal) (get-push_new t s)) in
+        let w = below_was_set t (length t) s.literal (
+          i,
+          omega arith,
+          sym (literal-push t s i (omega arith)) ∙ e
+              ∙ ap (literal_at (t ++ s ∷ [])) jn ∙ ap (λ (x : Step). x.literal) (get-push_new t s),
+        ) in
         absurd (cc)
 
 pub once_take : (t : List Step) (n : ℕ) → HasNoTwice t → HasNoTwice (take n t)
 once_take t n o i j h k e =
     let s = short-take t n j k in
-    o i j h s.1 (sym (ap (λ (x : Step). x.literal) (get-take t n i (omega arith))) ∙ e ∙ ap (λ (x : Step). x.literal) (get-take t n j s.0))
+    o i j h s.1 (sym (ap (λ (x : Step). x.literal) (get-take t n i (omega arith))) ∙ e
+    ∙ ap (λ (x : Step). x.literal) (get-take t n j s.0))
 
 pub is_set-take : (t : List Step) (n l : ℕ) → n ≤ length t → is_set (take n t) l ≡ was_set t n l
 is_set-take t n l h =
@@ -221,12 +255,15 @@ is_set-take t n l h =
 -- the last step taken back
 pub is_set-pop : (t : List Step) (l : ℕ) → HasNoTwice t → 0 < length t
     → is_set (take (length t - 1) t) l ≡ cond (eqb l (literal_at t (length t - 1))) false (is_set t l)
-is_set-pop t l o h = is_set-take t (length t - 1) l (omega arith) ∙ at (length t - 1) (omega arith) (eqb l (literal_at t (length t - 1))) refl
+is_set-pop t l o h =
+    is_set-take t (length t - 1) l (omega arith)
+    ∙ at (length t - 1) (omega arith) (eqb l (literal_at t (length t - 1))) refl
   where
     whole : is_set t l ≡ (eqb (literal_at t (length t - 1)) l || was_set t (length t - 1) l)
     whole = ap (λ (k : ℕ). was_set t k l) (let e : length t ≡ suc (length t - 1) = omega arith in e)
 
-    at : (n : ℕ) → n < length t → (b : Bool) → eqb l (literal_at t (length t - 1)) ≡ b → was_set t (length t - 1) l ≡ cond b false (is_set t l)
+    at : (n : ℕ) → n < length t → (b : Bool) → eqb l (literal_at t (length t - 1)) ≡ b
+        → was_set t (length t - 1) l ≡ cond b false (is_set t l)
     at n k false e = let w = whole in grind (arith, common_steps, e, w)
     at n k true e = no (was_set t (length t - 1) l) refl
       where
@@ -237,7 +274,8 @@ is_set-pop t l o h = is_set-take t (length t - 1) l (omega arith) ∙ at (length
             let same : l ≡ literal_at t (length t - 1) = grind (arith, common_steps, e) in
             absurd (o w.0 (length t - 1) w.1 (omega arith) (w.2 ∙ same))
 
-pub marked-set : (m : List Bool) (o : ℕ) (b : Bool) (x : ℕ) → o < length m → get_or (set m o b) x false ≡ cond (eqb x o) b (get_or m x false)
+pub marked-set : (m : List Bool) (o : ℕ) (b : Bool) (x : ℕ) → o < length m
+    → get_or (set m o b) x false ≡ cond (eqb x o) b (get_or m x false)
 marked-set [] o b x h = absurd (omega arith)
 marked-set (y ∷ m) zero b zero h = grind (arith, common_steps)
 marked-set (y ∷ m) zero b (suc x) h = grind (arith, common_steps)
@@ -245,7 +283,8 @@ marked-set (y ∷ m) (suc o) b zero h = grind (arith, common_steps)
 marked-set (y ∷ m) (suc o) b (suc x) h = let r = marked-set m o b x (omega arith) in grind (arith, common_steps, r)
 
 -- the truth values behind one more step, and behind one less
-pub values_pushed : (values : List Bool) (t : List Step) (s : Step) → s.literal < length values → ((l : ℕ) → get_or values l false ≡ is_set t l)
+pub values_pushed : (values : List Bool) (t : List Step) (s : Step) → s.literal < length values
+    → ((l : ℕ) → get_or values l false ≡ is_set t l)
     → (l : ℕ) → get_or (set values s.literal true) l false ≡ is_set (t ++ s ∷ []) l
 values_pushed values t s h a l =
     let m = marked-set values s.literal true l h in
@@ -253,7 +292,8 @@ values_pushed values t s h a l =
     let al = a l in
     grind (arith, common_steps, m, p, al)
 
-pub values_popped : (values : List Bool) (t : List Step) → HasNoTwice t → 0 < length t → literal_at t (length t - 1) < length values
+pub values_popped : (values : List Bool) (t : List Step) → HasNoTwice t → 0 < length t
+    → literal_at t (length t - 1) < length values
     → ((l : ℕ) → get_or values l false ≡ is_set t l)
     → (l : ℕ) → get_or (set values (literal_at t (length t - 1)) false) l false ≡ is_set (take (length t - 1) t) l
 values_popped values t o h s a l =
@@ -270,17 +310,22 @@ small_push t s n a h i k = at (cases_lt i (length t))
     at (inl q) = rw (literal-push t s i q) (a i q)
     at (inr q) =
         let len : length (t ++ s ∷ []) ≡ length t + 1 = length-append t (s ∷ []) in
-        let e : literal_at (t ++ s ∷ []) i ≡ s.literal = ap (literal_at (t ++ s ∷ [])) (let q2 : i ≡ length t = omega arith in q2) ∙ ap (λ (x : Step). x.literal) (get-push_new t s) in
+        let e : literal_at (t ++ s ∷ []) i ≡ s.literal =
+        ap (literal_at (t ++ s ∷ [])) (let q2 : i ≡ length t = omega arith in q2)
+        ∙ ap (λ (x : Step). x.literal) (get-push_new t s) in
         rw e h
 
-pub small_take : (t : List Step) (k n : ℕ) → ((i : ℕ) → i < length t → literal_at t i < n) → (i : ℕ) → i < length (take k t) → literal_at (take k t) i < n
+pub small_take : (t : List Step) (k n : ℕ) → ((i : ℕ) → i < length t → literal_at t i < n) → (i : ℕ)
+    → i < length (take k t) → literal_at (take k t) i < n
 small_take t k n a i h =
     let s = short-take t k i h in
     let e : literal_at (take k t) i ≡ literal_at t i = ap (λ (x : Step). x.literal) (get-take t k i s.0) in
     rw e (a i s.1)
 
-pub step_small : (t : TrailValue) (steps : List Step) (place values places : ℕ) (s : Step) → steps ≡ t.steps → values ≡ t.size → values ≡ 2 * places
-    → ((i : ℕ) → i < length steps → literal_at steps i < values) → place < length t.steps → s ≡ get_or steps place s → (s.literal < t.size) × (opposite s.literal < t.size)
+pub step_small : (t : TrailValue) (steps : List Step) (place values places : ℕ) (s : Step) → steps ≡ t.steps
+    → values ≡ t.size → values ≡ 2 * places
+    → ((i : ℕ) → i < length steps → literal_at steps i < values) → place < length t.steps → s ≡ get_or steps place s
+    → (s.literal < t.size) × (opposite s.literal < t.size)
 step_small t steps place values places s es ez h small lt e =
     let lt2 : place < length steps = rw es lt in
     let sp : s ≡ get_or steps place no_step = grind (arith, common_steps, e, lt2) in

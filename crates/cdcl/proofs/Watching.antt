@@ -1,5 +1,6 @@
 -- What watching two literals shows.
-use Rattle.std.proofs.Common.{◌≡◌, ℕ, zero, suc, ◌+◌, ◌≤◌, ◌⊎◌, Bool, true, false, List, length, refl, arith, ap, sym, ◌∙◌, inl, inr, None}
+use Rattle.std.proofs.Common.{◌≡◌, ℕ, zero, suc, ◌+◌, ◌≤◌, ◌⊎◌, Bool, true, false, List, length, refl, arith, ap, sym}
+use Rattle.std.proofs.Common.{◌∙◌, inl, inr, None}
 use Rattle.cnf_base.specs.Literals.{opposite, member}
 use Rattle.lrat_log.specs.Held.{Held}
 use Rattle.lrat_log.specs.Learnt.{IsFalse, IsUnit, IsConsistent, IsQuiet, IsNew}
@@ -11,7 +12,8 @@ use Rattle.cdcl.proofs.Literals.{opposite-opposite}
 use Rattle.cdcl.proofs.Trails.{trail_consistent, was_set_below, below_was_set}
 
 -- a clause with a true literal is neither false nor unit
-true_quiet : (set : ℕ → Bool) (c : List ℕ) → IsConsistent set → HasTrue set c → (IsFalse set c → ⊥) × ((l : ℕ) → IsUnit set c l → ⊥)
+true_quiet : (set : ℕ → Bool) (c : List ℕ) → IsConsistent set → HasTrue set c
+    → (IsFalse set c → ⊥) × ((l : ℕ) → IsUnit set c l → ⊥)
 true_quiet set c k w = (
   (λ f. let a = f w.0 w.1 in let b = k w.0 w.2 in absurd (cc)),
   (λ l u. at l u (u.others_false w.0 w.1)),
@@ -29,7 +31,8 @@ watched_quiet set c p k w = (
   (λ l u. at l u (u.others_false p.first w.pair.first_stands) (u.others_false p.second w.pair.second_stands)),
 )
   where
-    at : (l : ℕ) → IsUnit set c l → (p.first ≡ l) ⊎ (set (opposite p.first) ≡ true) → (p.second ≡ l) ⊎ (set (opposite p.second) ≡ true) → ⊥
+    at : (l : ℕ) → IsUnit set c l → (p.first ≡ l) ⊎ (set (opposite p.first) ≡ true)
+        → (p.second ≡ l) ⊎ (set (opposite p.second) ≡ true) → ⊥
     at l u (inl e) (inl f) = w.pair.different (e ∙ sym f)
     at l u (inr e) f = (true_quiet set c k (w.first_false e)).1 l u
     at l u (inl e) (inr f) = (true_quiet set c k (w.second_false f)).1 l u
@@ -40,7 +43,8 @@ safe_quiet set c p k (inl w) = watched_quiet set c p k w
 safe_quiet set c p k (inr w) = true_quiet set c k w
 
 -- where all clauses are safe, none is false or unit
-pub all_quiet : (held : Held) (trail : List Step) (s : ℕ) (pairs : Pairs) → IsTrail held trail → held 0 ≡ None → s ≤ length trail
+pub all_quiet : (held : Held) (trail : List Step) (s : ℕ) (pairs : Pairs) → IsTrail held trail → held 0 ≡ None
+    → s ≤ length trail
     → AreSafe held (was_set trail s) (was_set trail s) pairs → IsQuiet held (was_set trail s)
 all_quiet held trail s pairs t z h a zero c e = absurd (let q = z in cc)
 all_quiet held trail s pairs t z h a (suc k) c e =
@@ -48,7 +52,8 @@ all_quiet held trail s pairs t z h a (suc k) c e =
     (a k c (ap held (let q : k + 1 ≡ suc k = omega arith in q) ∙ e))
 
 -- a clause whose literals but one are false below the top level is new
-pub learnt_is_new : (held : Held) (trail : List Step) (top u : ℕ) (ls : List ℕ) → IsTrail held trail → top ≤ length trail
+pub learnt_is_new : (held : Held) (trail : List Step) (top u : ℕ) (ls : List ℕ) → IsTrail held trail
+    → top ≤ length trail
     → IsQuiet held (was_set trail top) → member u ls ≡ true → IsFrom trail top (opposite u)
     → ((x : ℕ) → member x ls ≡ true → (x ≡ u) ⊎ IsBelow trail top (opposite x)) → IsNew held ls
 learnt_is_new held trail top u ls t h q m f o = (
@@ -58,7 +63,8 @@ learnt_is_new held trail top u ls t h q m f o = (
     u,
     record {
       stands = m;
-      not_true = no u (λ b. t.apart b.0 f.0 (let x = b.1 in let y = f.1 in omega arith) f.2 (ap opposite b.2 ∙ sym f.3));
+      not_true = no u
+          (λ b. t.apart b.0 f.0 (let x = b.1 in let y = f.1 in omega arith) f.2 (ap opposite b.2 ∙ sym f.3));
       not_false = no (opposite u) (λ b. t.once b.0 f.0 (let x = b.1 in let y = f.1 in omega arith) f.2 (b.2 ∙ sym f.3));
       others_false = λ x s. at x (o x s);
     },
@@ -87,7 +93,8 @@ pair_of l other = record { first = l; second = other }
 -- the front goes past p; front' is the front with p
 module _ (front front' set : ℕ → Bool) (p : ℕ) (more : (l : ℕ) → front' l ≡ true → (p ≡ l) ⊎ (front l ≡ true)) where
   -- a clause that does not watch the opposite of p
-  pub safe_elsewhere : (c : List ℕ) (w : Pair) → (IsPairOf c w → (w.first ≡ opposite p → ⊥) × (w.second ≡ opposite p → ⊥))
+  pub safe_elsewhere : (c : List ℕ) (w : Pair)
+      → (IsPairOf c w → (w.first ≡ opposite p → ⊥) × (w.second ≡ opposite p → ⊥))
       → IsSafe front set c w → IsSafe front' set c w
   safe_elsewhere c w n (inr t) = inr t
   safe_elsewhere c w n (inl b) = inl (record {
@@ -96,12 +103,14 @@ module _ (front front' set : ℕ → Bool) (p : ℕ) (more : (l : ℕ) → front
     second_false = λ h. one w.second (n b.pair).1 b.second_false (more (opposite w.second) h);
   })
     where
-      one : {G : Type 0} (x : ℕ) → (x ≡ opposite p → ⊥) → (front (opposite x) ≡ true → G) → (p ≡ opposite x) ⊎ (front (opposite x) ≡ true) → G
+      one : {G : Type 0} (x : ℕ) → (x ≡ opposite p → ⊥) → (front (opposite x) ≡ true → G)
+          → (p ≡ opposite x) ⊎ (front (opposite x) ≡ true) → G
       one x n g (inl e) = absurd (n (sym (opposite-opposite x) ∙ ap opposite (sym e)))
       one x n g (inr h) = g h
 
   -- another literal is watched in place of the opposite of p
-  pub safe_moves : (c : List ℕ) (w : Pair) (l other : ℕ) → IsPairOf c (pair_of l other) → Which w other → set (opposite l) ≡ false
+  pub safe_moves : (c : List ℕ) (w : Pair) (l other : ℕ) → IsPairOf c (pair_of l other) → Which w other
+      → set (opposite l) ≡ false
       → (other ≡ opposite p → ⊥) → ((x : ℕ) → front' x ≡ true → set x ≡ true)
       → IsSafe front set c w → IsSafe front' set c (pair_of l other)
   safe_moves c w l other i o u n inside (inr t) = inr t
@@ -117,7 +126,8 @@ module _ (front front' set : ℕ → Bool) (p : ℕ) (more : (l : ℕ) → front
       at (inr h) (inr q) = b.second_false (ap (λ (x : ℕ). front (opposite x)) (sym q) ∙ h)
 
 -- the same where the front stays
-pub safe_moves_before : (front set : ℕ → Bool) (c : List ℕ) (w : Pair) (l other : ℕ) → IsPairOf c (pair_of l other) → Which w other → front (opposite l) ≡ false
+pub safe_moves_before : (front set : ℕ → Bool) (c : List ℕ) (w : Pair) (l other : ℕ) → IsPairOf c (pair_of l other)
+    → Which w other → front (opposite l) ≡ false
     → IsSafe front set c w → IsSafe front set c (pair_of l other)
 safe_moves_before front set c w l other i o u (inr t) = inr t
 safe_moves_before front set c w l other i o u (inl b) = inl (record {
@@ -131,7 +141,8 @@ safe_moves_before front set c w l other i o u (inl b) = inl (record {
     at (inr q) h = b.second_false (ap (λ (x : ℕ). front (opposite x)) (sym q) ∙ h)
 
 -- a smaller front, and more literals that are set
-pub safe_more : (front front' set set' : ℕ → Bool) (c : List ℕ) (w : Pair) → ((l : ℕ) → front' l ≡ true → front l ≡ true)
+pub safe_more : (front front' set set' : ℕ → Bool) (c : List ℕ) (w : Pair)
+    → ((l : ℕ) → front' l ≡ true → front l ≡ true)
     → ((l : ℕ) → set l ≡ true → set' l ≡ true) → IsSafe front set c w → IsSafe front' set' c w
 safe_more front front' set set' c w a b (inr t) = inr (t.0, t.1, b t.0 t.2)
 safe_more front front' set set' c w a b (inl v) = inl (record {
@@ -141,7 +152,8 @@ safe_more front front' set set' c w a b (inl v) = inl (record {
 })
 
 -- a clause of which two literals are not false
-pub safe_open : (front set : ℕ → Bool) (c : List ℕ) (a b : ℕ) → IsPairOf c (pair_of a b) → front (opposite a) ≡ false → front (opposite b) ≡ false
+pub safe_open : (front set : ℕ → Bool) (c : List ℕ) (a b : ℕ) → IsPairOf c (pair_of a b) → front (opposite a) ≡ false
+    → front (opposite b) ≡ false
     → IsSafe front set c (pair_of a b)
 safe_open front set c a b i fa fb = inl (record {
   pair = i;
@@ -150,7 +162,8 @@ safe_open front set c a b i fa fb = inl (record {
 })
 
 -- where every literal is true or false, a safe clause has a true literal
-pub safe_satisfied : (set : ℕ → Bool) (c : List ℕ) (w : Pair) → ((l : ℕ) → member l c ≡ true → (set l ≡ true) ⊎ (set (opposite l) ≡ true))
+pub safe_satisfied : (set : ℕ → Bool) (c : List ℕ) (w : Pair)
+    → ((l : ℕ) → member l c ≡ true → (set l ≡ true) ⊎ (set (opposite l) ≡ true))
     → IsSafe set set c w → HasTrue set c
 safe_satisfied set c w full (inr t) = t
 safe_satisfied set c w full (inl v) = at (full w.first v.pair.first_stands)

@@ -1,5 +1,7 @@
 -- Clauses in one list of literals, one more of them, and one more entry.
-use Rattle.std.proofs.Common.{◌≡◌, ℕ, zero, suc, ◌+◌, ◌-◌, ◌<◌, ◌≤◌, not, Bool, true, false, List, [], ◌∷◌, ◌++◌, length, get_or, slice_get, map, slice_range, refl, arith, ap, sym, ◌∙◌, Some, None, cond, eqb, if◌then◌else◌}
+use Rattle.std.proofs.Common.{◌≡◌, ℕ, zero, suc, ◌+◌, ◌-◌, ◌<◌, ◌≤◌, not, Bool, true, false, List, [], ◌∷◌, ◌++◌}
+use Rattle.std.proofs.Common.{length, get_or, slice_get, map, slice_range, refl, arith, ap, sym, ◌∙◌, Some, None, cond}
+use Rattle.std.proofs.Common.{eqb, if◌then◌else◌}
 use Rattle.std.proofs.lemmas.Grind.{common_steps}
 use Rattle.cnf_base.specs.declared.cnf.Entry.{Entry}
 use Rattle.cnf_base.specs.declared.cnf.Entry.TheVariants.{Clause, True}
@@ -16,9 +18,11 @@ held_at es k =
     ap (λ (t : Bool). cond t None (slice_get es (k + 1 - 1))) a ∙ ap (slice_get es) b
 
 old_span : (xs ys : List ℕ) (s : Span) → IsWithin (length xs) s → entry_of_span (xs ++ ys) s ≡ entry_of_span xs s
-old_span xs ys s w = let e = slice_range-append xs ys s.start s.end w.0 w.1 in ap (λ (r : List ℕ). if s.is_true then True else Clause r) e
+old_span xs ys s w = let e = slice_range-append xs ys s.start s.end w.0 w.1 in
+    ap (λ (r : List ℕ). if s.is_true then True else Clause r) e
 
-pub spans_pushed : (xs c : List ℕ) (spans : List Span) (s : Span) → ((i : ℕ) (d : Span) → i < length spans → IsWithin (length xs) (get_or spans i d))
+pub spans_pushed : (xs c : List ℕ) (spans : List Span) (s : Span)
+    → ((i : ℕ) (d : Span) → i < length spans → IsWithin (length xs) (get_or spans i d))
     → s.start ≡ length xs → s.end ≡ length xs + length c → s.is_true ≡ false
     → map (entry_of_span (xs ++ c)) (spans ++ s ∷ []) ≡ map (entry_of_span xs) spans ++ Clause c ∷ []
 spans_pushed xs c [] s a e f t =
@@ -31,25 +35,34 @@ spans_pushed xs c (z ∷ spans) s a e f t =
     cc
 
 -- the entry with an id
-get_span : (xs : List ℕ) (spans : List Span) (k : ℕ) (s : Span) → k < length spans → s ≡ get_or spans k s → slice_get (map (entry_of_span xs) spans) k ≡ Some (entry_of_span xs s)
+get_span : (xs : List ℕ) (spans : List Span) (k : ℕ) (s : Span) → k < length spans → s ≡ get_or spans k s
+    → slice_get (map (entry_of_span xs) spans) k ≡ Some (entry_of_span xs s)
 get_span xs [] k s h e = absurd (omega arith)
 get_span xs (z ∷ spans) zero s h e = ap (λ (y : Span). Some (entry_of_span xs y)) (sym e)
 get_span xs (z ∷ spans) (suc k) s h e = get_span xs spans k s (omega arith) e
 
-pub span_held : (xs : List ℕ) (spans : List Span) (id : ℕ) (s : Span) → 0 < id → id ≤ length (map (entry_of_span xs) spans) → s ≡ get_or spans (id - 1) s → held_by (map (entry_of_span xs) spans) id ≡ Some (entry_of_span xs s)
+pub span_held : (xs : List ℕ) (spans : List Span) (id : ℕ) (s : Span) → 0 < id
+    → id ≤ length (map (entry_of_span xs) spans) → s ≡ get_or spans (id - 1) s
+    → held_by (map (entry_of_span xs) spans) id ≡ Some (entry_of_span xs s)
 span_held xs spans id s p h e =
     let n : length (map (entry_of_span xs) spans) ≡ length spans = grind (arith, common_steps) in
     let q : id ≡ id - 1 + 1 = omega arith in
-    ap (held_by (map (entry_of_span xs) spans)) q ∙ held_at (map (entry_of_span xs) spans) (id - 1) ∙ get_span xs spans (id - 1) s (omega arith) e
+    ap (held_by (map (entry_of_span xs) spans)) q ∙ held_at (map (entry_of_span xs) spans) (id - 1)
+    ∙ get_span xs spans (id - 1) s (omega arith) e
 
-pub clause_held : (es : List Entry) (xs : List ℕ) (id : ℕ) (s : Span) → held_by es id ≡ Some (entry_of_span xs s) → OnTrue (not s.is_true) ((x : List ℕ) × held_by es id ≡ Some (Clause x))
+pub clause_held : (es : List Entry) (xs : List ℕ) (id : ℕ) (s : Span) → held_by es id ≡ Some (entry_of_span xs s)
+    → OnTrue (not s.is_true) ((x : List ℕ) × held_by es id ≡ Some (Clause x))
 clause_held es xs id s h = at s.is_true refl
   where
     at : (b : Bool) → s.is_true ≡ b → OnTrue (not b) ((x : List ℕ) × held_by es id ≡ Some (Clause x))
     at true e = tt
-    at false e = (slice_range xs s.start s.end, h ∙ ap (λ (b : Bool). Some (if b then True else Clause (slice_range xs s.start s.end))) e)
+    at false e = (
+      slice_range xs s.start s.end,
+      h ∙ ap (λ (b : Bool). Some (if b then True else Clause (slice_range xs s.start s.end))) e,
+    )
 
-pub true_held : (es : List Entry) (xs : List ℕ) (id : ℕ) (s : Span) → held_by es id ≡ Some (entry_of_span xs s) → OnFalse (not s.is_true) (held_by es id ≡ Some True)
+pub true_held : (es : List Entry) (xs : List ℕ) (id : ℕ) (s : Span) → held_by es id ≡ Some (entry_of_span xs s)
+    → OnFalse (not s.is_true) (held_by es id ≡ Some True)
 true_held es xs id s h = at s.is_true refl
   where
     at : (b : Bool) → s.is_true ≡ b → OnFalse (not b) (held_by es id ≡ Some True)

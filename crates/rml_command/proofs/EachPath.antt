@@ -2,7 +2,8 @@
 use Rattle.std.proofs.Common.{◌≡◌, ℕ, zero, suc, Bool, true, false, cond, Some, List, [], ◌∷◌, ◌++◌, map, subst}
 use Rattle.std.specs.Prelude.{slice_get}
 use Rattle.std.specs.List.{AllByRecursion, flat_map}
-use Rattle.rml_command.specs.Trees.{PrimitiveTree, CommandTree, CommandTrees, prim, seq, choose, no_commands, command_then, EachPrimitive, EachPrimitiveOf}
+use Rattle.rml_command.specs.Trees.{PrimitiveTree, CommandTree, CommandTrees, prim, seq, choose, no_commands}
+use Rattle.rml_command.specs.Trees.{command_then, EachPrimitive, EachPrimitiveOf}
 use Rattle.rml_command.specs.Lists.{numbered}
 use Rattle.rml_command.specs.Paths.{has_abort, continued, paths_of, paths_in_turn, paths_of_each}
 use Rattle.rml_command.specs.Models.{ModelTree, EachBlock}
@@ -31,13 +32,16 @@ module _ (P : PrimitiveTree → Type 0) where
   all-under p [] h g = tt
   all-under p (q ∷ qs) h g = (path-append p q h g.0, all-under p qs h g.1)
 
-  either : (b : Bool) (p : List PrimitiveTree) (rest : List (List PrimitiveTree)) → Each p → All rest → All (cond b (p ∷ []) (map (λ q. p ++ q) rest))
+  either : (b : Bool) (p : List PrimitiveTree) (rest : List (List PrimitiveTree)) → Each p → All rest
+      → All (cond b (p ∷ []) (map (λ q. p ++ q) rest))
   either true p rest h g = (h, tt)
   either false p rest h g = all-under p rest h g
 
   all-continued : (ps rest : List (List PrimitiveTree)) → All ps → All rest → All (flat_map (continued rest) ps)
   all-continued [] rest h g = tt
-  all-continued (p ∷ ps) rest h g = all-append (continued rest p) (flat_map (continued rest) ps) (either (has_abort p) p rest h.0 g) (all-continued ps rest h.1 g)
+  all-continued (p ∷ ps) rest h g =
+      all-append (continued rest p) (flat_map (continued rest) ps) (either (has_abort p) p rest h.0 g)
+      (all-continued ps rest h.1 g)
 
   mutual
     pub each-path : (c : CommandTree) → EachPrimitive P c → All (paths_of c)
@@ -47,22 +51,26 @@ module _ (P : PrimitiveTree → Type 0) where
 
     each-path_in_turn : (cs : CommandTrees) → EachPrimitiveOf P cs → All (paths_in_turn cs)
     each-path_in_turn no_commands h = (tt, tt)
-    each-path_in_turn (command_then c cs) h = all-continued (paths_of c) (paths_in_turn cs) (each-path c h.0) (each-path_in_turn cs h.1)
+    each-path_in_turn (command_then c cs) h =
+        all-continued (paths_of c) (paths_in_turn cs) (each-path c h.0) (each-path_in_turn cs h.1)
 
     each-path_of_each : (cs : CommandTrees) → EachPrimitiveOf P cs → All (paths_of_each cs)
     each-path_of_each no_commands h = tt
-    each-path_of_each (command_then c cs) h = all-append (paths_of c) (paths_of_each cs) (each-path c h.0) (each-path_of_each cs h.1)
+    each-path_of_each (command_then c cs) h =
+        all-append (paths_of c) (paths_of_each cs) (each-path c h.0) (each-path_of_each cs h.1)
 
   one_of : (ps : List (List PrimitiveTree)) (k : ℕ) (p : List PrimitiveTree) → slice_get ps k ≡ Some p → All ps → Each p
   one_of [] k p is all = absurd (cc is)
   one_of (q ∷ ps) zero p is all = let e : q ≡ p = cc is in subst Each e all.0
   one_of (q ∷ ps) (suc k) p is all = one_of ps k p is all.1
 
-  one_numbered : (ps : List (List PrimitiveTree)) (n : ℕ) (p : List PrimitiveTree) → numbered ps n ≡ Some p → All ps → Each p
+  one_numbered : (ps : List (List PrimitiveTree)) (n : ℕ) (p : List PrimitiveTree) → numbered ps n ≡ Some p → All ps
+      → Each p
   one_numbered ps zero p is all = absurd (cc is)
   one_numbered ps (suc n) p is all = one_of ps n p is all
 
-  of_actions : (actions : List CommandTree) (k : ℕ) → AllByRecursion (EachPrimitive P) actions → All (paths_of_block (slice_get actions k))
+  of_actions : (actions : List CommandTree) (k : ℕ) → AllByRecursion (EachPrimitive P) actions
+      → All (paths_of_block (slice_get actions k))
   of_actions [] k h = tt
   of_actions (c ∷ cs) zero h = each-path c h.0
   of_actions (c ∷ cs) (suc k) h = of_actions cs k h.1
@@ -72,7 +80,8 @@ module _ (P : PrimitiveTree → Type 0) where
   of_stage m (stage.Action a) h = of_actions m.actions a h.actions
   of_stage m stage.Final h = each-path m.last h.last
 
-  pub of_goal : (m : ModelTree) (goal : Goal) (p : List PrimitiveTree) → EachBlock (EachPrimitive P) m → goal_path m goal ≡ Some p → Each p
+  pub of_goal : (m : ModelTree) (goal : Goal) (p : List PrimitiveTree) → EachBlock (EachPrimitive P) m
+      → goal_path m goal ≡ Some p → Each p
   of_goal m goal p h is = one_numbered (stage_paths m goal.stage) goal.path p is (of_stage m goal.stage h)
 
 pub goal_paths_fit : GoalPathsFit

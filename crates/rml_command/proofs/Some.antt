@@ -24,27 +24,33 @@ some_parts P (x ∷ xs) ys (inl h) = inl (inl h)
 some_parts P (x ∷ xs) ys (inr h) = elim (some_parts P xs ys h) [ inl a ↦ inl (inr a) | inr b ↦ inr b ]
 
 -- through each of the lists that f makes
-pub some_joined : {A B : Type 0} (P : B → Type 0) (f : A → List B) (xs : List A) → SomeOf (λ x. SomeOf P (f x)) xs → SomeOf P (flat_map f xs)
+pub some_joined : {A B : Type 0} (P : B → Type 0) (f : A → List B) (xs : List A) → SomeOf (λ x. SomeOf P (f x)) xs
+    → SomeOf P (flat_map f xs)
 some_joined P f [] h = absurd h
 some_joined P f (x ∷ xs) (inl h) = some_front P (f x) (flat_map f xs) h
 some_joined P f (x ∷ xs) (inr h) = some_back P (f x) (flat_map f xs) (some_joined P f xs h)
 
-pub some_split : {A B : Type 0} (P : B → Type 0) (f : A → List B) (xs : List A) → SomeOf P (flat_map f xs) → SomeOf (λ x. SomeOf P (f x)) xs
+pub some_split : {A B : Type 0} (P : B → Type 0) (f : A → List B) (xs : List A) → SomeOf P (flat_map f xs)
+    → SomeOf (λ x. SomeOf P (f x)) xs
 some_split P f [] h = absurd h
-some_split P f (x ∷ xs) h = elim (some_parts P (f x) (flat_map f xs) h) [ inl a ↦ inl a | inr b ↦ inr (some_split P f xs b) ]
+some_split P f (x ∷ xs) h =
+    elim (some_parts P (f x) (flat_map f xs) h) [ inl a ↦ inl a | inr b ↦ inr (some_split P f xs b) ]
 
-pub some_mapped : {A B : Type 0} (P : B → Type 0) (f : A → B) (xs : List A) → SomeOf (λ x. P (f x)) xs → SomeOf P (map f xs)
+pub some_mapped : {A B : Type 0} (P : B → Type 0) (f : A → B) (xs : List A) → SomeOf (λ x. P (f x)) xs
+    → SomeOf P (map f xs)
 some_mapped P f [] h = absurd h
 some_mapped P f (x ∷ xs) (inl h) = inl h
 some_mapped P f (x ∷ xs) (inr h) = inr (some_mapped P f xs h)
 
-pub some_unmapped : {A B : Type 0} (P : B → Type 0) (f : A → B) (xs : List A) → SomeOf P (map f xs) → SomeOf (λ x. P (f x)) xs
+pub some_unmapped : {A B : Type 0} (P : B → Type 0) (f : A → B) (xs : List A) → SomeOf P (map f xs)
+    → SomeOf (λ x. P (f x)) xs
 some_unmapped P f [] h = absurd h
 some_unmapped P f (x ∷ xs) (inl h) = inl h
 some_unmapped P f (x ∷ xs) (inr h) = inr (some_unmapped P f xs h)
 
 -- where it stands
-pub some_at : {A : Type 0} (P : A → Type 0) (xs : List A) → SomeOf P xs → (n : ℕ) × (x : A) × (slice_get xs n ≡ Some x) × P x
+pub some_at : {A : Type 0} (P : A → Type 0) (xs : List A) → SomeOf P xs → (n : ℕ) × (x : A) × (slice_get xs n ≡ Some x)
+    × P x
 some_at P [] h = absurd h
 some_at P (x ∷ xs) (inl h) = (0, x, refl, h)
 some_at P (x ∷ xs) (inr h) = let r = some_at P xs h in (suc r.0, r.1, r.2, r.3)

@@ -1,9 +1,11 @@
 -- A sentence is false exactly where some values for its leading quantifiers make its body false.
-use Rattle.std.proofs.Common.{◌≡◌, inl, inr, ℕ, zero, suc, ◌<◌, Bool, true, false, ◌&&◌, List, [], ◌∷◌, refl, ap, ◌∙◌, ⊎_elim, arith}
+use Rattle.std.proofs.Common.{◌≡◌, inl, inr, ℕ, zero, suc, ◌<◌, Bool, true, false, ◌&&◌, List, [], ◌∷◌, refl, ap, ◌∙◌}
+use Rattle.std.proofs.Common.{⊎_elim, arith}
 use Rattle.std.proofs.lemmas.Bool.{cases_lt, and_cases}
 use mathlib.Core.List.{reverse_aux}
 use Rattle.fol_sig.specs.Tables.{Tables, InRange, reading, size_at}
-use Rattle.fol_formula.specs.Syntax.{FormTree, top, bottom, rel, equal, negation, conjunction, disjunction, implication, equivalence, for_all, for_some}
+use Rattle.fol_formula.specs.Syntax.{FormTree, top, bottom, rel, equal, negation, conjunction, disjunction, implication}
+use Rattle.fol_formula.specs.Syntax.{equivalence, for_all, for_some}
 use Rattle.fol_formula.specs.Truth.{truth, all_below}
 use Rattle.rml_command.specs.Goals.{leading_sorts, body_of}
 use Rattle.rml_command.specs.Laws.{FalsehoodHasValues}
@@ -46,11 +48,13 @@ one_false zero x p lt h = absurd (omega arith)
 one_false (suc n) x p lt h =
     ⊎_elim
     (λ below. ap (λ b. b && p n) (one_false n x p below h))
-    (λ last. let e : n ≡ x = omega arith in ap (λ m. all_below n p && p m) e ∙ ap (λ b. all_below n p && b) h ∙ and_false (all_below n p))
+    (λ last. let e : n ≡ x = omega arith in
+    ap (λ m. all_below n p && p m) e ∙ ap (λ b. all_below n p && b) h ∙ and_false (all_below n p))
     (cases_lt x n)
 
 -- values that make the body false make the sentence false
-pub false_under : (s : Tables) (c : FormTree) (values env : List ℕ) → InRange s.sizes (leading_sorts c) values → truth (reading s) (body_of c) (reverse_aux values env) ≡ false → truth (reading s) c env ≡ false
+pub false_under : (s : Tables) (c : FormTree) (values env : List ℕ) → InRange s.sizes (leading_sorts c) values
+    → truth (reading s) (body_of c) (reverse_aux values env) ≡ false → truth (reading s) c env ≡ false
 false_under s (for_all k p) [] env h e = absurd h
 false_under s (for_all k p) (x ∷ xs) env h e =
     let inner = false_under s p xs (x ∷ env) h.1 e in
@@ -77,4 +81,7 @@ false_under s (for_some k p) [] env h e = e
 false_under s (for_some k p) (x ∷ xs) env h e = absurd h
 
 pub values_law : FalsehoodHasValues
-values_law s c = (λ e. (let v = falsified s c [] e in (v.values, record { in_range = v.in_range; body = v.body })), λ v. false_under s c v.0 [] v.1.in_range v.1.body)
+values_law s c = (
+  λ e. (let v = falsified s c [] e in (v.values, record { in_range = v.in_range; body = v.body })),
+  λ v. false_under s c v.0 [] v.1.in_range v.1.body,
+)

@@ -40,7 +40,8 @@ pub record CanStep (axioms : List FormTree) (q : PrimitiveTree) (s : Tables) : T
 
 -- a step to a structure of the same symbols, whatever comes behind it
 pub record MovesTo (axioms : List FormTree) (q : PrimitiveTree) (elements : List ℕ) (s new : Tables) : Type 0 where
-  pub onward : (qs : List PrimitiveTree) → follow_path axioms (q ∷ qs) elements s ≡ follow_path axioms qs (elements_after q elements) new
+  pub onward : (qs : List PrimitiveTree) → follow_path axioms (q ∷ qs) elements s
+      ≡ follow_path axioms qs (elements_after q elements) new
   pub fits : (sig : Symbols) → FitsStructure sig s → FitsStructure sig new
 
 abbrev pub StepsTo : List FormTree → PrimitiveTree → List ℕ → Tables → Followed → Type 0

@@ -28,7 +28,8 @@ pub fn follow(
 ) -> Mem<Followed>
     requires path { FitsPath (symbols checked.now.signature) path.now }
     requires structure { FitsStructure (symbols checked.now.signature) structure.now }
-    ensures outcome { IfOk result (λ f. outcome_of f ≡ follow_path checked.now.axioms path.now trace.now.havoc structure.now) }
+    ensures outcome { IfOk result
+        (λ f. outcome_of f ≡ follow_path checked.now.axioms path.now trace.now.havoc structure.now) }
     ensures fits { IfOk result (λ f. EndFits (symbols checked.now.signature) f) }
 {
     let model = checked.model();

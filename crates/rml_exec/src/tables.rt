@@ -8,7 +8,8 @@ ghost use Rattle.fol_formula.specs.Truth.{truth, value as value_of};
 ghost use Rattle.fol_formula.specs.Fits.{HasTruth, HasValue};
 ghost use Rattle.fol_eval.specs.Elements.{elements};
 ghost use Rattle.rml_command.specs.Trees.{set_rel, set_fun, havoc};
-ghost use Rattle.rml_command.specs.Outcomes.{set_relation as relation_set, set_function as function_set, set_variable as variable_set, range_of};
+ghost use Rattle.rml_command.specs.Outcomes.{set_relation as relation_set, set_function as function_set};
+ghost use Rattle.rml_command.specs.Outcomes.{set_variable as variable_set, range_of};
 ghost use Rattle.rml_exec.specs.Steps.{CanUpdate, AtEachTuple};
 
 use base::Mem;
@@ -82,7 +83,8 @@ fn fill_relation(
     cells: &mut Vec<bool>,
 ) -> Mem<()>
     requires { AtEachTuple structure.now (HasTruth structure.now (form by.now)) (numbers sorts.now) (elements env.now) }
-    ensures { OnOk result (cells.new.items ≡ cells.old.items ++ cells_from structure.now.sizes (λ tuple. truth (reading structure.now) (form by.now) tuple) (numbers sorts.now) (elements env.now)) }
+    ensures { OnOk result (cells.new.items ≡ cells.old.items ++ cells_from structure.now.sizes
+        (λ tuple. truth (reading structure.now) (form by.now) tuple) (numbers sorts.now) (elements env.now)) }
 {
     match sorts.split_first() {
         None => {
@@ -110,7 +112,8 @@ fn fill_function(
     cells: &mut Vec<u32>,
 ) -> Mem<()>
     requires { AtEachTuple structure.now (HasValue structure.now (term by.now)) (numbers sorts.now) (elements env.now) }
-    ensures { OnOk result (cells.new.items ≡ cells.old.items ++ cells_from structure.now.sizes (λ tuple. value_of (reading structure.now) (term by.now) tuple) (numbers sorts.now) (elements env.now)) }
+    ensures { OnOk result (cells.new.items ≡ cells.old.items ++ cells_from structure.now.sizes
+        (λ tuple. value_of (reading structure.now) (term by.now) tuple) (numbers sorts.now) (elements env.now)) }
 {
     match sorts.split_first() {
         None => {

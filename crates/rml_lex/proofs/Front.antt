@@ -26,7 +26,9 @@ some_sign (Some s) = tt
 some_front : (b : ℕ) (bytes : List ℕ) → IsSome (front_of (b ∷ bytes))
 some_front b bytes =
     either (is_letter b) _ _ (either (nat_lt 64 (prefix_len goes_on (b ∷ bytes))) _ _ tt tt)
-    (either (is_digit b) _ _ (either (nat_lt 9 (prefix_len is_digit (b ∷ bytes)) || nat_lt (prefix_len is_digit (b ∷ bytes)) (prefix_len goes_on (b ∷ bytes))) _ _ tt tt)
+    (either (is_digit b) _ _
+    (either (nat_lt 9 (prefix_len is_digit (b ∷ bytes))
+    || nat_lt (prefix_len is_digit (b ∷ bytes)) (prefix_len goes_on (b ∷ bytes))) _ _ tt tt)
     (some_sign (sign_at (b ∷ bytes))))
 
 pub nothing_left : (bytes : List ℕ) → front_of bytes ≡ front.End → bytes ≡ []

@@ -9,7 +9,8 @@ use Rattle.rml_report.specs.declared.report.Report.{Report}
 
 -- Where a right report says `inductive`, no run of the model aborts or breaks a conjecture.
 abbrev pub InductiveIsSafe : Type 0
-InductiveIsSafe = (m : ModelTree) (report : Report) → FitsModel m → Reports m report → report.verdict ≡ verdict.Inductive → Safe m
+InductiveIsSafe = (m : ModelTree) (report : Report) → FitsModel m → Reports m report
+    → report.verdict ≡ verdict.Inductive → Safe m
 
 -- A right report can be written out.
 abbrev pub RightCanBeRendered : Type 0

@@ -44,7 +44,8 @@ unfoldable pub path_line : ℕ → ℕ → List ℕ
 path_line path paths = codes "  path " ++ decimal path ++ codes " of " ++ decimal paths ++ codes "\n"
 
 unfoldable pub stopped_text : List ℕ → ℕ → Cause → List ℕ
-stopped_text sort size cause = labelled (codes "stopped ") sort (codes " ") ++ decimal size ++ codes " " ++ cause_text cause
+stopped_text sort size cause =
+    labelled (codes "stopped ") sort (codes " ") ++ decimal size ++ codes " " ++ cause_text cause
 
 abbrev pub least_text : Names → Least → List ℕ
 least_text names least.Yes = codes "yes"
@@ -68,7 +69,8 @@ end_tables names (Some aborted) = []
 end_tables names (Some (ended s)) = tables_text names s
 
 unfoldable pub end_text : ModelTree → Counterexample → List ℕ
-end_text m shown = codes "  after\n" ++ end_tables m.names (outcome_of m shown) ++ numbers_line (codes "  values:") shown.values
+end_text m shown =
+    codes "  after\n" ++ end_tables m.names (outcome_of m shown) ++ numbers_line (codes "  values:") shown.values
 
 -- how the shown path ends
 abbrev pub outcome_text : ModelTree → About → Counterexample → List ℕ

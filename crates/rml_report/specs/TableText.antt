@@ -11,7 +11,8 @@ use Rattle.rml_report.specs.declared.tables.Symbol.TheVariants as symbol
 -- the texts of the tuples of these sorts, in lexicographic order, each behind the elements `before`
 abbrev pub each_tuple : List ℕ → (List ℕ → List ℕ) → List ℕ → List ℕ → List ℕ
 each_tuple sizes text [] before = text before
-each_tuple sizes text (k ∷ ks) before = join_below (slice_index sizes k) (λ x. each_tuple sizes text ks (before ++ x ∷ []))
+each_tuple sizes text (k ∷ ks) before =
+    join_below (slice_index sizes k) (λ x. each_tuple sizes text ks (before ++ x ∷ []))
 
 -- a comma and each number
 unfoldable pub more_text : List ℕ → List ℕ
@@ -49,7 +50,8 @@ values_text s q (k ∷ ks) = each_tuple s.sizes (cell_text s q) (k ∷ ks) []
 abbrev pub symbol_label : Names → Symbol → List ℕ → List ℕ
 symbol_label names (symbol.Relation r) ks = labelled (codes "    relation ") (name_at names.relations r.0) (codes ":")
 symbol_label names (symbol.Function f) [] = labelled (codes "    variable ") (name_at names.functions f.0) (codes ":")
-symbol_label names (symbol.Function f) (k ∷ ks) = labelled (codes "    function ") (name_at names.functions f.0) (codes ":")
+symbol_label names (symbol.Function f) (k ∷ ks) =
+    labelled (codes "    function ") (name_at names.functions f.0) (codes ":")
 
 unfoldable pub symbol_line : Names → Tables → Symbol → List ℕ
 symbol_line names s q = symbol_label names q (arguments_of s q) ++ values_text s q (arguments_of s q) ++ codes "\n"
@@ -62,7 +64,8 @@ function_line names s f = symbol_line names s (symbol.Function (record { 0 = f }
 
 -- each relation, then each function and variable
 unfoldable pub tables_text : Names → Tables → List ℕ
-tables_text names s = join_below (length s.relations) (relation_line names s) ++ join_below (length s.functions) (function_line names s)
+tables_text names s =
+    join_below (length s.relations) (relation_line names s) ++ join_below (length s.functions) (function_line names s)
 
 unfoldable pub sort_line : Names → ℕ → ℕ → List ℕ
 sort_line names k size = labelled (codes "    sort ") (name_at names.sorts k) (codes " ") ++ decimal size ++ codes "\n"
@@ -83,4 +86,5 @@ HasSymbol s (symbol.Function f) = f.0 < length s.functions
 -- each sort is one of these sizes, and P is so of each tuple of them behind these elements
 abbrev pub EachTuple : List ℕ → (List ℕ → Type 0) → List ℕ → List ℕ → Type 0
 EachTuple sizes P [] before = P before
-EachTuple sizes P (k ∷ ks) before = (k < length sizes) × ((x : ℕ) → x < slice_index sizes k → EachTuple sizes P ks (before ++ x ∷ []))
+EachTuple sizes P (k ∷ ks) before =
+    (k < length sizes) × ((x : ℕ) → x < slice_index sizes k → EachTuple sizes P ks (before ++ x ∷ []))

@@ -2,7 +2,8 @@
 ghost use Rattle.std.specs.Prelude.{◌≡◌, ◌++◌, OnOk};
 ghost use Rattle.rml_report.specs.Reports.{IsRefutation};
 ghost use Rattle.rml_report.specs.Words.{name_at};
-ghost use Rattle.rml_report.specs.ReportText.{path_line, stopped_text, least_text, least_line, outcome_of, end_tables, end_text, outcome_text, block_text};
+ghost use Rattle.rml_report.specs.ReportText.{path_line, stopped_text, least_text, least_line, outcome_of, end_tables};
+ghost use Rattle.rml_report.specs.ReportText.{end_text, outcome_text, block_text};
 
 use crate::cause::{Cause, Least};
 use crate::tables::{push_sorts, push_tables};
@@ -36,7 +37,8 @@ fn push_stopped(
     size: u64,
     cause: &Cause,
 ) -> Mem<()>
-    ensures { OnOk result (out.new.items ≡ out.old.items ++ stopped_text (name_at names.now.sorts sort.0) size cause.now) }
+    ensures { OnOk result
+        (out.new.items ≡ out.old.items ++ stopped_text (name_at names.now.sorts sort.0) size cause.now) }
 {
     push_labelled(out, "stopped ", names.sorts.as_slice(), sort.0, " ")?;
     push_number(alloc, out, size)?;
@@ -74,7 +76,8 @@ fn push_end_tables(
     shown: &Counterexample,
 ) -> Mem<()>
     requires { IsRefutation checked.now shown.now }
-    ensures { OnOk result (out.new.items ≡ out.old.items ++ end_tables checked.now.names (outcome_of checked.now shown.now)) }
+    ensures { OnOk result
+        (out.new.items ≡ out.old.items ++ end_tables checked.now.names (outcome_of checked.now shown.now)) }
 {
     let path = checked.path(&shown.goal);
     match follow(alloc, checked, &path, &shown.trace, &shown.structure)? {

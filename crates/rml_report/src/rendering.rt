@@ -2,7 +2,8 @@
 ghost use Rattle.std.specs.Prelude.{◌≡◌, ◌++◌, OnOk, IfOk};
 ghost use Rattle.std.specs.List.{AllByRecursion, flat_map};
 ghost use Rattle.rml_report.specs.Reports.{ShowsRefutation, CanRender};
-ghost use Rattle.rml_report.specs.ReportText.{stage_text, about_text, head_text, undecided_text, answer_text, group_text, open_text, axioms_text, verdict_text, report_text};
+ghost use Rattle.rml_report.specs.ReportText.{stage_text, about_text, head_text, undecided_text, answer_text};
+ghost use Rattle.rml_report.specs.ReportText.{group_text, open_text, axioms_text, verdict_text, report_text};
 
 use crate::block::push_block;
 use crate::cause::Cause;

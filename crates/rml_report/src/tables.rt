@@ -4,7 +4,10 @@ ghost use Rattle.fol_sig.specs.Tables.{IsStructure, numbers};
 ghost use Rattle.fol_sig.specs.Symbols.{FitsStructure, symbols};
 ghost use Rattle.fol_sig.specs.Tuples.{join_below};
 ghost use Rattle.rml_report.specs.Words.{name_at};
-ghost use Rattle.rml_report.specs.TableText.{each_tuple, more_text, listed_text, tuple_text, cell_text, value_text, arguments_of, values_text, symbol_label, symbol_line, relation_line, function_line, tables_text, sort_line, sorts_text, IsCell, HasSymbol, EachTuple};
+ghost use Rattle.rml_report.specs.TableText.{each_tuple, more_text, listed_text, tuple_text, cell_text, value_text};
+ghost use Rattle.rml_report.specs.TableText.{arguments_of, values_text, symbol_label, symbol_line, relation_line};
+ghost use Rattle.rml_report.specs.TableText.{function_line, tables_text, sort_line, sorts_text, IsCell, HasSymbol};
+ghost use Rattle.rml_report.specs.TableText.{EachTuple};
 
 use crate::words::{push_labelled, push_number, push_text, push_truth};
 use base::Mem;
@@ -106,7 +109,9 @@ fn push_cells(
     tuple: &mut Vec<u32>,
 ) -> Mem<()>
     requires { EachTuple structure.now.sizes (IsCell structure.now symbol) (numbers sorts.now) tuple.old.items }
-    ensures text { OnOk result (out.new.items ≡ out.old.items ++ each_tuple structure.now.sizes (cell_text structure.now symbol) (numbers sorts.now) tuple.old.items) }
+    ensures text { OnOk result
+        (out.new.items ≡ out.old.items ++ each_tuple structure.now.sizes (cell_text structure.now symbol)
+        (numbers sorts.now) tuple.old.items) }
     ensures tuple { OnOk result (tuple.new.items ≡ tuple.old.items) }
 {
     match sorts.split_first() {

@@ -8,7 +8,9 @@ pub add_entry-requires-clause-entry : goal.add_entry-requires-clause-entry
 add_entry-requires-clause-entry c =
     let es : List Entry = c.clauses-entries.result.now in
     let lt : c.loop-entry.entry-index < length es = omega arith in
-    entry_ready c.args.cnf.now es c.loop-entry.entry-index c.greatest_variable-greatest.result c.loop-entry.search.state.trail.size c.entry-item.result c.clauses-entries.ensures.value c.clauses-entries.ensures.formula lt
+    entry_ready c.args.cnf.now es c.loop-entry.entry-index c.greatest_variable-greatest.result
+    c.loop-entry.search.state.trail.size c.entry-item.result c.clauses-entries.ensures.value
+    c.clauses-entries.ensures.formula lt
     c.entry-item.is c.greatest_variable-greatest.ensures.up_to c.loop-entry.invariant.size
 
 pub returns-in-Some-clause-loaded : goal.returns-in-Some-clause-loaded
@@ -17,6 +19,11 @@ returns-in-Some-clause-loaded c =
     let i = c.loop-entry.entry-index in
     let lt : i < length es = omega arith in
     let held = c.refute.new.self.state.clauses in
-    let q : held ≡ take i es ++ c.entry-item.result ∷ [] = ap (λ (s : State). s.clauses) c.in_ok-hints-in-Some.ensures.same ∙ c.in_ok-id.ensures.clauses ∙ ap (λ (x : List Entry). x ++ c.entry-item.result ∷ []) c.loop-entry.invariant.clauses in
-    let t : held ≡ take (i + 1) c.args.cnf.now.clauses = taken_more es held i c.entry-item.result lt c.entry-item.is q ∙ ap (take (i + 1)) c.clauses-entries.ensures.value in
-    resolvent_taken c.args.cnf.now.clauses held (i + 1) [] c.in_ok-hints-in-Some.hints.items t c.in_ok-hints-in-Some.ensures.resolvent
+    let q : held ≡ take i es ++ c.entry-item.result ∷ [] =
+    ap (λ (s : State). s.clauses) c.in_ok-hints-in-Some.ensures.same ∙ c.in_ok-id.ensures.clauses
+    ∙ ap (λ (x : List Entry). x ++ c.entry-item.result ∷ []) c.loop-entry.invariant.clauses in
+    let t : held ≡ take (i + 1) c.args.cnf.now.clauses =
+    taken_more es held i c.entry-item.result lt c.entry-item.is q
+    ∙ ap (take (i + 1)) c.clauses-entries.ensures.value in
+    resolvent_taken c.args.cnf.now.clauses held (i + 1) [] c.in_ok-hints-in-Some.hints.items t
+    c.in_ok-hints-in-Some.ensures.resolvent

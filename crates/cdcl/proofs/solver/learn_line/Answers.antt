@@ -21,7 +21,9 @@ take-requires-clause-range g c =
     let logged : IsLogged f es lines = rw c.solver.view_is c.requires.logged in
     let id : c.args.id ≡ length es + 1 = (let a = c.requires.id in let e = logged.count in omega arith) in
     let few : length es < 2147483647 = (let a = c.requires.room in let e = logged.count in omega arith) in
-    rw c.line_of.ensures (resolvent_line laws f es lines c.args.id logged id few w.literals.items (reverse w.hints.items) c.in_ok-learnt.ensures.learnt.resolvent)
+    rw c.line_of.ensures
+    (resolvent_line laws f es lines c.args.id logged id few w.literals.items (reverse w.hints.items)
+    c.in_ok-learnt.ensures.learnt.resolvent)
 
 pub take-requires-clause-accepted : goal.take-requires-clause-accepted
 take-requires-clause-accepted g c =
@@ -39,8 +41,10 @@ take-requires-clause-accepted g c =
     let logged : IsLogged f es lines = rw c.solver.view_is c.requires.logged in
     let id : c.args.id ≡ length es + 1 = (let a = c.requires.id in let e = logged.count in omega arith) in
     let few : length es < 2147483647 = (let a = c.requires.room in let e = logged.count in omega arith) in
-    rw c.line_of.ensures (c.learnt_laws.ensures.resolvent (after_lines (held_of f) lines) w.literals.items (reverse w.hints.items)
-    (resolvent_after laws f es lines c.args.id logged id few w.literals.items (reverse w.hints.items) c.in_ok-learnt.ensures.learnt.resolvent))
+    rw c.line_of.ensures
+    (c.learnt_laws.ensures.resolvent (after_lines (held_of f) lines) w.literals.items (reverse w.hints.items)
+    (resolvent_after laws f es lines c.args.id logged id few w.literals.items (reverse w.hints.items)
+    c.in_ok-learnt.ensures.learnt.resolvent))
 
 pub returns-clause-logged : goal.returns-clause-logged
 returns-clause-logged g c =
@@ -59,7 +63,8 @@ returns-clause-logged g c =
     let id : c.args.id ≡ length es + 1 = (let a = c.requires.id in let e = logged.count in omega arith) in
     let few : length es < 2147483647 = (let a = c.requires.room in let e = logged.count in omega arith) in
     rw (c.in_ok-take.ensures.taken, c.line_of.ensures, c.in_ok-restart.ensures.clauses)
-    (logged_push laws f es lines c.args.id logged id few c.learn.new.self.state.clauses w.literals.items (reverse w.hints.items) c.in_ok-learnt.ensures.clauses c.in_ok-learnt.ensures.learnt)
+    (logged_push laws f es lines c.args.id logged id few c.learn.new.self.state.clauses w.literals.items
+    (reverse w.hints.items) c.in_ok-learnt.ensures.clauses c.in_ok-learnt.ensures.learnt)
 
 pub returns-clause-count : goal.returns-clause-count
 returns-clause-count g c =

@@ -42,7 +42,8 @@ take-requires-clause-accepted g c =
     let few : length es < 2147483647 = (let a = c.requires.room in let e = logged.count in omega arith) in
     let line = resolvent_line laws f es lines c.args.id logged id few [] hints c.requires.logged.2 in
     rw (c.new.ensures, c.from_vec.ensures)
-    (c.learnt_laws.ensures.resolvent (after_lines (held_of f) lines) [] hints (resolvent_after laws f es lines c.args.id logged id few [] hints c.requires.logged.2))
+    (c.learnt_laws.ensures.resolvent (after_lines (held_of f) lines) [] hints
+    (resolvent_after laws f es lines c.args.id logged id few [] hints c.requires.logged.2))
 
 pub returns-clause-refuted : goal.returns-clause-refuted
 returns-clause-refuted g c =
@@ -62,8 +63,10 @@ returns-clause-refuted g c =
     let few : length es < 2147483647 = (let a = c.requires.room in let e = logged.count in omega arith) in
     let line = resolvent_line laws f es lines c.args.id logged id few [] hints c.requires.logged.2 in
     rw (c.in_ok-take.ensures.taken, c.new.ensures, c.from_vec.ensures)
-    (refutation laws f es lines c.args.id logged id few hints c.requires.logged.2 (c.learnt_laws.ensures.log f lines logged.learnt)
-    (c.learnt_laws.ensures.resolvent (after_lines (held_of f) lines) [] hints (resolvent_after laws f es lines c.args.id logged id few [] hints c.requires.logged.2)))
+    (refutation laws f es lines c.args.id logged id few hints c.requires.logged.2
+    (c.learnt_laws.ensures.log f lines logged.learnt)
+    (c.learnt_laws.ensures.resolvent (after_lines (held_of f) lines) [] hints
+    (resolvent_after laws f es lines c.args.id logged id few [] hints c.requires.logged.2)))
 
 pub returns-clause-range : goal.returns-clause-range
 returns-clause-range g c =
@@ -82,4 +85,5 @@ returns-clause-range g c =
     let id : c.args.id ≡ length es + 1 = (let a = c.requires.id in let e = logged.count in omega arith) in
     let few : length es < 2147483647 = (let a = c.requires.room in let e = logged.count in omega arith) in
     let line = resolvent_line laws f es lines c.args.id logged id few [] hints c.requires.logged.2 in
-    rw (c.in_ok-take.ensures.taken, c.new.ensures, c.from_vec.ensures) (laws.log f.variables (length f.clauses) lines (Add c.args.id [] hints) logged.log line)
+    rw (c.in_ok-take.ensures.taken, c.new.ensures, c.from_vec.ensures)
+    (laws.log f.variables (length f.clauses) lines (Add c.args.id [] hints) logged.log line)

@@ -12,8 +12,13 @@ pub refute-requires-clause-logged : goal.refute-requires-clause-logged
 refute-requires-clause-logged g c =
     let f = g.S.Sink.formula c.args.sink.now in
     let loaded = rw c.in-Refuted.is at c.in_ok-solver.ensures.loaded in
-    let resolvent = subst (λ (x : Formula). IsResolvent (held_of x) [] c.in-Refuted.hints.items) c.formula-2.ensures loaded in
-    (f.clauses, rw c.requires.begins (logged_begins f f.clauses refl (subst IsFormula c.formula-2.ensures c.in_ok-solver.ensures.formula)), resolvent)
+    let resolvent =
+    subst (λ (x : Formula). IsResolvent (held_of x) [] c.in-Refuted.hints.items) c.formula-2.ensures loaded in (
+      f.clauses,
+      rw c.requires.begins
+          (logged_begins f f.clauses refl (subst IsFormula c.formula-2.ensures c.in_ok-solver.ensures.formula)),
+      resolvent,
+    )
 
 pub loop-spent-init : goal.loop-spent-init
 loop-spent-init g c =
@@ -23,7 +28,8 @@ loop-spent-init g c =
     let same : es ≡ f.clauses = loaded ∙ ap (λ (x : Formula). x.clauses) c.formula-2.ensures in
     record {
       formula = refl;
-      logged = rw c.requires.begins (logged_begins f es same (subst IsFormula c.formula-2.ensures c.in_ok-solver.ensures.formula));
+      logged = rw c.requires.begins
+          (logged_begins f es same (subst IsFormula c.formula-2.ensures c.in_ok-solver.ensures.formula));
       count = ap length c.requires.begins;
       most = omega arith;
     }
@@ -41,5 +47,7 @@ returns-then-spent-budget-clause-answer g c =
       exact = c.loop-spent.invariant.count ∙ c.if-spent-budget.true;
       learnt = logged.learnt;
       accepted = c.learnt_laws.ensures.log f lines logged.learnt;
-      unrefuted = unrefuted f s lines c.stopped.invariant some (subst (λ (es : List Entry). IsLogged f es lines) (sym same) logged);
+      unrefuted =
+          unrefuted f s lines c.stopped.invariant some
+          (subst (λ (es : List Entry). IsLogged f es lines) (sym same) logged);
     }

@@ -6,7 +6,8 @@ abbrev pub invariant-loop-rest : goal.invariant-loop-rest
 invariant-loop-rest l = record {
   least : l.least ≤ l.greatest;
   range : l.greatest < 2 ^ 31;
-  goes_on : (n : ℕ) → l.greatest ≤ n → ((x : ℕ) → member x l.rest ≡ true → variable_of x ≤ n) → (x : ℕ) → member x l.clause ≡ true → variable_of x ≤ n;
+  goes_on : (n : ℕ) → l.greatest ≤ n → ((x : ℕ) → member x l.rest ≡ true → variable_of x ≤ n) → (x : ℕ)
+      → member x l.clause ≡ true → variable_of x ≤ n;
 }
 
 abbrev pub decreases-loop-rest : goal.decreases-loop-rest

@@ -11,7 +11,8 @@ more n false e never = absurd (never (ltb-false 4096 n e))
 pub returns-then-not-has_few_paths-clause-many : goal.returns-then-not-has_few_paths-clause-many
 returns-then-not-has_few_paths-clause-many c =
     let n = length (paths_of (command c.args.command.now)) in
-    more n (nat_lt 4096 n) refl (λ le. let has : true ≡ false = sym (c.has_few_paths.ensures.1 le) ∙ c.if-not-has_few_paths.true in cc)
+    more n (nat_lt 4096 n) refl (λ le. let has : true ≡ false = sym (c.has_few_paths.ensures.1 le)
+    ∙ c.if-not-has_few_paths.true in cc)
 
 pub returns-clause-few : goal.returns-clause-few
 returns-clause-few c = c.has_few_paths.ensures.0 c.if-not-has_few_paths.false

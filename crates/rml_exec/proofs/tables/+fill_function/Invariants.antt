@@ -12,4 +12,6 @@ decreases-fill_function l = length l.sorts.now
 
 abbrev pub invariant-loop-element : goal.invariant-loop-element
 invariant-loop-element l =
-    l.cells.items ≡ l.initial.cells.items ++ join_below l.element (λ x. cells_from l.structure.sizes (λ tuple. value (reading l.structure) (term l.by) tuple) (numbers l.rest) (x ∷ elements l.env))
+    l.cells.items ≡ l.initial.cells.items ++ join_below l.element
+    (λ x. cells_from l.structure.sizes (λ tuple. value (reading l.structure) (term l.by) tuple) (numbers l.rest)
+    (x ∷ elements l.env))

@@ -7,7 +7,8 @@ use Rattle.rml_report.proofs.rendering.push_groups.Given as goal
 abbrev pub invariant-loop-rest : goal.invariant-loop-rest
 invariant-loop-rest l = record {
   can : AllByRecursion (CanRender l.checked) l.rest;
-  text : l.out.items ++ flat_map (group_text l.checked) l.rest ≡ l.fn.out.items ++ flat_map (group_text l.checked) l.groups;
+  text : l.out.items ++ flat_map (group_text l.checked) l.rest ≡ l.fn.out.items
+      ++ flat_map (group_text l.checked) l.groups;
 }
 
 abbrev pub decreases-loop-rest : goal.decreases-loop-rest

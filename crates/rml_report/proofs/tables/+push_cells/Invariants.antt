@@ -9,6 +9,8 @@ decreases-push_cells l = length l.sorts.now
 
 abbrev pub invariant-loop-element : goal.invariant-loop-element
 invariant-loop-element l = record {
-  text : l.out.items ≡ l.initial.out.items ++ join_below l.element (λ x. each_tuple l.structure.sizes (cell_text l.structure l.symbol) (numbers l.rest) (l.initial.tuple.items ++ x ∷ []));
+  text : l.out.items ≡ l.initial.out.items ++ join_below l.element
+      (λ x. each_tuple l.structure.sizes (cell_text l.structure l.symbol) (numbers l.rest)
+      (l.initial.tuple.items ++ x ∷ []));
   tuple : l.tuple.items ≡ l.initial.tuple.items;
 }

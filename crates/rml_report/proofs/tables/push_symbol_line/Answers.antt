@@ -5,5 +5,6 @@ use Rattle.rml_report.proofs.tables.push_symbol_line.Goals as goal
 
 pub push_values-requires : goal.push_values-requires
 push_values-requires c =
-    subst (λ ks. EachTuple c.args.structure.now.sizes (IsCell c.args.structure.now c.args.symbol) ks []) (sym c.arguments-sorts.ensures)
+    subst (λ ks. EachTuple c.args.structure.now.sizes (IsCell c.args.structure.now c.args.symbol) ks [])
+    (sym c.arguments-sorts.ensures)
     (each_cell c.args.structure.now c.args.symbol c.requires.whole c.requires.known)

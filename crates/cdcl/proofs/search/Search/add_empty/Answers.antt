@@ -13,9 +13,15 @@ returns-clause-refuted c =
     let r = c.requires.root in
     let i = c.in_ok-add.ensures in
     record {
-      state = false_state a.state b (Clause c.args.clause.now) (record { first = c.positive-literal.result; second = c.positive-literal.result }) a.starts.items a.head r.solver.search r.starts r.head i.clauses i.added c.requires.room i.trail (empty_small c.args.clause.now a.state.trail.size c.requires.empty);
+      state = false_state a.state b (Clause c.args.clause.now)
+          (record { first = c.positive-literal.result; second = c.positive-literal.result }) a.starts.items a.head
+          r.solver.search r.starts r.head i.clauses i.added c.requires.room i.trail
+          (empty_small c.args.clause.now a.state.trail.size c.requires.empty);
       marked = r.solver.marked ∙ sym (ap (λ (t : TrailValue). t.size) i.trail);
       clear = r.solver.clear;
-      conflict = subst (λ (n : ℕ). IsConflict (held_in b) b.trail.steps (n + 1)) (sym c.len.ensures) (empty_conflict a.state b c.args.clause.now i.clauses c.requires.empty);
-      forced = false_forced a.state b (Clause c.args.clause.now) (record { first = c.positive-literal.result; second = c.positive-literal.result }) a.starts.items a.head r.solver.search r.starts r.head i.clauses i.added c.requires.room i.trail;
+      conflict = subst (λ (n : ℕ). IsConflict (held_in b) b.trail.steps (n + 1)) (sym c.len.ensures)
+          (empty_conflict a.state b c.args.clause.now i.clauses c.requires.empty);
+      forced = false_forced a.state b (Clause c.args.clause.now)
+          (record { first = c.positive-literal.result; second = c.positive-literal.result }) a.starts.items a.head
+          r.solver.search r.starts r.head i.clauses i.added c.requires.room i.trail;
     }

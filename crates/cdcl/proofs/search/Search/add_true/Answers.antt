@@ -13,7 +13,8 @@ returns-clause-root c =
     let size = ap (λ (t : TrailValue). t.size) i.trail in
     record {
       solver = record {
-        search = entry_added a.state b True (record { first = 2; second = 2 }) a.starts.items a.head r.solver.search r.starts r.head i.clauses i.added c.requires.room i.trail
+        search = entry_added a.state b True (record { first = 2; second = 2 }) a.starts.items a.head r.solver.search
+            r.starts r.head i.clauses i.added c.requires.room i.trail
             (λ d q. absurd (true_is_no_clause d q)) (λ d q. absurd (true_is_no_clause d q)) (λ n. absurd (n refl));
         marked = r.solver.marked ∙ sym size;
         clear = r.solver.clear;

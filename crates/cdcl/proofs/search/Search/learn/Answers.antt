@@ -14,11 +14,13 @@ add_learnt-requires-clause-unit c =
     let level = length c.go_back.new.self.starts.items in
     let inside = k.decisions.inside level b.fewer in
     rw (c.as_slice.ensures.value, b.steps)
-    (asserting (held_in s.state) s.state.trail.steps (top_of s) (get_or s.starts.items level 0) c.in_ok-learnt.learnt.second c.in_ok-learnt.learnt.literals.items k.state.trail f.one f.others b.above
+    (asserting (held_in s.state) s.state.trail.steps (top_of s) (get_or s.starts.items level 0)
+    c.in_ok-learnt.learnt.second c.in_ok-learnt.learnt.literals.items k.state.trail f.one f.others b.above
     (start_at_most s.starts.items level k.decisions.rising b.fewer) (omega arith))
 
 pub add_learnt-requires-clause-small : goal.add_learnt-requires-clause-small
 add_learnt-requires-clause-small c =
     let s = c.analyse.new.self in
     rw (c.as_slice.ensures.value, c.in_ok-go_back.ensures.back.size)
-    (resolvent_small s.state c.in_ok-learnt.learnt.literals.items (reverse c.in_ok-learnt.learnt.hints.items) c.in_ok-learnt.ensures.solver.search.state c.in_ok-learnt.ensures.found.learnt.resolvent)
+    (resolvent_small s.state c.in_ok-learnt.learnt.literals.items (reverse c.in_ok-learnt.learnt.hints.items)
+    c.in_ok-learnt.ensures.solver.search.state c.in_ok-learnt.ensures.found.learnt.resolvent)

@@ -1,19 +1,25 @@
 use Rattle.std.proofs.Common.{ap, sym, ◌∙◌}
 use Rattle.cnf_base.specs.Literals.{opposite}
 use Rattle.cdcl.specs.declared.trail.Step.{Step}
-use Rattle.cdcl.proofs.Visiting.{IsVisit, blocker_small, blocker_true, other_small, other_true, is_conflict, open_small, moved_grows, moved_visited, pushed_state, pushed_grows, pushed_visited}
+use Rattle.cdcl.proofs.Visiting.{IsVisit, blocker_small, blocker_true, other_small, other_true, is_conflict, open_small}
+use Rattle.cdcl.proofs.Visiting.{moved_grows, moved_visited, pushed_state, pushed_grows, pushed_visited}
 use Rattle.cdcl.proofs.state.State.visit.Goals as goal
 
 pub is_set-requires : goal.is_set-requires
-is_set-requires c = blocker_small c.args.self.now c.args.head c.args.list.now c.args.i c.get-watch.result c.requires.state c.requires.visited c.requires.index c.get-watch.ensures
+is_set-requires c =
+    blocker_small c.args.self.now c.args.head c.args.list.now c.args.i c.get-watch.result c.requires.state
+    c.requires.visited c.requires.index c.get-watch.ensures
 
 pub returns-then-is_set-clause-visited : goal.returns-then-is_set-clause-visited
-returns-then-is_set-clause-visited c = blocker_true c.args.self.now c.args.head c.args.list.now c.args.i c.get-watch.result c.requires.visited c.requires.index c.get-watch.ensures
+returns-then-is_set-clause-visited c =
+    blocker_true c.args.self.now c.args.head c.args.list.now c.args.i c.get-watch.result c.requires.visited
+    c.requires.index c.get-watch.ensures
     (sym c.is_set.ensures ∙ c.if-is_set.true)
 
 pub is_set-requires-2 : goal.is_set-requires-2
 is_set-requires-2 c =
-    let v : IsVisit c.args.self.now c.args.head c.args.list.now c.args.i c.get-watch.result c.pair.result c.opposite-false_one.result c.other_of-other.result = record {
+    let v : IsVisit c.args.self.now c.args.head c.args.list.now c.args.i c.get-watch.result c.pair.result
+    c.opposite-false_one.result c.other_of-other.result = record {
       state = c.requires.state;
       visiting = c.requires.visited;
       index = c.requires.index;
@@ -23,11 +29,13 @@ is_set-requires-2 c =
       which = c.other_of-other.ensures.stands;
       different = c.other_of-other.ensures.different;
     } in
-    (other_small c.args.self.now c.args.head c.args.list.now c.args.i c.get-watch.result c.pair.result c.opposite-false_one.result c.other_of-other.result v).0
+    (other_small c.args.self.now c.args.head c.args.list.now c.args.i c.get-watch.result c.pair.result
+    c.opposite-false_one.result c.other_of-other.result v).0
 
 pub returns-then-is_set-2-clause-visited : goal.returns-then-is_set-2-clause-visited
 returns-then-is_set-2-clause-visited c =
-    let v : IsVisit c.args.self.now c.args.head c.args.list.now c.args.i c.get-watch.result c.pair.result c.opposite-false_one.result c.other_of-other.result = record {
+    let v : IsVisit c.args.self.now c.args.head c.args.list.now c.args.i c.get-watch.result c.pair.result
+    c.opposite-false_one.result c.other_of-other.result = record {
       state = c.requires.state;
       visiting = c.requires.visited;
       index = c.requires.index;
@@ -37,11 +45,13 @@ returns-then-is_set-2-clause-visited c =
       which = c.other_of-other.ensures.stands;
       different = c.other_of-other.ensures.different;
     } in
-    rw c.set.ensures (other_true c.args.self.now c.args.head c.args.list.now c.args.i c.get-watch.result c.pair.result c.opposite-false_one.result c.other_of-other.result v (sym c.is_set-2.ensures ∙ c.if-is_set-2.true))
+    rw c.set.ensures (other_true c.args.self.now c.args.head c.args.list.now c.args.i c.get-watch.result c.pair.result
+    c.opposite-false_one.result c.other_of-other.result v (sym c.is_set-2.ensures ∙ c.if-is_set-2.true))
 
 pub move_to-requires-clause-first : goal.move_to-requires-clause-first
 move_to-requires-clause-first c =
-    let v : IsVisit c.args.self.now c.args.head c.args.list.now c.args.i c.get-watch.result c.pair.result c.opposite-false_one.result c.other_of-other.result = record {
+    let v : IsVisit c.args.self.now c.args.head c.args.list.now c.args.i c.get-watch.result c.pair.result
+    c.opposite-false_one.result c.other_of-other.result = record {
       state = c.requires.state;
       visiting = c.requires.visited;
       index = c.requires.index;
@@ -51,11 +61,14 @@ move_to-requires-clause-first c =
       which = c.other_of-other.ensures.stands;
       different = c.other_of-other.ensures.different;
     } in
-    open_small c.args.self.now c.args.head c.args.list.now c.args.i c.get-watch.result c.pair.result c.opposite-false_one.result c.other_of-other.result v c.clause.result.now c.in-Some.l c.clause.ensures c.in-Some.ensures
+    open_small c.args.self.now c.args.head c.args.list.now c.args.i c.get-watch.result c.pair.result
+    c.opposite-false_one.result c.other_of-other.result v c.clause.result.now c.in-Some.l c.clause.ensures
+    c.in-Some.ensures
 
 pub is_set-requires-in-None : goal.is_set-requires-in-None
 is_set-requires-in-None c =
-    let v : IsVisit c.args.self.now c.args.head c.args.list.now c.args.i c.get-watch.result c.pair.result c.opposite-false_one.result c.other_of-other.result = record {
+    let v : IsVisit c.args.self.now c.args.head c.args.list.now c.args.i c.get-watch.result c.pair.result
+    c.opposite-false_one.result c.other_of-other.result = record {
       state = c.requires.state;
       visiting = c.requires.visited;
       index = c.requires.index;
@@ -65,11 +78,14 @@ is_set-requires-in-None c =
       which = c.other_of-other.ensures.stands;
       different = c.other_of-other.ensures.different;
     } in
-    rw c.opposite.ensures (other_small c.args.self.now c.args.head c.args.list.now c.args.i c.get-watch.result c.pair.result c.opposite-false_one.result c.other_of-other.result v).1
+    rw c.opposite.ensures
+    (other_small c.args.self.now c.args.head c.args.list.now c.args.i c.get-watch.result c.pair.result
+    c.opposite-false_one.result c.other_of-other.result v).1
 
 pub returns-then-is_set-3-clause-conflict : goal.returns-then-is_set-3-clause-conflict
 returns-then-is_set-3-clause-conflict c =
-    let v : IsVisit c.args.self.now c.args.head c.args.list.now c.args.i c.get-watch.result c.pair.result c.opposite-false_one.result c.other_of-other.result = record {
+    let v : IsVisit c.args.self.now c.args.head c.args.list.now c.args.i c.get-watch.result c.pair.result
+    c.opposite-false_one.result c.other_of-other.result = record {
       state = c.requires.state;
       visiting = c.requires.visited;
       index = c.requires.index;
@@ -79,11 +95,14 @@ returns-then-is_set-3-clause-conflict c =
       which = c.other_of-other.ensures.stands;
       different = c.other_of-other.ensures.different;
     } in
-    is_conflict c.args.self.now c.args.head c.args.list.now c.args.i c.get-watch.result c.pair.result c.opposite-false_one.result c.other_of-other.result v c.clause.result.now c.clause.ensures c.in-None.ensures (rw (← c.opposite.ensures) (sym c.is_set-in-None.ensures ∙ c.if-is_set-3.true))
+    is_conflict c.args.self.now c.args.head c.args.list.now c.args.i c.get-watch.result c.pair.result
+    c.opposite-false_one.result c.other_of-other.result v c.clause.result.now c.clause.ensures c.in-None.ensures
+    (rw (← c.opposite.ensures) (sym c.is_set-in-None.ensures ∙ c.if-is_set-3.true))
 
 pub push-requires-clause-small : goal.push-requires-clause-small
 push-requires-clause-small c =
-    let v : IsVisit c.args.self.now c.args.head c.args.list.now c.args.i c.get-watch.result c.pair.result c.opposite-false_one.result c.other_of-other.result = record {
+    let v : IsVisit c.args.self.now c.args.head c.args.list.now c.args.i c.get-watch.result c.pair.result
+    c.opposite-false_one.result c.other_of-other.result = record {
       state = c.requires.state;
       visiting = c.requires.visited;
       index = c.requires.index;
@@ -93,11 +112,13 @@ push-requires-clause-small c =
       which = c.other_of-other.ensures.stands;
       different = c.other_of-other.ensures.different;
     } in
-    (other_small c.args.self.now c.args.head c.args.list.now c.args.i c.get-watch.result c.pair.result c.opposite-false_one.result c.other_of-other.result v).0
+    (other_small c.args.self.now c.args.head c.args.list.now c.args.i c.get-watch.result c.pair.result
+    c.opposite-false_one.result c.other_of-other.result v).0
 
 pub returns-in_ok-move_to-in-Some-clause-grows : goal.returns-in_ok-move_to-in-Some-clause-grows
 returns-in_ok-move_to-in-Some-clause-grows c =
-    let v : IsVisit c.args.self.now c.args.head c.args.list.now c.args.i c.get-watch.result c.pair.result c.opposite-false_one.result c.other_of-other.result = record {
+    let v : IsVisit c.args.self.now c.args.head c.args.list.now c.args.i c.get-watch.result c.pair.result
+    c.opposite-false_one.result c.other_of-other.result = record {
       state = c.requires.state;
       visiting = c.requires.visited;
       index = c.requires.index;
@@ -107,11 +128,14 @@ returns-in_ok-move_to-in-Some-clause-grows c =
       which = c.other_of-other.ensures.stands;
       different = c.other_of-other.ensures.different;
     } in
-    moved_grows c.args.self.now c.args.head c.args.list.now c.args.i c.get-watch.result c.pair.result c.opposite-false_one.result c.other_of-other.result v c.clause.result.now c.in-Some.l c.move_to.new.self c.clause.ensures c.in-Some.ensures c.in_ok-move_to-in-Some.ensures.pairs c.in_ok-move_to-in-Some.ensures.lists
+    moved_grows c.args.self.now c.args.head c.args.list.now c.args.i c.get-watch.result c.pair.result
+    c.opposite-false_one.result c.other_of-other.result v c.clause.result.now c.in-Some.l c.move_to.new.self
+    c.clause.ensures c.in-Some.ensures c.in_ok-move_to-in-Some.ensures.pairs c.in_ok-move_to-in-Some.ensures.lists
 
 pub returns-in_ok-move_to-in-Some-clause-visited : goal.returns-in_ok-move_to-in-Some-clause-visited
 returns-in_ok-move_to-in-Some-clause-visited c =
-    let v : IsVisit c.args.self.now c.args.head c.args.list.now c.args.i c.get-watch.result c.pair.result c.opposite-false_one.result c.other_of-other.result = record {
+    let v : IsVisit c.args.self.now c.args.head c.args.list.now c.args.i c.get-watch.result c.pair.result
+    c.opposite-false_one.result c.other_of-other.result = record {
       state = c.requires.state;
       visiting = c.requires.visited;
       index = c.requires.index;
@@ -121,11 +145,16 @@ returns-in_ok-move_to-in-Some-clause-visited c =
       which = c.other_of-other.ensures.stands;
       different = c.other_of-other.ensures.different;
     } in
-    moved_visited c.args.self.now c.args.head c.args.list.now c.args.i c.get-watch.result c.pair.result c.opposite-false_one.result c.other_of-other.result v c.clause.result.now c.in-Some.l c.move_to.new.self c.clause.ensures c.in-Some.ensures c.in_ok-move_to-in-Some.ensures.pairs c.in_ok-move_to-in-Some.ensures.lists c.remove.new.self (record { len = c.remove.ensures.len; moved = c.remove.ensures.moved; kept = c.remove.ensures.kept })
+    moved_visited c.args.self.now c.args.head c.args.list.now c.args.i c.get-watch.result c.pair.result
+    c.opposite-false_one.result c.other_of-other.result v c.clause.result.now c.in-Some.l c.move_to.new.self
+    c.clause.ensures c.in-Some.ensures c.in_ok-move_to-in-Some.ensures.pairs c.in_ok-move_to-in-Some.ensures.lists
+    c.remove.new.self
+    (record { len = c.remove.ensures.len; moved = c.remove.ensures.moved; kept = c.remove.ensures.kept })
 
 pub returns-in_ok-push-in-None-clause-state : goal.returns-in_ok-push-in-None-clause-state
 returns-in_ok-push-in-None-clause-state c =
-    let v : IsVisit c.args.self.now c.args.head c.args.list.now c.args.i c.get-watch.result c.pair.result c.opposite-false_one.result c.other_of-other.result = record {
+    let v : IsVisit c.args.self.now c.args.head c.args.list.now c.args.i c.get-watch.result c.pair.result
+    c.opposite-false_one.result c.other_of-other.result = record {
       state = c.requires.state;
       visiting = c.requires.visited;
       index = c.requires.index;
@@ -135,11 +164,16 @@ returns-in_ok-push-in-None-clause-state c =
       which = c.other_of-other.ensures.stands;
       different = c.other_of-other.ensures.different;
     } in
-    pushed_state c.args.self.now c.args.head c.args.list.now c.args.i c.get-watch.result c.pair.result c.opposite-false_one.result c.other_of-other.result v c.clause.result.now c.push.new.self c.clause.ensures c.in-None.ensures (sym c.is_set-2.ensures ∙ c.if-is_set-2.false) (rw (← c.opposite.ensures) (sym c.is_set-in-None.ensures ∙ c.if-is_set-3.false)) c.in_ok-push-in-None.ensures.steps c.in_ok-push-in-None.ensures.size
+    pushed_state c.args.self.now c.args.head c.args.list.now c.args.i c.get-watch.result c.pair.result
+    c.opposite-false_one.result c.other_of-other.result v c.clause.result.now c.push.new.self c.clause.ensures
+    c.in-None.ensures (sym c.is_set-2.ensures ∙ c.if-is_set-2.false)
+    (rw (← c.opposite.ensures) (sym c.is_set-in-None.ensures ∙ c.if-is_set-3.false))
+    c.in_ok-push-in-None.ensures.steps c.in_ok-push-in-None.ensures.size
 
 pub returns-in_ok-push-in-None-clause-grows : goal.returns-in_ok-push-in-None-clause-grows
 returns-in_ok-push-in-None-clause-grows c =
-    let v : IsVisit c.args.self.now c.args.head c.args.list.now c.args.i c.get-watch.result c.pair.result c.opposite-false_one.result c.other_of-other.result = record {
+    let v : IsVisit c.args.self.now c.args.head c.args.list.now c.args.i c.get-watch.result c.pair.result
+    c.opposite-false_one.result c.other_of-other.result = record {
       state = c.requires.state;
       visiting = c.requires.visited;
       index = c.requires.index;
@@ -149,11 +183,16 @@ returns-in_ok-push-in-None-clause-grows c =
       which = c.other_of-other.ensures.stands;
       different = c.other_of-other.ensures.different;
     } in
-    pushed_grows c.args.self.now c.args.head c.args.list.now c.args.i c.get-watch.result c.pair.result c.opposite-false_one.result c.other_of-other.result v c.clause.result.now c.push.new.self c.clause.ensures c.in-None.ensures (sym c.is_set-2.ensures ∙ c.if-is_set-2.false) (rw (← c.opposite.ensures) (sym c.is_set-in-None.ensures ∙ c.if-is_set-3.false)) c.in_ok-push-in-None.ensures.steps c.in_ok-push-in-None.ensures.size
+    pushed_grows c.args.self.now c.args.head c.args.list.now c.args.i c.get-watch.result c.pair.result
+    c.opposite-false_one.result c.other_of-other.result v c.clause.result.now c.push.new.self c.clause.ensures
+    c.in-None.ensures (sym c.is_set-2.ensures ∙ c.if-is_set-2.false)
+    (rw (← c.opposite.ensures) (sym c.is_set-in-None.ensures ∙ c.if-is_set-3.false))
+    c.in_ok-push-in-None.ensures.steps c.in_ok-push-in-None.ensures.size
 
 pub returns-in_ok-push-in-None-clause-visited : goal.returns-in_ok-push-in-None-clause-visited
 returns-in_ok-push-in-None-clause-visited c =
-    let v : IsVisit c.args.self.now c.args.head c.args.list.now c.args.i c.get-watch.result c.pair.result c.opposite-false_one.result c.other_of-other.result = record {
+    let v : IsVisit c.args.self.now c.args.head c.args.list.now c.args.i c.get-watch.result c.pair.result
+    c.opposite-false_one.result c.other_of-other.result = record {
       state = c.requires.state;
       visiting = c.requires.visited;
       index = c.requires.index;
@@ -163,4 +202,8 @@ returns-in_ok-push-in-None-clause-visited c =
       which = c.other_of-other.ensures.stands;
       different = c.other_of-other.ensures.different;
     } in
-    rw c.set-in-None.ensures (pushed_visited c.args.self.now c.args.head c.args.list.now c.args.i c.get-watch.result c.pair.result c.opposite-false_one.result c.other_of-other.result v c.clause.result.now c.push.new.self c.clause.ensures c.in-None.ensures (sym c.is_set-2.ensures ∙ c.if-is_set-2.false) (rw (← c.opposite.ensures) (sym c.is_set-in-None.ensures ∙ c.if-is_set-3.false)) c.in_ok-push-in-None.ensures.steps c.in_ok-push-in-None.ensures.size)
+    rw c.set-in-None.ensures (pushed_visited c.args.self.now c.args.head c.args.list.now c.args.i c.get-watch.result
+    c.pair.result c.opposite-false_one.result c.other_of-other.result v c.clause.result.now c.push.new.self
+    c.clause.ensures c.in-None.ensures (sym c.is_set-2.ensures ∙ c.if-is_set-2.false)
+    (rw (← c.opposite.ensures) (sym c.is_set-in-None.ensures ∙ c.if-is_set-3.false))
+    c.in_ok-push-in-None.ensures.steps c.in_ok-push-in-None.ensures.size)

@@ -2,7 +2,8 @@ use Rattle.cdcl.proofs.Growth.{grows_trans}
 use Rattle.cdcl.proofs.state.State.visit_list.Goals as goal
 
 pub returns-in-Some-clause-grows : goal.returns-in-Some-clause-grows
-returns-in-Some-clause-grows c = grows_trans c.args.self.now c.loop-i.self c.visit.new.self c.loop-i.invariant.grows c.in_ok-id.ensures.grows
+returns-in-Some-clause-grows c =
+    grows_trans c.args.self.now c.loop-i.self c.visit.new.self c.loop-i.invariant.grows c.in_ok-id.ensures.grows
 
 pub loop-i-preserved : goal.loop-i-preserved
 loop-i-preserved c = record {

@@ -5,7 +5,9 @@ use Rattle.rml_command.proofs.RouteLists.{stops_alone, alone}
 use Rattle.rml_command.proofs.drafts.Drafts.go_on.Goals as goal
 
 pub of-requires : goal.of-requires
-of-requires c = stops_alone c.in_ok-routes.routes.items c.deref-2.result.now _ c.some_goes_on-onward.result c.new.ensures c.deref-2.ensures.value c.some_goes_on-onward.ensures
+of-requires c =
+    stops_alone c.in_ok-routes.routes.items c.deref-2.result.now _ c.some_goes_on-onward.result c.new.ensures
+    c.deref-2.ensures.value c.some_goes_on-onward.ensures
 
 pub returns : goal.returns
 returns c =
