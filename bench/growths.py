@@ -147,7 +147,8 @@ def main():
         with open(source, "w") as out:
             out.write(REFUSER)
         subprocess.run(["cc", "-O1", "-shared", "-fPIC", "-o", library, source, "-ldl"], check=True)
-        print("| Run | Growths refused | Status 7 | Otherwise | Status 7 at, in MB | Otherwise |\n|---|---|---|---|---|---|")
+        print("| Run | Growths refused | Status 7 | Otherwise | Status 7 at, in MB | Otherwise |")
+        print("|---|---|---|---|---|---|")
         for title, arguments in texts(folder):
             ample = run([program, *arguments])
             tried, spent, wrong = refuse_in_turn(program, library, arguments, ample, limit)

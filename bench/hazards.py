@@ -80,7 +80,8 @@ def run(words):
 def main():
     program = os.path.abspath((sys.argv + [f"{HERE}/crates/ivycheck/out/ivycheck"])[1])
     words = sys.argv[2:] or ["--terms", "1", "--ground", "1"]
-    print("| Text | Bytes | Status | Seconds | at half size | MB | at half size | Note |\n|---|---|---|---|---|---|---|---|")
+    print("| Text | Bytes | Status | Seconds | at half size | MB | at half size | Note |")
+    print("|---|---|---|---|---|---|---|---|")
     with tempfile.TemporaryDirectory() as folder:
         for (title, whole, many_paths), (_, half, _) in zip(texts(1.0), texts(0.5)):
             cells = []
@@ -91,8 +92,8 @@ def main():
                 cells.append(run([program, "check", f"{folder}/text.rml", *words]))
             (status, seconds, megabytes), (_, less, fewer) = cells
             note = "paths times lengths" if many_paths else ""
-            print(f"| {title} | {len(whole)} | {status} | {seconds:.2f} | {less:.2f} | {megabytes:.0f} | {fewer:.0f} | {note} |",
-                  flush=True)
+            print(f"| {title} | {len(whole)} | {status} | {seconds:.2f} | {less:.2f} | {megabytes:.0f} | {fewer:.0f} "
+                  f"| {note} |", flush=True)
 
 
 if __name__ == "__main__":

@@ -1,5 +1,6 @@
 #!/bin/bash
-# Times `cdcl::solve` beside minisat on the same formulas, reading the file included, and counts what it learns: bench/solve.sh [FILE.cnf ..]
+# Times `cdcl::solve` beside minisat on the same formulas, reading the file included, and counts what it learns:
+# bench/solve.sh [FILE.cnf ..]
 # With no file: pigeon holes 6 and 7, five random 3-SAT formulas of 150 variables, a chain of 100,000 clauses.
 # REPEAT (9) is how often each is run; the least processor time counts.
 # WORK is where the program is built, in a copy of the repository that proves it; with none that is a folder of its own.
