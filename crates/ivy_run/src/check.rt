@@ -1,7 +1,6 @@
 // `check FILE`: whether the model of the file is inductive.
 ghost use Rattle.std.specs.Prelude.{◌≡◌, IfOk};
 ghost use Rattle.command_line.specs.Asking.{IsInRange};
-ghost use Rattle.rml_command.specs.Fragment.{IsChecked};
 ghost use Rattle.ivy_run.specs.Check.{IsCheckAnswer, IsCheckedModel, check_due, verdict_status, ceilings_of};
 ghost use Rattle.ivy_run.specs.ModelTexts.{IsTheModel};
 
@@ -36,12 +35,13 @@ pub enum CheckAnswer {
 
 /// The report on a model.
 pub fn report_on(alloc: Global, model: &Checked, asked: Asked) -> Mem<Report>
-    requires fragment { IsChecked model.now }
-    requires asked { IsInRange asked }
+    requires { IsInRange asked }
     ensures { IfOk result (IsCheckedModel (ceilings_of asked) model.now) }
 {
     verdicts::report_law();
     rml_report::report_law();
+    // That the model is in the fragment is known where it is looked at.
+    let _model = model.model();
     let limits = limits_of(asked);
     let report = report(alloc, model, &limits)?;
     Ok(report)
