@@ -15,7 +15,7 @@ mod running;
 use base::Refused;
 use judging::judge;
 use reader::read_rows;
-use row::Row;
+use row::{Row, Text};
 use std::alloc::Global;
 use std::process::ExitCode;
 use std::{env, fs, io};
@@ -71,10 +71,27 @@ fn tell_rows(
     Ok(count > 0 && differ == if has_to_differ { count } else { 0 })
 }
 
+// Takes the files of the folder into memory of whose prefixes rows speak.
+fn load_files(rt: HostRuntime, alloc: Global, rows: &mut [Row]) -> io::Result<()> {
+    for row in rows {
+        if row.is_on_disk {
+            if let Some(name) = row.file_of_prefixes(alloc)? {
+                let bytes = fs::read(&rt, name.as_str())?;
+                row.files.push(Text { name, bytes })?;
+            }
+        }
+    }
+    Ok(())
+}
+
 fn tell_file(rt: HostRuntime, alloc: Global, name: &str, has_to_differ: bool) -> io::Result<bool> {
     let text = fs::read_to_string(&rt, name)?;
     match read_rows(alloc, text.as_str()) {
-        Ok(rows) => tell_rows(rt, alloc, name, &rows, has_to_differ),
+        Ok(rows) => {
+            let mut rows = rows;
+            load_files(rt, alloc, &mut rows)?;
+            tell_rows(rt, alloc, name, &rows, has_to_differ)
+        }
         Err((line, cause)) => {
             complain(&rt, name, line, cause)?;
             Ok(false)

@@ -83,6 +83,14 @@ impl Row {
         })
     }
 
+    /// The file of whose prefixes the row speaks.
+    pub fn file_of_prefixes(&self, alloc: Global) -> Mem<Option<String>> {
+        match &self.prefixes {
+            Some(prefixes) => Ok(Some(prefixes.file.clone()?)),
+            None => Ok(None),
+        }
+    }
+
     /// The words `check model` over that text, with all of the answer written.
     pub fn of_model(alloc: Global, title: &str, line: u64, bytes: Vec<u8>) -> Mem<Self> {
         let mut row = Row::new(alloc, title, line)?;
