@@ -6,6 +6,10 @@
 # on standard output. The last line is `N cases, M differ`. Run it as a user that is not root, or the case of a file
 # without rights is left out.
 program=${1:-$(cd "$(dirname "$0")/.." && pwd)/crates/ivycheck/out/ivycheck}
+if [ ! -x "$program" ] || [ -d "$program" ]; then
+    echo "$program: no program stands there" >&2
+    exit 2
+fi
 work=$(mktemp -d)
 trap 'rm -rf "$work"' EXIT
 cases=0

@@ -20,7 +20,8 @@ WORDS = ["--terms", "12", "--ground", "2000", "--conflicts", "10"]
 
 def main():
     program = (sys.argv + [f"{HERE}/crates/ivycheck/out/ivycheck"])[1]
-    print("# Each proper prefix of each file of examples/, written by bench/prefixes.py. The format is that of rows.txt.")
+    print("# Each proper prefix of each file of examples/, written by bench/prefixes.py.")
+    print("# The format is that of rows.txt.")
     with tempfile.TemporaryDirectory() as folder, ThreadPoolExecutor(os.cpu_count()) as pool:
         for name in sorted(os.listdir(f"{HERE}/examples")):
             with open(f"{HERE}/examples/{name}", "rb") as file:
