@@ -1,1 +1,2 @@
 pub mod Because
+pub mod Bytes

@@ -18,6 +18,7 @@ impl<T> Model for Row<T> {
 }
 
 impl<T> Row<T> {
+    /// A row without values. Nothing is allocated.
     pub fn new(alloc: Global) -> Self
         ensures { result ≡ [] }
     {
@@ -40,18 +41,21 @@ impl<T> Row<T> {
         self.items
     }
 
+    /// The values, in order.
     pub fn as_slice(&self) -> &[T]
         ensures { result.now ≡ self.now }
     {
         &self.items
     }
 
+    /// How many values there are.
     pub fn len(&self) -> usize
         ensures { result ≡ length self.now }
     {
         self.items.len()
     }
 
+    /// Whether there is no value.
     pub fn is_empty(&self) -> bool
         ensures { IsTrue result ↔ (self.now ≡ []) }
     {

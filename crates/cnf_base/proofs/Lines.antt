@@ -6,7 +6,8 @@ use Rattle.std.specs.List.{prefix_len}
 use Rattle.std.proofs.lemmas.Bool.{eqb-true}
 use Rattle.std.proofs.lemmas.Grind.{common_steps}
 use Rattle.cnf_base.specs.declared.text.LineMode.TheVariants.{LineStart, InLine, InWord, Comment}
-use Rattle.cnf_base.specs.Words.{Byte, Word, is_blank, placed, onto, cut, as_words, words_in, words_of}
+use Rattle.cnf_base.specs.Words.{Byte, Word, placed, onto, cut, as_words, words_in, words_of}
+use Rattle.base.specs.Bytes.{is_blank}
 use Rattle.cnf_base.specs.Modes.{behind, word_of, words_from}
 use Rattle.cnf_base.proofs.Scanning.{inside}
 

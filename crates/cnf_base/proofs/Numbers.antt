@@ -10,10 +10,10 @@ use Rattle.cnf_base.specs.declared.text.LineMode.{LineMode}
 use Rattle.cnf_base.specs.declared.text.LineMode.TheVariants.{LineStart, InLine, InWord, Comment}
 use Rattle.cnf_base.specs.declared.text.Numeral.{Numeral}
 use Rattle.cnf_base.specs.Literals.{variable_of, is_positive, IsLiteral}
-use Rattle.cnf_base.specs.Words.{is_blank}
+use Rattle.base.specs.Bytes.{is_digit, is_blank}
 use Rattle.cnf_base.specs.Modes.{behind, next_mode, begins_word, word_of, words_from}
 use Rattle.cnf_base.specs.Starts.{IsBetween}
-use Rattle.cnf_base.specs.Numerals.{is_digit, with_digits, digits_value, signed, number_of}
+use Rattle.cnf_base.specs.Numerals.{with_digits, digits_value, signed, number_of}
 use Rattle.cnf_base.specs.Writing.{literal_text}
 use Rattle.cnf_base.proofs.Scanning.{inside}
 

@@ -9,11 +9,11 @@ use Rattle.std.proofs.lemmas.Grind.{common_steps}
 use Rattle.cnf_base.specs.declared.text.LineMode.{LineMode}
 use Rattle.cnf_base.specs.declared.text.LineMode.TheVariants.{LineStart, InLine, InWord}
 use Rattle.cnf_base.specs.declared.text.Numeral.{Numeral}
-use Rattle.cnf_base.specs.Words.{is_blank}
+use Rattle.base.specs.Bytes.{is_digit, is_blank}
 use Rattle.cnf_base.specs.Modes.{behind, begins_word, word_of, words_from}
 use Rattle.cnf_base.specs.Starts.{IsBetween, IsAtStart}
 use Rattle.cnf_base.specs.Fronts.{word_len}
-use Rattle.cnf_base.specs.Numerals.{is_digit, with_digits, digits_value, signed, number_of}
+use Rattle.cnf_base.specs.Numerals.{with_digits, digits_value, signed, number_of}
 use Rattle.cnf_base.proofs.Numbers.{no_blank, begins, digit_bounds}
 use Rattle.cnf_base.proofs.Scanning.{first_word}
 

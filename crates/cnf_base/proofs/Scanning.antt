@@ -7,7 +7,8 @@ use Rattle.std.proofs.lemmas.Bool.{or_parts}
 use Rattle.std.proofs.lemmas.Grind.{common_steps}
 use Rattle.cnf_base.specs.declared.text.LineMode.{LineMode}
 use Rattle.cnf_base.specs.declared.text.LineMode.TheVariants.{LineStart, InLine, InWord, Comment}
-use Rattle.cnf_base.specs.Words.{Word, is_blank}
+use Rattle.cnf_base.specs.Words.{Word}
+use Rattle.base.specs.Bytes.{is_blank}
 use Rattle.cnf_base.specs.Modes.{behind, next_mode, begins_word, word_of, words_from}
 use Rattle.cnf_base.specs.Starts.{IsAtStart}
 

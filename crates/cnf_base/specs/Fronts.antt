@@ -1,7 +1,7 @@
 -- The word in front of some bytes, if they begin with one.
 use Rattle.std.specs.Prelude.{ℕ, not, List}
 use Rattle.std.specs.List.{prefix_len}
-use Rattle.cnf_base.specs.Words.{is_blank}
+use Rattle.base.specs.Bytes.{is_blank}
 
 -- how many bytes stand before the next blank
 abbrev pub word_len : List ℕ → ℕ

@@ -3,7 +3,8 @@ use Rattle.std.specs.Prelude.{ℕ, ◌+◌, Bool, false, ◌==◌, not, List, []
 use Rattle.std.specs.List.{prefix_len}
 use Rattle.cnf_base.specs.declared.text.LineMode.{LineMode}
 use Rattle.cnf_base.specs.declared.text.LineMode.TheVariants.{LineStart, InLine, InWord, Comment}
-use Rattle.cnf_base.specs.Words.{Word, is_blank}
+use Rattle.cnf_base.specs.Words.{Word}
+use Rattle.base.specs.Bytes.{is_blank}
 
 -- behind a byte that is no part of a comment
 abbrev pub behind : ℕ → LineMode

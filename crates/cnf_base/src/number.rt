@@ -1,7 +1,8 @@
 // Numbers as they are written: what a word says, wherever it stands.
 ghost use Rattle.std.specs.Prelude.{◌≡◌, ◌<◌, ◌^◌, IfSome, not};
 ghost use Rattle.cnf_base.specs.Literals.{literal_of};
-ghost use Rattle.cnf_base.specs.Numerals.{is_digit, with_digits, digits_value, number_of};
+ghost use Rattle.cnf_base.specs.Numerals.{with_digits, digits_value, number_of};
+ghost use Rattle.base.specs.Bytes.{is_digit};
 
 use crate::Lit;
 use crate::text::Numeral;

@@ -3,7 +3,8 @@
 ghost use Rattle.std.specs.Prelude.{◌≡◌, ◌≤◌, ◌<◌, ◌+◌, ◌^◌, ℕ, List, [], ◌∷◌, length, false, not, Some, MatchOption};
 ghost use Rattle.std.specs.Prelude.{IfSome};
 ghost use Rattle.std.specs.List.{prefix_len};
-ghost use Rattle.cnf_base.specs.Words.{is_blank, words_of};
+ghost use Rattle.cnf_base.specs.Words.{words_of};
+ghost use Rattle.base.specs.Bytes.{is_blank};
 ghost use Rattle.cnf_base.specs.Modes.{behind, next_mode, begins_word, words_from};
 ghost use Rattle.cnf_base.specs.Starts.{IsAtStart};
 ghost use Rattle.cnf_base.specs.Numerals.{number_of};

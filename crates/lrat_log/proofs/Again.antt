@@ -10,7 +10,8 @@ use Rattle.cnf_base.specs.declared.text.LineMode.{LineMode}
 use Rattle.cnf_base.specs.declared.text.LineMode.TheVariants.{LineStart, InLine}
 use Rattle.cnf_base.specs.declared.text.Numeral.{Numeral}
 use Rattle.cnf_base.specs.Literals.{literal_of, variable_of, is_positive, IsLiteral, AreLiterals}
-use Rattle.cnf_base.specs.Words.{Word, is_blank, words_of}
+use Rattle.cnf_base.specs.Words.{Word, words_of}
+use Rattle.base.specs.Bytes.{is_blank}
 use Rattle.cnf_base.specs.Pieces.{pieces_of}
 use Rattle.cnf_base.specs.Cuts.{AreCut}
 use Rattle.cnf_base.specs.Modes.{behind, words_from}

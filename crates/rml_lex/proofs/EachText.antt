@@ -35,7 +35,8 @@ use Rattle.rml_lex.specs.declared.token.Fault.{Fault}
 use Rattle.rml_lex.specs.declared.fault_code.FaultCode.{FaultCode}
 use Rattle.rml_lex.specs.declared.token.Front.{Front}
 use Rattle.rml_lex.specs.declared.token.Front.TheVariants as front
-use Rattle.rml_lex.specs.Bytes.{is_letter, is_digit, goes_on, gap_len}
+use Rattle.rml_lex.specs.Bytes.{is_letter, goes_on, gap_len}
+use Rattle.base.specs.Bytes.{is_digit}
 use Rattle.rml_lex.specs.Spelling.{signs}
 use Rattle.rml_lex.specs.Tokens.{front_of, sign_front, Reads, AreTokens, IsFault}
 use Rattle.rml_lex.proofs.Front.{nothing_left}

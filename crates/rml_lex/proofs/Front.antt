@@ -5,7 +5,8 @@ use Rattle.std.specs.List.{prefix_len}
 use Rattle.rml_lex.specs.declared.token.Sign.{Sign}
 use Rattle.rml_lex.specs.declared.token.Front.{Front}
 use Rattle.rml_lex.specs.declared.token.Front.TheVariants as front
-use Rattle.rml_lex.specs.Bytes.{is_letter, is_digit, goes_on}
+use Rattle.rml_lex.specs.Bytes.{is_letter, goes_on}
+use Rattle.base.specs.Bytes.{is_digit}
 use Rattle.rml_lex.specs.Spelling.{sign_at}
 use Rattle.rml_lex.specs.Tokens.{front_of, sign_front}
 

@@ -30,7 +30,8 @@ use Rattle.rml_lex.specs.declared.token.Fault.{Fault}
 use Rattle.rml_lex.specs.declared.fault_code.FaultCode.TheVariants as fault_code
 use Rattle.rml_lex.specs.declared.token.Front.{Front}
 use Rattle.rml_lex.specs.declared.token.Front.TheVariants as front
-use Rattle.rml_lex.specs.Bytes.{is_letter, is_digit, goes_on, gap_len}
+use Rattle.rml_lex.specs.Bytes.{is_letter, goes_on, gap_len}
+use Rattle.base.specs.Bytes.{is_digit}
 use Rattle.rml_lex.specs.Spelling.{reserved, sign_at}
 
 -- what isn't a reserved word is a name

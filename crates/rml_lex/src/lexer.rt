@@ -2,7 +2,8 @@
 ghost use Rattle.std.specs.Prelude.{◌≡◌, ◌≤◌, ℕ, List, false, length, map, IfOk, IfErr, Option};
 ghost use Rattle.std.specs.List.{prefix_len, AllByRecursion};
 ghost use Rattle.base.specs.Because.{Because};
-ghost use Rattle.rml_lex.specs.Bytes.{is_letter, is_digit, is_blank, goes_on, gap_len};
+ghost use Rattle.rml_lex.specs.Bytes.{is_letter, goes_on, gap_len};
+ghost use Rattle.base.specs.Bytes.{is_digit, is_blank};
 ghost use Rattle.rml_lex.specs.Spelling.{spelled, reserved, sign_at};
 ghost use Rattle.rml_lex.specs.Tokens.{front_of, sign_front, IsWithin, AreTokens, IsFault, EndsBy, StandsBy, word_of};
 

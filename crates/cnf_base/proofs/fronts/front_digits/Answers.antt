@@ -1,6 +1,6 @@
 use Rattle.std.proofs.Common.{◌≡◌, true, get_or, arith}
 use Rattle.std.proofs.lemmas.Grind.{common_steps}
-use Rattle.cnf_base.specs.Numerals.{is_digit}
+use Rattle.base.specs.Bytes.{is_digit}
 use Rattle.cnf_base.proofs.Prefixes.{IsOver, one_more}
 use Rattle.cnf_base.proofs.fronts.front_digits.Goals as goal
 

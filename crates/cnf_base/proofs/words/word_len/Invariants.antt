@@ -1,7 +1,7 @@
 use Rattle.std.proofs.Common.{◌≡◌, ◌+◌, length}
 use Rattle.std.specs.Prelude.{not}
 use Rattle.std.specs.List.{prefix_len}
-use Rattle.cnf_base.specs.Words.{is_blank}
+use Rattle.base.specs.Bytes.{is_blank}
 use Rattle.cnf_base.proofs.words.word_len.Given as goal
 
 abbrev pub invariant-loop-rest : goal.invariant-loop-rest
