@@ -41,18 +41,21 @@ impl Bytes {
         self.items
     }
 
+    /// The bytes, in place.
     pub fn as_slice(&self) -> &[u8]
         ensures { result.now ≡ self.now }
     {
         &self.items
     }
 
+    /// How many bytes there are.
     pub fn len(&self) -> usize
         ensures { result ≡ length self.now }
     {
         self.items.len()
     }
 
+    /// Whether there are none.
     pub fn is_empty(&self) -> bool
         ensures { IsTrue result ↔ (self.now ≡ []) }
     {
@@ -73,7 +76,7 @@ impl Model for FileName {
 }
 
 impl FileName {
-    /// A copy of these letters.
+    /// A copy of these letters. Err: out of memory.
     pub fn from_slice(alloc: Global, letters: &[u8]) -> Mem<FileName>
         ensures { IfOk result (λ n. n ≡ letters.now) }
     {
@@ -81,6 +84,7 @@ impl FileName {
         Ok(FileName { letters })
     }
 
+    /// The letters, in place.
     pub fn as_slice(&self) -> &[u8]
         ensures { result.now ≡ self.now }
     {

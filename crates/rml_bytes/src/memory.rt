@@ -32,7 +32,7 @@ impl Model for MemFiles {
 }
 
 impl MemFiles {
-    /// `failing` has the numbers of the loads that are to fail, from 1.
+    /// These files, none of them loaded so far. `failing` has the numbers of the loads that are to fail, from 1.
     pub fn new(files: Vec<(FileName, Bytes)>, failing: Vec<u64>) -> Self
         requires names { NamesDiffer files.items }
         requires calls { IncreaseAbove 0 failing.items }
@@ -131,9 +131,9 @@ impl Model for MemSink {
 }
 
 impl MemSink {
-    /// `failing` has the numbers of the puts that are to fail, from 1, each with the number of bytes that
-    /// are taken first (at most the piece). A piece that is longer than the room left also fails, and
-    /// nothing of it is taken.
+    /// A sink that has taken nothing. `failing` has the numbers of the puts that are to fail, from 1, each with the
+    /// number of bytes that are taken first (at most the piece). A piece that is longer than the room left also fails,
+    /// and nothing of it is taken. Err: there is no memory for the room.
     pub fn new(alloc: Global, room: u64, failing: Vec<(u64, u64)>) -> Mem<Self>
         requires { IncreaseAbove 0 (firsts failing.items) }
         ensures { IfOk result (λ s. s ≡ new_slot room failing.items) }

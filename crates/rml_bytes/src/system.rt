@@ -8,6 +8,7 @@ use std::io::{Read, Write};
 use std::marker::Model;
 use std::{fs, rt};
 
+// How many bytes are asked of a reader at once, at most.
 const PIECE: usize = 4096;
 
 /// The files of the system, which tell nothing. A missing file counts as a fault.
@@ -26,6 +27,7 @@ impl<R: rt::Files + Drop> Model for DiskFiles<R> {
 }
 
 impl<R: rt::Files + Drop> DiskFiles<R> {
+    /// The files of a system, of which none has failed so far.
     pub fn new(system: R) -> Self
         ensures { result ≡ 0 }
     {
@@ -107,6 +109,7 @@ impl<W: Write + Drop> Model for StdSink<W> {
 }
 
 impl<W: Write + Drop> StdSink<W> {
+    /// A writer that has not failed so far.
     pub fn new(inner: W) -> Self
         ensures { result ≡ (W.contents inner, 0) }
     {

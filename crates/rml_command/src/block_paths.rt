@@ -46,6 +46,7 @@ impl Paths {
         }
     }
 
+    // The paths that these routes take through the primitives.
     pub(crate) fn new(primitives: Vec<Primitive>, routes: Vec<Route>) -> Paths
         requires { AllByRecursion (IsRoute primitives.items) routes.items }
         ensures { result ≡ map (path_along primitives.items) routes.items }
@@ -53,6 +54,7 @@ impl Paths {
         Paths { primitives, routes }
     }
 
+    /// How many paths there are.
     pub fn len(&self) -> usize
         ensures { result ≡ length self.now }
     {

@@ -55,6 +55,7 @@ impl std::marker::Model for Checked {
 }
 
 impl Checked {
+    /// A model that was found to be in the fragment, with the strata and the paths that were found in it.
     pub fn new(
         alloc: Global,
         model: Model,
@@ -82,6 +83,7 @@ impl Checked {
         }
     }
 
+    /// The model itself.
     pub fn model(&self) -> &Model
         ensures value { result.now ≡ self.now }
         ensures checked { IsChecked self.now }

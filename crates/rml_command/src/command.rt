@@ -12,28 +12,38 @@ use std::alloc::Global;
 /// the last one as 0.
 #[derive(Drop)]
 pub enum Primitive {
+    /// Goes on where the sentence is true.
     Assume(Sentence),
+    /// Makes the relation true where the formula was.
     SetRel(RelId, Formula),
+    /// Gives the function the values that the term had.
     SetFun(FunId, Term),
+    /// Gives a variable any value.
     Havoc(FunId),
+    /// Ends the run as wrong.
     Abort,
 }
 
 /// A block. `Seq` without parts is `skip`, and `Choose` has at least one branch.
 #[derive(Drop)]
 pub enum Command {
+    /// One step.
     Prim(Primitive),
+    /// The parts, one behind the other.
     Seq(Vec<Command>),
+    /// One of the branches.
     Choose(Vec<Command>),
 }
 
 impl Primitive {
+    /// Whether it is `Abort`.
     pub fn is_abort(&self) -> bool
         ensures { result ≡ is_abort (primitive self.now) }
     {
         matches!(self, Primitive::Abort)
     }
 
+    /// A copy. Err: out of memory.
     pub fn copy(&self, alloc: Global) -> Mem<Primitive>
         ensures { IfOk result (λ q. primitive q ≡ primitive self.now) }
     {

@@ -1,4 +1,4 @@
-// From bytes to tokens.
+// From bytes to tokens: one pass over the text, in which what stands at the front is told by its first bytes.
 ghost use Rattle.std.specs.Prelude.{◌≡◌, ◌≤◌, ℕ, List, false, length, map, IfOk, IfErr, Option};
 ghost use Rattle.std.specs.List.{prefix_len, AllByRecursion};
 ghost use Rattle.base.specs.Because.{Because};
@@ -12,10 +12,13 @@ use crate::{Fault, FaultCode, Kind, Sign, Token, Word};
 use base::Refused;
 use std::alloc::Global;
 
+// How many bytes a name may have.
 const LONGEST_NAME: usize = 64;
 
+// How many digits a number may have.
 const LONGEST_NUMBER: usize = 9;
 
+// How the reserved words are written.
 const WORDS: [(&str, Word); 27] = [
     ("rml", Word::Rml),
     ("sort", Word::Sort),
@@ -103,6 +106,7 @@ fn word_len(bytes: &[u8]) -> usize
     count
 }
 
+// How many digits the bytes begin with.
 fn digits_len(bytes: &[u8]) -> usize
     ensures bound { result ≤ length bytes.now }
     ensures value { result ≡ prefix_len is_digit bytes.now }
@@ -133,6 +137,7 @@ fn look_up(rows: &[(&str, Word)], spelling: &[u8]) -> Option<Word>
     None
 }
 
+// The reserved word with this spelling.
 #[tactic(auto, unfolding(crate::specs::Spelling::reserved))]
 fn reserved(spelling: &[u8]) -> Option<Word>
     ensures { result ≡ reserved spelling.now }
