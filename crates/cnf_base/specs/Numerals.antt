@@ -1,10 +1,8 @@
 -- Numbers as they are written: an optional `-` and 1 to 10 digits, at most 2147483647 in size; `-0` is none.
 use Rattle.std.specs.Prelude.{ℕ, ◌+◌, ◌-◌, ◌*◌, Bool, true, false, ◌&&◌, ◌==◌, nat_le, List, [], ◌∷◌, length, Option}
 use Rattle.std.specs.Prelude.{Some, None, if◌then◌else◌}
+use Rattle.base.specs.Bytes.{is_digit}
 use Rattle.cnf_base.specs.declared.text.Numeral.{Numeral}
-
-abbrev pub is_digit : ℕ → Bool
-is_digit b = nat_le 48 b && nat_le b 57
 
 -- the number that these digits make behind the number n, if it is at most 2147483647
 abbrev pub with_digits : ℕ → List ℕ → Option ℕ

@@ -1,10 +1,7 @@
 -- The words of a text. Its bytes are cut into lines at each line feed. A line whose first byte is `c` is a comment; the
 -- others are cut into words at each blank.
 use Rattle.std.specs.Prelude.{ℕ, ◌+◌, Bool, false, ◌||◌, ◌==◌, List, [], ◌∷◌, ◌++◌, map, if◌then◌else◌}
-
--- space, tab, carriage return, line feed
-abbrev pub is_blank : ℕ → Bool
-is_blank b = (b == 32) || (b == 9) || (b == 13) || (b == 10)
+use Rattle.base.specs.Bytes.{is_blank}
 
 -- a byte and its place
 pub record Byte : Type 0 where

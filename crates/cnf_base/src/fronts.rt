@@ -4,9 +4,8 @@ ghost use Rattle.cnf_base.specs.Modes.{word_of};
 ghost use Rattle.cnf_base.specs.Fronts.{word_len};
 ghost use Rattle.cnf_base.specs.Numerals.{with_digits, digits_value, number_of};
 
-use crate::number::is_digit;
 use crate::text::Numeral;
-use crate::words::is_blank;
+use base::{is_blank, is_digit};
 
 // Up to here a number may get one more digit.
 const MAX_EXTENDABLE: u32 = 214748363;

@@ -1,20 +1,14 @@
 // Numbers as they are written: what a word says, wherever it stands.
 ghost use Rattle.std.specs.Prelude.{◌≡◌, ◌<◌, ◌^◌, IfSome, not};
+ghost use Rattle.base.specs.Bytes.{is_digit};
 ghost use Rattle.cnf_base.specs.Literals.{literal_of};
 ghost use Rattle.cnf_base.specs.Numerals.{with_digits, digits_value, number_of};
-ghost use Rattle.base.specs.Bytes.{is_digit};
 
 use crate::Lit;
 use crate::text::Numeral;
+use base::is_digit;
 
 const LARGEST: u64 = 2147483647;
-
-/// Whether a byte is one of `0` to `9`.
-pub fn is_digit(b: u8) -> bool
-    ensures { result ≡ is_digit b }
-{
-    matches!(b, b'0'..=b'9')
-}
 
 // The number that digits make.
 fn with_digits(digits: &[u8]) -> Option<u32>

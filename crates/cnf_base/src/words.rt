@@ -3,14 +3,15 @@
 ghost use Rattle.std.specs.Prelude.{◌≡◌, ◌≤◌, ◌<◌, ◌+◌, ◌^◌, ℕ, List, [], ◌∷◌, length, false, not, Some, MatchOption};
 ghost use Rattle.std.specs.Prelude.{IfSome};
 ghost use Rattle.std.specs.List.{prefix_len};
-ghost use Rattle.cnf_base.specs.Words.{words_of};
 ghost use Rattle.base.specs.Bytes.{is_blank};
+ghost use Rattle.cnf_base.specs.Words.{words_of};
 ghost use Rattle.cnf_base.specs.Modes.{behind, next_mode, begins_word, words_from};
 ghost use Rattle.cnf_base.specs.Starts.{IsAtStart};
 ghost use Rattle.cnf_base.specs.Numerals.{number_of};
 
 use crate::fronts::{ends_word, front_digits, front_number};
 use crate::text::{LineMode, Numeral};
+use base::is_blank;
 use std::marker::Model;
 
 /// A word of a text, and the place of its first byte.
@@ -39,13 +40,6 @@ impl<'a> Model for Words<'a> {
     ghost view = { λ w. words_from w.mode w.at w.rest.now };
 
     ghost invariant = { λ w. w.at + length w.rest.now < 2 ^ 63 };
-}
-
-/// Whether a byte stands between words: a space, a tab, a carriage return or a line feed.
-pub fn is_blank(b: u8) -> bool
-    ensures { result ≡ is_blank b }
-{
-    matches!(b, b' ' | b'\t' | b'\r' | b'\n')
 }
 
 fn behind(b: u8) -> LineMode

@@ -60,6 +60,7 @@ fn emit_of<'a>(matches: &Option<ArgMatches<'a>>) -> Option<Request<'a>>
     }
 }
 
+/// What the words ask for where they are an `emit`, or nothing where `clap` refuses them.
 #[tactic(auto, unfolding(crate::specs::Lines::emit_line))]
 pub fn emit<'a>(alloc: Global, words: &'a [String]) -> Mem<Option<Request<'a>>>
     ensures line { IfOk result

@@ -32,6 +32,7 @@ fn sample_of<'a>(matches: &Option<ArgMatches<'a>>) -> Option<Request<'a>>
     }
 }
 
+/// What the words ask for where they are a `sample`, or nothing where `clap` refuses them.
 #[tactic(auto, unfolding(crate::specs::Lines::sample_line))]
 pub fn sample<'a>(alloc: Global, words: &'a [String]) -> Mem<Option<Request<'a>>>
     ensures line { IfOk result

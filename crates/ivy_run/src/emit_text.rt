@@ -2,8 +2,8 @@
 ghost use Rattle.std.specs.Prelude.{◌≡◌, IfOk};
 ghost use Rattle.ivy_run.specs.Emit.{fails_text, undecided_text, no_goal_text};
 
-use crate::pieces::{push_cause, push_number, push_text};
-use base::Mem;
+use crate::pieces::push_cause;
+use base::{Mem, push_number, push_text};
 use rml_report::Cause;
 use std::alloc::Global;
 
@@ -14,7 +14,7 @@ pub fn fails_line(alloc: Global, number: u64) -> Mem<Vec<u8>>
 {
     let mut out = Vec::new(alloc);
     push_text(&mut out, "goal ")?;
-    push_number(alloc, &mut out, number)?;
+    push_number(&mut out, number)?;
     push_text(&mut out, " fails\n")?;
     Ok(out)
 }
@@ -26,9 +26,9 @@ pub fn undecided_line(alloc: Global, number: u64, cause: Cause) -> Mem<Vec<u8>>
 {
     let mut out = Vec::new(alloc);
     push_text(&mut out, "goal ")?;
-    push_number(alloc, &mut out, number)?;
+    push_number(&mut out, number)?;
     push_text(&mut out, " undecided ")?;
-    push_cause(alloc, &mut out, cause)?;
+    push_cause(&mut out, cause)?;
     push_text(&mut out, "\n")?;
     Ok(out)
 }
@@ -40,7 +40,7 @@ pub fn no_goal_line(alloc: Global, goals: u64) -> Mem<Vec<u8>>
 {
     let mut out = Vec::new(alloc);
     push_text(&mut out, "there are ")?;
-    push_number(alloc, &mut out, goals)?;
+    push_number(&mut out, goals)?;
     push_text(&mut out, " goals\n")?;
     Ok(out)
 }

@@ -3,8 +3,7 @@
 ghost use Rattle.std.specs.Prelude.{◌≡◌, ◌≤◌, length, IfOk};
 ghost use Rattle.ivy_run.specs.Faults.{letter_of, number_of, text_of, fault_line, refusal_line};
 
-use crate::pieces::{push_number, push_text};
-use base::Mem;
+use base::{Mem, push_number, push_text};
 use cnf_base::CnfFaultCode;
 use lrat_log::{LogFaultCode, RefusalCode};
 use rml_lex::{FaultCode, place};
@@ -67,11 +66,11 @@ pub fn fault_line(alloc: Global, code: ReportCode, text: &[u8], at: u64) -> Mem<
     let mut out = Vec::new(alloc);
     let (line, column) = place(text, at);
     push_text(&mut out, code.letter())?;
-    push_number(alloc, &mut out, code.number() as u64)?;
+    push_number(&mut out, code.number() as u64)?;
     push_text(&mut out, " at ")?;
-    push_number(alloc, &mut out, line)?;
+    push_number(&mut out, line)?;
     push_text(&mut out, ":")?;
-    push_number(alloc, &mut out, column)?;
+    push_number(&mut out, column)?;
     push_text(&mut out, ": ")?;
     push_text(&mut out, code.text())?;
     push_text(&mut out, "\n")?;
@@ -85,9 +84,9 @@ pub fn refusal_line(alloc: Global, code: ReportCode, id: u64) -> Mem<Vec<u8>>
 {
     let mut out = Vec::new(alloc);
     push_text(&mut out, code.letter())?;
-    push_number(alloc, &mut out, code.number() as u64)?;
+    push_number(&mut out, code.number() as u64)?;
     push_text(&mut out, " at id ")?;
-    push_number(alloc, &mut out, id)?;
+    push_number(&mut out, id)?;
     push_text(&mut out, ": ")?;
     push_text(&mut out, code.text())?;
     push_text(&mut out, "\n")?;

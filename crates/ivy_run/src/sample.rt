@@ -10,9 +10,8 @@ ghost use Rattle.ivy_run.specs.ModelTexts.{IsTheModel};
 use crate::check::{report_on, status_of};
 use crate::fault_text::{ReportCode, fault_line};
 use crate::model_text::read_model;
-use crate::pieces::{push_number, push_text};
 use crate::saying::{complaint, shown};
-use base::{Mem, Refused};
+use base::{Mem, Refused, push_number, push_text};
 use command_line::default_asked;
 use commands::{Command, Said};
 use goal_number::goal_count;
@@ -86,11 +85,11 @@ fn judge_sample(alloc: Global, number: u64) -> Mem<SampleAnswer>
 }
 
 #[tactic(auto, using(std::proofs::Common::append_assoc), unfolding(crate::specs::Sample::count_line))]
-fn push_count(alloc: Global, out: &mut Vec<u8>, word: &str, n: u64) -> Mem<()>
+fn push_count(out: &mut Vec<u8>, word: &str, n: u64) -> Mem<()>
     ensures { OnOk result (out.new.items ≡ out.old.items ++ count_line word.now n) }
 {
     push_text(out, word)?;
-    push_number(alloc, out, n)?;
+    push_number(out, n)?;
     push_text(out, "\n")?;
     Ok(())
 }
@@ -111,15 +110,10 @@ fn sampled_lines(alloc: Global, number: u64, sampled: &Sampled) -> Mem<Vec<u8>>
     ensures { IfOk result (λ text. text.items ≡ sampled_text number sampled.now) }
 {
     let mut out = Vec::new(alloc);
-    push_count(alloc, &mut out, "sample ", number)?;
-    push_count(alloc, &mut out, "bytes ", sampled.bytes)?;
-    push_count(
-        alloc,
-        &mut out,
-        "groups ",
-        sampled.report.groups.len() as u64,
-    )?;
-    push_count(alloc, &mut out, "goals ", sampled.goals)?;
+    push_count(&mut out, "sample ", number)?;
+    push_count(&mut out, "bytes ", sampled.bytes)?;
+    push_count(&mut out, "groups ", sampled.report.groups.len() as u64)?;
+    push_count(&mut out, "goals ", sampled.goals)?;
     push_text(&mut out, verdict_line(sampled.report.verdict))?;
     Ok(out)
 }

@@ -57,6 +57,7 @@ pub fn set_function(alloc: Global, structure: &mut Structure, fun: FunId, by: &T
     Ok(())
 }
 
+/// Sets a program variable to an element of its sort.
 pub fn set_variable(
     alloc: Global,
     structure: &mut Structure,

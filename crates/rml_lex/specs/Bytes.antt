@@ -1,5 +1,6 @@
 -- What kinds of bytes there are.
 use Rattle.std.specs.Prelude.{ℕ, ◌+◌, Bool, true, false, ◌||◌, ◌&&◌, ◌==◌, nat_le, List, [], ◌∷◌, if◌then◌else◌}
+use Rattle.base.specs.Bytes.{is_digit, is_blank}
 
 -- a letter, or the low line that counts as one
 abbrev pub is_letter : ℕ → Bool
@@ -8,10 +9,6 @@ is_letter b = (nat_le 97 b && nat_le b 122) || (nat_le 65 b && nat_le b 90) || (
 -- what a name goes on with
 abbrev pub goes_on : ℕ → Bool
 goes_on b = is_letter b || is_digit b
-
--- space, tab, carriage return, line feed
-abbrev pub is_blank : ℕ → Bool
-is_blank b = (b == 32) || (b == 9) || (b == 13) || (b == 10)
 
 -- How many bytes stand before the first that is neither blank nor in a comment. A comment goes from # to the
 -- line feed; inside says whether one is open.

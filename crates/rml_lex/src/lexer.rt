@@ -2,14 +2,14 @@
 ghost use Rattle.std.specs.Prelude.{◌≡◌, ◌≤◌, ℕ, List, false, length, map, IfOk, IfErr, Option};
 ghost use Rattle.std.specs.List.{prefix_len, AllByRecursion};
 ghost use Rattle.base.specs.Because.{Because};
-ghost use Rattle.rml_lex.specs.Bytes.{is_letter, goes_on, gap_len};
 ghost use Rattle.base.specs.Bytes.{is_digit, is_blank};
+ghost use Rattle.rml_lex.specs.Bytes.{is_letter, goes_on, gap_len};
 ghost use Rattle.rml_lex.specs.Spelling.{spelled, reserved, sign_at};
 ghost use Rattle.rml_lex.specs.Tokens.{front_of, sign_front, IsWithin, AreTokens, IsFault, EndsBy, StandsBy, word_of};
 
 use crate::token::Front;
 use crate::{Fault, FaultCode, Kind, Sign, Token, Word};
-use base::Refused;
+use base::{Refused, is_blank, is_digit};
 use std::alloc::Global;
 
 // How many bytes a name may have.
@@ -53,18 +53,6 @@ fn is_letter(b: u8) -> bool
     ensures { result ≡ is_letter b }
 {
     matches!(b, b'a'..=b'z' | b'A'..=b'Z' | b'_')
-}
-
-fn is_digit(b: u8) -> bool
-    ensures { result ≡ is_digit b }
-{
-    matches!(b, b'0'..=b'9')
-}
-
-fn is_blank(b: u8) -> bool
-    ensures { result ≡ is_blank b }
-{
-    matches!(b, b' ' | b'\t' | b'\r' | b'\n')
 }
 
 // How many bytes stand before the first that is neither blank nor in a comment.

@@ -7,63 +7,52 @@ ghost use Rattle.rml_report.specs.ReportText.{end_text, outcome_text, block_text
 
 use crate::cause::{Cause, Least};
 use crate::tables::{push_sorts, push_tables};
-use crate::words::{
-    push_cause, push_labelled, push_name, push_number, push_numbers_line, push_text,
-};
-use base::Mem;
+use crate::words::{push_cause, push_labelled, push_name, push_numbers_line};
+use base::{Mem, push_number, push_text};
 use fol_sig::Sort;
 use rml_command::{About, Checked, Names};
 use rml_exec::{Counterexample, Followed, follow};
 use std::alloc::Global;
 
 #[tactic(auto, using(std::proofs::Common::append_assoc), unfolding(crate::specs::ReportText::path_line))]
-fn push_path_line(alloc: Global, out: &mut Vec<u8>, path: u32, paths: u32) -> Mem<()>
+fn push_path_line(out: &mut Vec<u8>, path: u32, paths: u32) -> Mem<()>
     ensures { OnOk result (out.new.items ≡ out.old.items ++ path_line path paths) }
 {
     push_text(out, "  path ")?;
-    push_number(alloc, out, path as u64)?;
+    push_number(out, path as u64)?;
     push_text(out, " of ")?;
-    push_number(alloc, out, paths as u64)?;
+    push_number(out, paths as u64)?;
     push_text(out, "\n")?;
     Ok(())
 }
 
 #[tactic(auto, using(std::proofs::Common::append_assoc), unfolding(crate::specs::ReportText::stopped_text))]
-fn push_stopped(
-    alloc: Global,
-    out: &mut Vec<u8>,
-    names: &Names,
-    sort: Sort,
-    size: u64,
-    cause: &Cause,
-) -> Mem<()>
+fn push_stopped(out: &mut Vec<u8>, names: &Names, sort: Sort, size: u64, cause: &Cause) -> Mem<()>
     ensures { OnOk result
         (out.new.items ≡ out.old.items ++ stopped_text (name_at names.now.sorts sort.0) size cause.now) }
 {
     push_labelled(out, "stopped ", names.sorts.as_slice(), sort.0, " ")?;
-    push_number(alloc, out, size)?;
+    push_number(out, size)?;
     push_text(out, " ")?;
-    push_cause(alloc, out, cause)?;
+    push_cause(out, cause)?;
     Ok(())
 }
 
-fn push_least(alloc: Global, out: &mut Vec<u8>, names: &Names, least: &Least) -> Mem<()>
+fn push_least(out: &mut Vec<u8>, names: &Names, least: &Least) -> Mem<()>
     ensures { OnOk result (out.new.items ≡ out.old.items ++ least_text names.now least.now) }
 {
     match least {
         Least::Yes => push_text(out, "yes"),
-        Least::Stopped { sort, size, cause } => push_stopped(
-            alloc, out, names, *sort, *size, cause,
-        ),
+        Least::Stopped { sort, size, cause } => push_stopped(out, names, *sort, *size, cause),
     }
 }
 
 #[tactic(auto, using(std::proofs::Common::append_assoc), unfolding(crate::specs::ReportText::least_line))]
-fn push_least_line(alloc: Global, out: &mut Vec<u8>, names: &Names, least: &Least) -> Mem<()>
+fn push_least_line(out: &mut Vec<u8>, names: &Names, least: &Least) -> Mem<()>
     ensures { OnOk result (out.new.items ≡ out.old.items ++ least_line names.now least.now) }
 {
     push_text(out, "  least: ")?;
-    push_least(alloc, out, names, least)?;
+    push_least(out, names, least)?;
     push_text(out, "\n")?;
     Ok(())
 }
@@ -93,7 +82,7 @@ fn push_end(alloc: Global, out: &mut Vec<u8>, checked: &Checked, shown: &Counter
 {
     push_text(out, "  after\n")?;
     push_end_tables(alloc, out, checked, shown)?;
-    push_numbers_line(alloc, out, "  values:", shown.values.as_slice())?;
+    push_numbers_line(out, "  values:", shown.values.as_slice())?;
     Ok(())
 }
 
@@ -129,12 +118,12 @@ pub fn push_block(
 {
     let model = checked.model();
     push_text(out, ": fails\n")?;
-    push_path_line(alloc, out, shown.trace.path, paths)?;
-    push_least_line(alloc, out, model.names(), least)?;
+    push_path_line(out, shown.trace.path, paths)?;
+    push_least_line(out, model.names(), least)?;
     push_text(out, "  before\n")?;
-    push_sorts(alloc, out, model, &shown.structure)?;
+    push_sorts(out, model, &shown.structure)?;
     push_tables(alloc, out, model, &shown.structure)?;
-    push_numbers_line(alloc, out, "  havoc:", shown.trace.havoc.as_slice())?;
+    push_numbers_line(out, "  havoc:", shown.trace.havoc.as_slice())?;
     push_outcome(alloc, out, checked, about, shown)?;
     Ok(())
 }

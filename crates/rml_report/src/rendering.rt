@@ -8,8 +8,8 @@ ghost use Rattle.rml_report.specs.ReportText.{group_text, open_text, axioms_text
 use crate::block::push_block;
 use crate::cause::Cause;
 use crate::report::{Answer, Axioms, Group, Report, Verdict};
-use crate::words::{push_cause, push_name, push_number, push_text};
-use base::Mem;
+use crate::words::{push_cause, push_name};
+use base::{Mem, push_number, push_text};
 use rml_command::{About, Checked, Names, Stage};
 use std::alloc::Global;
 
@@ -60,13 +60,13 @@ fn push_head(out: &mut Vec<u8>, names: &Names, stage: Stage, about: About) -> Me
 }
 
 #[tactic(auto, using(std::proofs::Common::append_assoc), unfolding(crate::specs::ReportText::undecided_text))]
-fn push_undecided(alloc: Global, out: &mut Vec<u8>, path: u32, cause: &Cause) -> Mem<()>
+fn push_undecided(out: &mut Vec<u8>, path: u32, cause: &Cause) -> Mem<()>
     ensures { OnOk result (out.new.items ≡ out.old.items ++ undecided_text path cause.now) }
 {
     push_text(out, ": undecided path ")?;
-    push_number(alloc, out, path as u64)?;
+    push_number(out, path as u64)?;
     push_text(out, " ")?;
-    push_cause(alloc, out, cause)?;
+    push_cause(out, cause)?;
     push_text(out, "\n")?;
     Ok(())
 }
@@ -88,7 +88,7 @@ fn push_answer(
             least,
             shown,
         } => push_block(alloc, out, checked, about, *paths, least, shown),
-        Answer::Undecided { path, cause } => push_undecided(alloc, out, *path, cause),
+        Answer::Undecided { path, cause } => push_undecided(out, *path, cause),
     }
 }
 
@@ -116,22 +116,22 @@ fn push_groups(alloc: Global, out: &mut Vec<u8>, checked: &Checked, groups: &[Gr
 }
 
 #[tactic(auto, using(std::proofs::Common::append_assoc), unfolding(crate::specs::ReportText::open_text))]
-fn push_open(alloc: Global, out: &mut Vec<u8>, cause: &Cause) -> Mem<()>
+fn push_open(out: &mut Vec<u8>, cause: &Cause) -> Mem<()>
     ensures { OnOk result (out.new.items ≡ out.old.items ++ open_text cause.now) }
 {
     push_text(out, "axioms: undecided ")?;
-    push_cause(alloc, out, cause)?;
+    push_cause(out, cause)?;
     push_text(out, "\n")?;
     Ok(())
 }
 
-fn push_axioms(alloc: Global, out: &mut Vec<u8>, axioms: &Axioms) -> Mem<()>
+fn push_axioms(out: &mut Vec<u8>, axioms: &Axioms) -> Mem<()>
     ensures { OnOk result (out.new.items ≡ out.old.items ++ axioms_text axioms.now) }
 {
     match axioms {
         Axioms::Consistent => push_text(out, "axioms: consistent\n"),
         Axioms::Inconsistent => push_text(out, "axioms: inconsistent\n"),
-        Axioms::Undecided(cause) => push_open(alloc, out, cause),
+        Axioms::Undecided(cause) => push_open(out, cause),
     }
 }
 
@@ -152,7 +152,7 @@ pub fn render(alloc: Global, checked: &Checked, report: &Report) -> Mem<Vec<u8>>
     ensures { IfOk result (λ text. text.items ≡ report_text checked.now report.now) }
 {
     let mut out = Vec::new(alloc);
-    push_axioms(alloc, &mut out, &report.axioms)?;
+    push_axioms(&mut out, &report.axioms)?;
     push_groups(alloc, &mut out, checked, report.groups.as_slice())?;
     push_verdict(&mut out, report.verdict)?;
     Ok(out)

@@ -9,8 +9,8 @@ ghost use Rattle.rml_report.specs.TableText.{arguments_of, values_text, symbol_l
 ghost use Rattle.rml_report.specs.TableText.{function_line, tables_text, sort_line, sorts_text, IsCell, HasSymbol};
 ghost use Rattle.rml_report.specs.TableText.{EachTuple};
 
-use crate::words::{push_labelled, push_number, push_text, push_truth};
-use base::Mem;
+use crate::words::{push_labelled, push_truth};
+use base::{Mem, push_number, push_text};
 use fol_sig::{FunId, RelId, Sort, Structure};
 use rml_command::{Model, Names};
 use std::alloc::Global;
@@ -24,13 +24,13 @@ pub enum Symbol {
 
 // A comma and each number.
 #[tactic(auto, using(std::proofs::Common::append_assoc), unfolding(crate::specs::TableText::more_text))]
-fn push_more(alloc: Global, out: &mut Vec<u8>, elements: &[u32]) -> Mem<()>
+fn push_more(out: &mut Vec<u8>, elements: &[u32]) -> Mem<()>
     ensures { OnOk result (out.new.items ≡ out.old.items ++ more_text elements.now) }
 {
     let mut rest = elements;
     while let [element, after @ ..] = rest {
         push_text(out, ",")?;
-        push_number(alloc, out, *element as u64)?;
+        push_number(out, *element as u64)?;
         rest = after;
     }
     Ok(())
@@ -38,64 +38,52 @@ fn push_more(alloc: Global, out: &mut Vec<u8>, elements: &[u32]) -> Mem<()>
 
 // The numbers, with a comma between them.
 #[tactic(auto, using(std::proofs::Common::append_assoc))]
-fn push_listed(alloc: Global, out: &mut Vec<u8>, elements: &[u32]) -> Mem<()>
+fn push_listed(out: &mut Vec<u8>, elements: &[u32]) -> Mem<()>
     ensures { OnOk result (out.new.items ≡ out.old.items ++ listed_text elements.now) }
 {
     if let [first, more @ ..] = elements {
-        push_number(alloc, out, *first as u64)?;
-        push_more(alloc, out, more)?;
+        push_number(out, *first as u64)?;
+        push_more(out, more)?;
     }
     Ok(())
 }
 
 // A blank and a tuple.
 #[tactic(auto, using(std::proofs::Common::append_assoc), unfolding(crate::specs::TableText::tuple_text))]
-fn push_tuple(alloc: Global, out: &mut Vec<u8>, tuple: &[u32]) -> Mem<()>
+fn push_tuple(out: &mut Vec<u8>, tuple: &[u32]) -> Mem<()>
     ensures { OnOk result (out.new.items ≡ out.old.items ++ tuple_text tuple.now) }
 {
     push_text(out, " (")?;
-    push_listed(alloc, out, tuple)?;
+    push_listed(out, tuple)?;
     push_text(out, ")")?;
     Ok(())
 }
 
 // A tuple of a function, and the value there.
 #[tactic(auto, using(std::proofs::Common::append_assoc))]
-fn push_mapped(
-    alloc: Global,
-    out: &mut Vec<u8>,
-    structure: &Structure,
-    fun: FunId,
-    tuple: &[u32],
-) -> Mem<()>
+fn push_mapped(out: &mut Vec<u8>, structure: &Structure, fun: FunId, tuple: &[u32]) -> Mem<()>
     requires { IsCell structure.now (Symbol.Function fun) tuple.now }
     ensures { OnOk result (out.new.items ≡ out.old.items ++ cell_text structure.now (Symbol.Function fun) tuple.now) }
 {
-    push_tuple(alloc, out, tuple)?;
+    push_tuple(out, tuple)?;
     push_text(out, "->")?;
-    push_number(alloc, out, structure.fun(fun, tuple) as u64)?;
+    push_number(out, structure.fun(fun, tuple) as u64)?;
     Ok(())
 }
 
-fn push_cell(
-    alloc: Global,
-    out: &mut Vec<u8>,
-    structure: &Structure,
-    symbol: Symbol,
-    tuple: &[u32],
-) -> Mem<()>
+fn push_cell(out: &mut Vec<u8>, structure: &Structure, symbol: Symbol, tuple: &[u32]) -> Mem<()>
     requires { IsCell structure.now symbol tuple.now }
     ensures { OnOk result (out.new.items ≡ out.old.items ++ cell_text structure.now symbol tuple.now) }
 {
     match symbol {
         Symbol::Relation(rel) => {
             if structure.rel(rel, tuple) {
-                push_tuple(alloc, out, tuple)
+                push_tuple(out, tuple)
             } else {
                 Ok(())
             }
         }
-        Symbol::Function(fun) => push_mapped(alloc, out, structure, fun, tuple),
+        Symbol::Function(fun) => push_mapped(out, structure, fun, tuple),
     }
 }
 
@@ -115,7 +103,7 @@ fn push_cells(
     ensures tuple { OnOk result (tuple.new.items ≡ tuple.old.items) }
 {
     match sorts.split_first() {
-        None => push_cell(alloc, out, structure, symbol, tuple)?,
+        None => push_cell(out, structure, symbol, tuple)?,
         Some((sort, rest)) => {
             for element in 0..structure.size(*sort) {
                 tuple.push(element)?;
@@ -127,13 +115,13 @@ fn push_cells(
     Ok(())
 }
 
-fn push_value(alloc: Global, out: &mut Vec<u8>, structure: &Structure, symbol: Symbol) -> Mem<()>
+fn push_value(out: &mut Vec<u8>, structure: &Structure, symbol: Symbol) -> Mem<()>
     requires { IsCell structure.now symbol [] }
     ensures { OnOk result (out.new.items ≡ out.old.items ++ value_text structure.now symbol) }
 {
     match symbol {
         Symbol::Relation(rel) => push_truth(out, structure.rel(rel, &[])),
-        Symbol::Function(fun) => push_number(alloc, out, structure.fun(fun, &[]) as u64),
+        Symbol::Function(fun) => push_number(out, structure.fun(fun, &[]) as u64),
     }
 }
 
@@ -161,7 +149,7 @@ fn push_values(
 {
     if sorts.is_empty() {
         push_text(out, " ")?;
-        push_value(alloc, out, structure, symbol)?;
+        push_value(out, structure, symbol)?;
     } else {
         let mut tuple = Vec::new(alloc);
         push_cells(alloc, out, structure, symbol, sorts, &mut tuple)?;
@@ -260,24 +248,24 @@ pub fn push_tables(
 }
 
 #[tactic(auto, using(std::proofs::Common::append_assoc), unfolding(crate::specs::TableText::sort_line))]
-fn push_sort(alloc: Global, out: &mut Vec<u8>, names: &Names, sort: u32, size: u32) -> Mem<()>
+fn push_sort(out: &mut Vec<u8>, names: &Names, sort: u32, size: u32) -> Mem<()>
     ensures { OnOk result (out.new.items ≡ out.old.items ++ sort_line names.now sort size) }
 {
     push_labelled(out, "    sort ", names.sorts.as_slice(), sort, " ")?;
-    push_number(alloc, out, size as u64)?;
+    push_number(out, size as u64)?;
     push_text(out, "\n")?;
     Ok(())
 }
 
 /// A line for each sort.
 #[tactic(auto, using(std::proofs::Common::append_assoc))]
-pub fn push_sorts(alloc: Global, out: &mut Vec<u8>, model: &Model, structure: &Structure) -> Mem<()>
+pub fn push_sorts(out: &mut Vec<u8>, model: &Model, structure: &Structure) -> Mem<()>
     requires { FitsStructure (symbols model.now.signature) structure.now }
     ensures { OnOk result (out.new.items ≡ out.old.items ++ sorts_text model.now.names structure.now) }
 {
     let names = model.names();
     for sort in 0..model.signature().sorts() {
-        push_sort(alloc, out, names, sort, structure.size(Sort(sort)))?;
+        push_sort(out, names, sort, structure.size(Sort(sort)))?;
     }
     Ok(())
 }

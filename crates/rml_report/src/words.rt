@@ -3,22 +3,8 @@ ghost use Rattle.std.specs.Prelude.{◌≡◌, ◌++◌, OnOk, decimal};
 ghost use Rattle.rml_report.specs.Words.{name_at, labelled, truth_text, numbers_text, numbers_line, cause_text};
 
 use crate::cause::Cause;
-use base::Mem;
+use base::{Mem, push_number, push_text};
 use rml_command::Name;
-use std::alloc::Global;
-
-pub fn push_text(out: &mut Vec<u8>, text: &str) -> Mem<()>
-    ensures { OnOk result (out.new.items ≡ out.old.items ++ text.now) }
-{
-    out.extend_from_slice(text.as_bytes())
-}
-
-pub fn push_number(alloc: Global, out: &mut Vec<u8>, n: u64) -> Mem<()>
-    ensures { OnOk result (out.new.items ≡ out.old.items ++ decimal n) }
-{
-    let text = n.to_string(alloc)?;
-    out.extend_from_slice(text.as_bytes())
-}
 
 // The name of this number; nothing where there is none.
 pub fn push_name(out: &mut Vec<u8>, names: &[Name], k: u32) -> Mem<()>
@@ -60,34 +46,34 @@ pub fn push_truth(out: &mut Vec<u8>, value: bool) -> Mem<()>
 
 // A word and a number.
 #[tactic(auto, using(std::proofs::Common::append_assoc))]
-fn push_counted(alloc: Global, out: &mut Vec<u8>, word: &str, n: u64) -> Mem<()>
+fn push_counted(out: &mut Vec<u8>, word: &str, n: u64) -> Mem<()>
     ensures { OnOk result (out.new.items ≡ out.old.items ++ (word.now ++ decimal n)) }
 {
     push_text(out, word)?;
-    push_number(alloc, out, n)?;
+    push_number(out, n)?;
     Ok(())
 }
 
-pub fn push_cause(alloc: Global, out: &mut Vec<u8>, cause: &Cause) -> Mem<()>
+pub fn push_cause(out: &mut Vec<u8>, cause: &Cause) -> Mem<()>
     ensures { OnOk result (out.new.items ≡ out.old.items ++ cause_text cause.now) }
 {
     match cause {
         Cause::Formula => push_text(out, "formula"),
-        Cause::Terms(n) => push_counted(alloc, out, "terms ", *n),
-        Cause::Ground(n) => push_counted(alloc, out, "ground ", *n),
-        Cause::Conflicts(n) => push_counted(alloc, out, "conflicts ", *n),
+        Cause::Terms(n) => push_counted(out, "terms ", *n),
+        Cause::Ground(n) => push_counted(out, "ground ", *n),
+        Cause::Conflicts(n) => push_counted(out, "conflicts ", *n),
     }
 }
 
 // A blank and each number.
 #[tactic(auto, using(std::proofs::Common::append_assoc), unfolding(crate::specs::Words::numbers_text))]
-fn push_numbers(alloc: Global, out: &mut Vec<u8>, numbers: &[u32]) -> Mem<()>
+fn push_numbers(out: &mut Vec<u8>, numbers: &[u32]) -> Mem<()>
     ensures { OnOk result (out.new.items ≡ out.old.items ++ numbers_text numbers.now) }
 {
     let mut rest = numbers;
     while let [number, after @ ..] = rest {
         push_text(out, " ")?;
-        push_number(alloc, out, *number as u64)?;
+        push_number(out, *number as u64)?;
         rest = after;
     }
     Ok(())
@@ -95,11 +81,11 @@ fn push_numbers(alloc: Global, out: &mut Vec<u8>, numbers: &[u32]) -> Mem<()>
 
 // A word, the numbers, and the end of the line.
 #[tactic(auto, using(std::proofs::Common::append_assoc), unfolding(crate::specs::Words::numbers_line))]
-pub fn push_numbers_line(alloc: Global, out: &mut Vec<u8>, word: &str, numbers: &[u32]) -> Mem<()>
+pub fn push_numbers_line(out: &mut Vec<u8>, word: &str, numbers: &[u32]) -> Mem<()>
     ensures { OnOk result (out.new.items ≡ out.old.items ++ numbers_line word.now numbers.now) }
 {
     push_text(out, word)?;
-    push_numbers(alloc, out, numbers)?;
+    push_numbers(out, numbers)?;
     push_text(out, "\n")?;
     Ok(())
 }

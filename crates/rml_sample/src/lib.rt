@@ -7,8 +7,8 @@ mod pushing;
 ghost use Rattle.std.specs.Prelude.{◌≡◌, ◌≤◌, IfOk};
 ghost use Rattle.rml_sample.specs.Sample.{sample_text};
 
-use base::Mem;
-use pushing::{Piece, push_pieces, push_text};
+use base::{Mem, push_text};
+use pushing::{Piece, push_pieces};
 use std::alloc::Global;
 
 /// The text of the model with relations r0 to rN, so many actions, and a conjecture for each two neighbours.
@@ -19,11 +19,11 @@ pub fn sample_text(alloc: Global, n: u64) -> Mem<Vec<u8>>
 {
     let mut out = Vec::new(alloc);
     push_text(&mut out, "sort node\nvariable v : node\n")?;
-    push_pieces(alloc, &mut out, Piece::Relation, 0, n + 1)?;
+    push_pieces(&mut out, Piece::Relation, 0, n + 1)?;
     push_text(&mut out, "init { r0(x) := false")?;
-    push_pieces(alloc, &mut out, Piece::Start, 1, n)?;
+    push_pieces(&mut out, Piece::Start, 1, n)?;
     push_text(&mut out, " }\naction a0 { v := *; insert r0(v) }\n")?;
-    push_pieces(alloc, &mut out, Piece::Action, 1, n)?;
-    push_pieces(alloc, &mut out, Piece::Conjecture, 1, n)?;
+    push_pieces(&mut out, Piece::Action, 1, n)?;
+    push_pieces(&mut out, Piece::Conjecture, 1, n)?;
     Ok(out)
 }

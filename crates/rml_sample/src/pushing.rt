@@ -2,8 +2,7 @@
 ghost use Rattle.std.specs.Prelude.{◌≡◌, ◌≤◌, ◌<◌, ◌+◌, ◌++◌, OnOk};
 ghost use Rattle.rml_sample.specs.Sample.{IsThere, piece_text, pieces_text, numbered, action_text, conjecture_text};
 
-use base::Mem;
-use std::alloc::Global;
+use base::{Mem, push_number, push_text};
 
 /// What stands once for each number.
 #[derive(Clone, Copy, Debug)]
@@ -18,66 +17,59 @@ pub enum Piece {
     Conjecture,
 }
 
-pub fn push_text(out: &mut Vec<u8>, text: &str) -> Mem<()>
-    ensures { OnOk result (out.new.items ≡ out.old.items ++ text.now) }
-{
-    out.extend_from_slice(text.as_bytes())
-}
-
 // A number between two words.
 #[tactic(auto, using(std::proofs::Common::append_assoc), unfolding(crate::specs::Sample::numbered))]
-fn push_number(alloc: Global, out: &mut Vec<u8>, before: &str, n: u64, behind: &str) -> Mem<()>
+fn push_numbered(out: &mut Vec<u8>, before: &str, n: u64, behind: &str) -> Mem<()>
     ensures { OnOk result (out.new.items ≡ out.old.items ++ numbered before.now n behind.now) }
 {
     push_text(out, before)?;
-    let text = n.to_string(alloc)?;
-    push_text(out, text.as_str())?;
+    push_number(out, n)?;
     push_text(out, behind)?;
     Ok(())
 }
 
 #[tactic(auto, using(std::proofs::Common::append_assoc), unfolding(crate::specs::Sample::action_text))]
-fn push_action(alloc: Global, out: &mut Vec<u8>, i: u64) -> Mem<()>
+fn push_action(out: &mut Vec<u8>, i: u64) -> Mem<()>
     requires { 1 ≤ i }
     ensures { OnOk result (out.new.items ≡ out.old.items ++ action_text i) }
 {
-    push_number(alloc, out, "action a", i, " { v := *; assume r")?;
-    push_number(alloc, out, "", i - 1, "(v); insert r")?;
-    push_number(alloc, out, "", i, "(v) }\n")?;
+    push_numbered(out, "action a", i, " { v := *; assume r")?;
+    push_numbered(out, "", i - 1, "(v); insert r")?;
+    push_numbered(out, "", i, "(v) }\n")?;
     Ok(())
 }
 
 #[tactic(auto, using(std::proofs::Common::append_assoc), unfolding(crate::specs::Sample::conjecture_text))]
-fn push_conjecture(alloc: Global, out: &mut Vec<u8>, i: u64) -> Mem<()>
+fn push_conjecture(out: &mut Vec<u8>, i: u64) -> Mem<()>
     requires { 1 ≤ i }
     ensures { OnOk result (out.new.items ≡ out.old.items ++ conjecture_text i) }
 {
-    push_number(alloc, out, "conjecture c", i, ": forall x:node. r")?;
-    push_number(alloc, out, "", i, "(x) -> r")?;
-    push_number(alloc, out, "", i - 1, "(x)\n")?;
+    push_numbered(out, "conjecture c", i, ": forall x:node. r")?;
+    push_numbered(out, "", i, "(x) -> r")?;
+    push_numbered(out, "", i - 1, "(x)\n")?;
     Ok(())
 }
 
-fn push_piece(alloc: Global, out: &mut Vec<u8>, piece: Piece, i: u64) -> Mem<()>
+fn push_piece(out: &mut Vec<u8>, piece: Piece, i: u64) -> Mem<()>
     requires { IsThere piece i }
     ensures { OnOk result (out.new.items ≡ out.old.items ++ piece_text piece i) }
 {
     match piece {
-        Piece::Relation => push_number(alloc, out, "relation r", i, "(node)\n"),
-        Piece::Start => push_number(alloc, out, "; r", i, "(x) := false"),
-        Piece::Action => push_action(alloc, out, i),
-        Piece::Conjecture => push_conjecture(alloc, out, i),
+        Piece::Relation => push_numbered(out, "relation r", i, "(node)\n"),
+        Piece::Start => push_numbered(out, "; r", i, "(x) := false"),
+        Piece::Action => push_action(out, i),
+        Piece::Conjecture => push_conjecture(out, i),
     }
 }
 
 /// So many pieces, numbered from this number on.
-pub fn push_pieces(alloc: Global, out: &mut Vec<u8>, piece: Piece, from: u64, count: u64) -> Mem<()>
+pub fn push_pieces(out: &mut Vec<u8>, piece: Piece, from: u64, count: u64) -> Mem<()>
     requires there { IsThere piece from }
     requires few { (from ≤ 1) × (count ≤ 1000001) }
     ensures { OnOk result (out.new.items ≡ out.old.items ++ pieces_text piece from count) }
 {
     for i in from..from + count {
-        push_piece(alloc, out, piece, i)?;
+        push_piece(out, piece, i)?;
     }
     Ok(())
 }

@@ -43,6 +43,7 @@ fn rest_of(alloc: Global, bytes: &[u8], from: usize) -> Mem<String> {
 }
 
 impl Report {
+    /// Nothing differs yet.
     pub fn new(alloc: Global) -> Self {
         Report {
             lines: String::new(alloc),

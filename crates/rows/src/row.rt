@@ -19,6 +19,7 @@ pub struct Stream {
 }
 
 impl Stream {
+    /// A sink with room for 65,536 bytes, none of whose puts fails, and on which nothing is expected.
     pub fn new(alloc: Global) -> Self {
         Stream {
             room: 65536,
@@ -63,6 +64,7 @@ pub struct Row {
 }
 
 impl Row {
+    /// A row of this title and line, of which nothing else is said yet.
     pub fn new(alloc: Global, title: &str, line: u64) -> Mem<Self> {
         Ok(Row {
             title: String::from_str(alloc, title)?,
