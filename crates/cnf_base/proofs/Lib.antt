@@ -12,3 +12,4 @@ pub mod Numbers
 pub mod Prefixes
 pub mod Again
 pub mod Stamped
+pub mod Written

@@ -1,5 +1,5 @@
 -- The text of a formula in the format DIMACS CNF: the header, then a clause a line.
-use Rattle.std.specs.Prelude.{ℕ, ◌≤◌, List, [], ◌∷◌, ◌++◌, length, codes, decimal, if◌then◌else◌}
+use Rattle.std.specs.Prelude.{◌≡◌, ℕ, ◌≤◌, List, [], ◌∷◌, ◌++◌, length, codes, decimal, if◌then◌else◌}
 use Rattle.cnf_base.specs.declared.cnf.Entry.{Entry}
 use Rattle.cnf_base.specs.declared.cnf.Entry.TheVariants.{Clause, True}
 use Rattle.cnf_base.specs.Literals.{variable_of, is_positive}
@@ -29,3 +29,13 @@ pub record CanWrite (f : Formula) : Type 0 where
   pub variables : f.variables ≤ 2147483647
   pub clauses : length f.clauses ≤ 2147483647
   pub formula : IsFormula f
+
+-- behind what was there stands a front of a text, of which this is left
+pub record IsWritten (old new text left : List ℕ) : Type 0 where
+  pub front : List ℕ
+  pub whole : front ++ left ≡ text
+  pub behind : new ≡ old ++ front
+
+-- behind what was there stands a front of a text, and nothing else
+abbrev pub HasFront : List ℕ → List ℕ → List ℕ → Type 0
+HasFront old new text = (left : List ℕ) × IsWritten old new text left

@@ -1,6 +1,6 @@
 // Clauses: a list of literals is made into one, so that nothing above has to think of repeated or opposite literals. A
 // short list is scanned, and a long one looked up in a table, so that time is linear.
-ghost use Rattle.std.specs.Prelude.{◌≡◌, ℕ, List, IfOk, OnOk, ◌∷◌, true, if◌then◌else◌, []};
+ghost use Rattle.std.specs.Prelude.{◌≡◌, ℕ, List, IfOk, OnOk, OnErr, ◌∷◌, true, if◌then◌else◌, []};
 ghost use Rattle.cnf_base.specs.Literals.{member};
 ghost use Rattle.cnf_base.specs.Clauses.{IsClause, with_literal, entry_of};
 ghost use Rattle.cnf_base.specs.declared.cnf.Entry.TheVariants.{True};
@@ -104,10 +104,11 @@ pub fn holds(kept: &IndexSet<Lit>, lit: &Lit) -> bool
     kept.contains(lit)
 }
 
-/// Puts a literal into a table, where it is not in it.
+/// Puts a literal into a table, where it is not in it. After want of memory the table is as before.
 #[tactic(auto, using(crate::proofs::Sets::keys_wider))]
 pub fn keep(kept: &mut IndexSet<Lit>, lit: Lit) -> Mem<()>
-    ensures { OnOk result (kept.new.keys ≡ with_literal kept.old.keys lit) }
+    ensures ok { OnOk result (kept.new.keys ≡ with_literal kept.old.keys lit) }
+    ensures kept { OnErr result (kept.new.keys ≡ kept.old.keys) }
 {
     kept.insert(lit)?;
     Ok(())

@@ -1,6 +1,6 @@
 // Sets of literals that are emptied at once, in memory that goes by how many literals there are and not by their
 // numbers: a checker fills and empties one for each line of a log.
-ghost use Rattle.std.specs.Prelude.{◌≡◌, ℕ, ◌==◌, ◌||◌, ◌≤◌, false, length, get_or, OnOk};
+ghost use Rattle.std.specs.Prelude.{◌≡◌, ℕ, ◌==◌, ◌||◌, ◌≤◌, false, length, get_or, OnOk, OnErr};
 ghost use Rattle.cnf_base.specs.LitSetValue.{set_of};
 
 use crate::Lit;
@@ -90,9 +90,10 @@ impl LitSet {
         holds(&self.far, &lit)
     }
 
-    /// Puts a literal into the set.
+    /// Puts a literal into the set. After want of memory the set is as before.
     pub fn insert(&mut self, lit: Lit) -> Mem<()>
-        ensures { OnOk result ((x : ℕ) → set_of self.new x ≡ (x == lit || set_of self.old x)) }
+        ensures ok { OnOk result ((x : ℕ) → set_of self.new x ≡ (x == lit || set_of self.old x)) }
+        ensures kept { OnErr result ((x : ℕ) → set_of self.new x ≡ set_of self.old x) }
     {
         let code = lit.code() as usize;
         if code >= self.room && code >= self.stamps.len() {

@@ -1,9 +1,12 @@
 // Reads the text of a formula in one pass, a word at a time, and the numbers of the body as long as they are found at
 // once, since they are most of a text.
 ghost use Rattle.std.specs.Prelude.{◌≡◌, ◌<◌, ◌≤◌, ◌^◌, ℕ, List, [], ◌∷◌, ◌++◌, Ok, length, OnOk, IfErr, IfSome};
+ghost use Rattle.std.specs.Prelude.{if◌then◌else◌};
 ghost use Rattle.cnf_base.specs.Clauses.{entry_of};
 ghost use Rattle.cnf_base.specs.Formulas.{Formula, IsFormula};
-ghost use Rattle.cnf_base.specs.Reading.{read_of};
+ghost use Rattle.cnf_base.specs.Numerals.{number_of};
+ghost use Rattle.cnf_base.specs.Pieces.{value_in};
+ghost use Rattle.cnf_base.specs.Reading.{read_of, is_count};
 ghost use Rattle.cnf_base.specs.WordByWord.{at_start, body_number, take_word, ended, read_words, read_by_words};
 ghost use Rattle.cnf_base.specs.Answers.{Answers, StepsTo, ReadsOn};
 ghost use Rattle.cnf_base.specs.Places.{StandsBy};
@@ -34,6 +37,16 @@ fn fault(code: CnfFaultCode, at: u64) -> Refused<CnfFault>
     ensures { result ≡ For (record { code = code; at = at }) }
 {
     Refused::For(CnfFault { code, at })
+}
+
+// The number of a header that a word says.
+fn count_in(word: &[u8]) -> Option<u32>
+    ensures { result ≡ (if is_count (number_of word.now) then Some (value_in (number_of word.now)) else None) }
+{
+    match number_of(word) {
+        Some(number) if !number.negative => Some(number.value),
+        _ => None,
+    }
 }
 
 impl Reading {
@@ -150,32 +163,22 @@ impl Reading {
                 self.stage = Stage::Variables;
                 Ok(())
             }
-            Stage::Variables => match number_of(word) {
-                Some(
-                    Numeral {
-                        negative: false,
-                        value,
-                    },
-                ) => {
-                    self.stage = Stage::Clauses;
-                    self.variables = value;
-                    Ok(())
-                }
-                _ => Err(fault(CnfFaultCode::BadHeader, at)),
-            },
-            Stage::Clauses => match number_of(word) {
-                Some(
-                    Numeral {
-                        negative: false,
-                        value,
-                    },
-                ) => {
-                    self.stage = Stage::Body;
-                    self.count = value;
-                    Ok(())
-                }
-                _ => Err(fault(CnfFaultCode::BadHeader, at)),
-            },
+            Stage::Variables => {
+                let Some(variables) = count_in(word) else {
+                    return Err(fault(CnfFaultCode::BadHeader, at));
+                };
+                self.stage = Stage::Clauses;
+                self.variables = variables;
+                Ok(())
+            }
+            Stage::Clauses => {
+                let Some(count) = count_in(word) else {
+                    return Err(fault(CnfFaultCode::BadHeader, at));
+                };
+                self.stage = Stage::Body;
+                self.count = count;
+                Ok(())
+            }
             Stage::Body => self.take_number(alloc, number_of(word), at),
         }
     }

@@ -1,15 +1,16 @@
 // Writes the text of a formula, the one that the definition says, so that it is read again as the same.
-ghost use Rattle.std.specs.Prelude.{◌≡◌, ◌++◌, ◌∷◌, OnOk, IfOk, decimal};
-ghost use Rattle.cnf_base.specs.Writing.{literal_text, literals_text, entry_text, entries_text, text_of};
+ghost use Rattle.std.specs.Prelude.{◌≡◌, ◌++◌, ◌∷◌, OnOk, OnErr, IfOk, decimal};
+ghost use Rattle.cnf_base.specs.Writing.{literal_text, literals_text, entry_text, entries_text, text_of, HasFront};
 
 use crate::{Cnf, Entry, Lit};
 use base::Mem;
 use itoa::Buffer;
 use std::alloc::Global;
 
-/// The number in decimal digits, behind what is there.
+/// The number in decimal digits, behind what is there. After want of memory there is what was there.
 pub fn push_decimal(out: &mut Vec<u8>, n: u64) -> Mem<()>
-    ensures { OnOk result (out.new.items ≡ out.old.items ++ decimal n) }
+    ensures ok { OnOk result (out.new.items ≡ out.old.items ++ decimal n) }
+    ensures kept { OnErr result (out.new.items ≡ out.old.items) }
 {
     let mut buffer = Buffer::new();
     out.extend_from_slice(buffer.format(n).as_bytes())?;
@@ -18,7 +19,8 @@ pub fn push_decimal(out: &mut Vec<u8>, n: u64) -> Mem<()>
 
 #[tactic(auto, using(std::proofs::Common::append_assoc))]
 fn push_literal(out: &mut Vec<u8>, lit: Lit) -> Mem<()>
-    ensures { OnOk result (out.new.items ≡ out.old.items ++ literal_text lit) }
+    ensures ok { OnOk result (out.new.items ≡ out.old.items ++ literal_text lit) }
+    ensures kept { OnErr result (HasFront out.old.items out.new.items (literal_text lit)) }
 {
     if !lit.is_positive() {
         out.push(b'-')?;
@@ -27,10 +29,12 @@ fn push_literal(out: &mut Vec<u8>, lit: Lit) -> Mem<()>
     Ok(())
 }
 
-/// The literals, each with a blank behind it, behind what is there.
+/// The literals, each with a blank behind it, behind what is there. After want of memory there is what was there, and
+/// behind it a front of their text.
 #[tactic(auto, using(std::proofs::Common::append_assoc))]
 pub fn push_literals(out: &mut Vec<u8>, lits: &[Lit]) -> Mem<()>
-    ensures { OnOk result (out.new.items ≡ out.old.items ++ literals_text lits.now) }
+    ensures ok { OnOk result (out.new.items ≡ out.old.items ++ literals_text lits.now) }
+    ensures kept { OnErr result (HasFront out.old.items out.new.items (literals_text lits.now)) }
 {
     let mut rest = lits;
     while let [lit, after @ ..] = rest {
