@@ -24,4 +24,4 @@ pub use number::{literal_of, number_of};
 pub use reader::read_cnf;
 pub use text::{CnfFault, LineMode, Numeral};
 pub use words::{Word, Words};
-pub use writer::{push_decimal, push_literals, write_cnf};
+pub use writer::{push_literals, write_cnf};

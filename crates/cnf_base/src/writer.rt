@@ -1,21 +1,10 @@
 // Writes the text of a formula, the one that the definition says, so that it is read again as the same.
-ghost use Rattle.std.specs.Prelude.{◌≡◌, ◌++◌, ◌∷◌, OnOk, OnErr, IfOk, decimal};
+ghost use Rattle.std.specs.Prelude.{◌≡◌, ◌++◌, ◌∷◌, OnOk, OnErr, IfOk};
 ghost use Rattle.cnf_base.specs.Writing.{literal_text, literals_text, entry_text, entries_text, text_of, HasFront};
 
 use crate::{Cnf, Entry, Lit};
-use base::Mem;
-use itoa::Buffer;
+use base::{Mem, push_number};
 use std::alloc::Global;
-
-/// The number in decimal digits, behind what is there. After want of memory there is what was there.
-pub fn push_decimal(out: &mut Vec<u8>, n: u64) -> Mem<()>
-    ensures ok { OnOk result (out.new.items ≡ out.old.items ++ decimal n) }
-    ensures kept { OnErr result (out.new.items ≡ out.old.items) }
-{
-    let mut buffer = Buffer::new();
-    out.extend_from_slice(buffer.format(n).as_bytes())?;
-    Ok(())
-}
 
 #[tactic(auto, using(std::proofs::Common::append_assoc))]
 fn push_literal(out: &mut Vec<u8>, lit: Lit) -> Mem<()>
@@ -25,7 +14,7 @@ fn push_literal(out: &mut Vec<u8>, lit: Lit) -> Mem<()>
     if !lit.is_positive() {
         out.push(b'-')?;
     }
-    push_decimal(out, lit.variable() as u64)?;
+    push_number(out, lit.variable() as u64)?;
     Ok(())
 }
 
@@ -82,9 +71,9 @@ pub fn write_cnf(alloc: Global, cnf: &Cnf) -> Mem<Vec<u8>>
 {
     let mut out = Vec::new(alloc);
     out.extend_from_slice(b"p cnf ")?;
-    push_decimal(&mut out, cnf.variables() as u64)?;
+    push_number(&mut out, cnf.variables() as u64)?;
     out.push(b' ')?;
-    push_decimal(&mut out, cnf.clauses().len() as u64)?;
+    push_number(&mut out, cnf.clauses().len() as u64)?;
     out.push(b'\n')?;
     push_entries(&mut out, cnf.clauses())?;
     Ok(out)

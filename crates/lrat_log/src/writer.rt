@@ -3,8 +3,8 @@ ghost use Rattle.std.specs.Prelude.{◌≡◌, ◌++◌, ◌∷◌, OnOk, IfOk};
 ghost use Rattle.lrat_log.specs.Writing.{ids_text, line_text, text_of};
 
 use crate::{Line, Log};
-use base::Mem;
-use cnf_base::{push_decimal, push_literals};
+use base::{Mem, push_number};
+use cnf_base::push_literals;
 use std::alloc::Global;
 
 #[tactic(auto, using(std::proofs::Common::append_assoc))]
@@ -13,7 +13,7 @@ fn push_ids(out: &mut Vec<u8>, ids: &[u64]) -> Mem<()>
 {
     let mut rest = ids;
     while let [id, after @ ..] = rest {
-        push_decimal(out, *id)?;
+        push_number(out, *id)?;
         out.push(b' ')?;
         rest = after;
     }
@@ -26,7 +26,7 @@ fn push_line(out: &mut Vec<u8>, line: &Line) -> Mem<()>
 {
     match line {
         Line::Add { id, lits, hints } => {
-            push_decimal(out, *id)?;
+            push_number(out, *id)?;
             out.push(b' ')?;
             push_literals(out, lits.as_slice())?;
             out.extend_from_slice(b"0 ")?;
@@ -35,7 +35,7 @@ fn push_line(out: &mut Vec<u8>, line: &Line) -> Mem<()>
             Ok(())
         }
         Line::Delete { id, ids } => {
-            push_decimal(out, *id)?;
+            push_number(out, *id)?;
             out.extend_from_slice(b" d ")?;
             push_ids(out, ids.as_slice())?;
             out.extend_from_slice(b"0\n")?;
