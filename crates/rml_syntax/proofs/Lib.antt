@@ -12,3 +12,5 @@ pub mod Runs
 pub mod Texts
 pub mod Within
 pub mod Shapes
+pub mod Walk
+pub mod Order

@@ -383,4 +383,4 @@ within_text text ts tree h all = tree_within (length text) max_levels ts tree h.
 
 pub shaped_text : (text : List ℕ) (ts : Tokens) (tree : List ItemTree) → IsTree text ts tree
     → AllByRecursion (EndsBy (length text)) ts → IsShaped tree
-shaped_text text ts tree h all = is_shaped (length text) ts tree h.1 all
+shaped_text text ts tree h all = is_shaped ts tree h.1

@@ -6,3 +6,4 @@ pub mod Faults
 pub mod Reading
 pub mod Within
 pub mod Shape
+pub mod Places
