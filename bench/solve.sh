@@ -70,7 +70,7 @@ fn main(rt: HostRuntime) -> io::Result<()> {
         None => BUDGET,
     };
     match solve(rt.alloc(), &cnf, budget) {
-        Ok(Solved::Sat(values)) => println!(rt; "satisfied {}", values.as_slice().len()),
+        Ok(Solved::Sat(values)) => println!(rt; "satisfied {}", values.len()),
         Ok(Solved::Unsat(log)) => println!(rt; "refuted {}", log.lines().len()),
         Ok(Solved::Spent(log)) => println!(rt; "spent {}", log.lines().len()),
         Err(_) => println!(rt; "no memory"),

@@ -1,12 +1,14 @@
 -- Members of a clause, and the search for a literal to watch.
 use Rattle.std.proofs.Common.{◌≡◌, ℕ, zero, suc, ◌+◌, ◌<◌, ◌⊎◌, ◌||◌, eqb, Bool, true, false, List, [], ◌∷◌, ◌++◌}
-use Rattle.std.proofs.Common.{length, get_or, take, refl, arith, ap}
+use Rattle.std.proofs.Common.{length, get_or, take, drop, refl, arith, ap, sym, inl, inr, ◌∙◌, Option, None, Some}
+use Rattle.std.proofs.Common.{MatchOption}
 use Rattle.std.proofs.lemmas.Grind.{common_steps}
 use Rattle.std.specs.List.{All}
 use Rattle.std.proofs.lemmas.List.{take_more}
 use Rattle.cnf_base.specs.Literals.{opposite, member}
 use Rattle.cdcl.proofs.Literals.{member-append}
-use Rattle.cdcl.specs.Visit.{AreFalseBut}
+use Rattle.cdcl.specs.declared.propagate.Open.{Open}
+use Rattle.cdcl.specs.Visit.{AreFalseBut, IsOpen}
 
 pub member-get_or : (xs : List ℕ) (i : ℕ) → i < length xs → member (get_or xs i 0) xs ≡ true
 member-get_or [] i h = absurd (omega arith)
@@ -43,3 +45,68 @@ member_all n (y ∷ c) x a s = at (eqb x y) refl (λ m. member_all n c x (λ i d
     at : (b : Bool) → eqb x y ≡ b → (member x c ≡ true → (x < n) × (opposite x < n)) → (x < n) × (opposite x < n)
     at true e r = let q : x ≡ y = grind (arith, common_steps, e) in rw q (a 0 0 (omega arith))
     at false e r = r (grind (arith, common_steps, e, s))
+
+-- a member of a part, and of the whole
+in_front : (c : List ℕ) (k x : ℕ) → member x (take k c) ≡ true → member x c ≡ true
+in_front [] zero x h = h
+in_front [] (suc k) x h = h
+in_front (y ∷ c) zero x h = absurd (cc)
+in_front (y ∷ c) (suc k) x h = at (eqb x y) refl (λ q. in_front c k x q)
+  where
+    at : (b : Bool) → eqb x y ≡ b → (member x (take k c) ≡ true → member x c ≡ true) → (eqb x y || member x c) ≡ true
+    at true e r = grind (arith, common_steps, e)
+    at false e r = let q = r (grind (arith, common_steps, e, h)) in grind (arith, common_steps, q)
+
+in_back : (c : List ℕ) (k x : ℕ) → member x (drop k c) ≡ true → member x c ≡ true
+in_back [] zero x h = h
+in_back [] (suc k) x h = h
+in_back (y ∷ c) zero x h = h
+in_back (y ∷ c) (suc k) x h = let q = in_back c k x h in grind (arith, common_steps, q)
+
+in_either : (c : List ℕ) (k x : ℕ) → member x c ≡ true → (member x (take k c) ≡ true) ⊎ (member x (drop k c) ≡ true)
+in_either [] k x h = absurd (cc)
+in_either (y ∷ c) zero x h = inr h
+in_either (y ∷ c) (suc k) x h = at (eqb x y) refl (λ q. in_either c k x q)
+  where
+    at : (b : Bool) → eqb x y ≡ b
+        → (member x c ≡ true → (member x (take k c) ≡ true) ⊎ (member x (drop k c) ≡ true))
+        → ((eqb x y || member x (take k c)) ≡ true) ⊎ (member x (drop k c) ≡ true)
+    at true e r = inl (grind (arith, common_steps, e))
+    at false e r = more (r (grind (arith, common_steps, e, h)))
+      where
+        more : (member x (take k c) ≡ true) ⊎ (member x (drop k c) ≡ true)
+            → ((eqb x y || member x (take k c)) ≡ true) ⊎ (member x (drop k c) ≡ true)
+        more (inl q) = inl (grind (arith, common_steps, q))
+        more (inr q) = inr q
+
+-- what a search in the two parts of a clause finds
+module _ (set : ℕ → Bool) (c front back : List ℕ) (k a b : ℕ) (f : front ≡ take k c) (g : back ≡ drop k c) where
+  pub open_behind : (l : ℕ) → IsOpen set back a b l → IsOpen set c a b l
+  open_behind l o = record {
+    stands = in_back c k l (ap (member l) (sym g) ∙ o.stands);
+    not_first = o.not_first;
+    not_second = o.not_second;
+    not_false = o.not_false;
+  }
+
+  open_before : (l : ℕ) → IsOpen set front a b l → IsOpen set c a b l
+  open_before l o = record {
+    stands = in_front c k l (ap (member l) (sym f) ∙ o.stands);
+    not_first = o.not_first;
+    not_second = o.not_second;
+    not_false = o.not_false;
+  }
+
+  all_false : AreFalseBut set front a b → AreFalseBut set back a b → AreFalseBut set c a b
+  all_false p q x m = at (in_either c k x m)
+    where
+      at : (member x (take k c) ≡ true) ⊎ (member x (drop k c) ≡ true)
+          → (x ≡ a) ⊎ (x ≡ b) ⊎ (set (opposite x) ≡ true)
+      at (inl h) = p x (ap (member x) f ∙ h)
+      at (inr h) = q x (ap (member x) g ∙ h)
+
+  pub found_before : (r : Option Open) → AreFalseBut set back a b
+      → MatchOption r (AreFalseBut set front a b) (λ o. IsOpen set front a b o.literal)
+      → MatchOption r (AreFalseBut set c a b) (λ o. IsOpen set c a b o.literal)
+  found_before None q p = all_false p q
+  found_before (Some o) q p = open_before o.literal p

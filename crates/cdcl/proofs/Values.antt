@@ -1,10 +1,8 @@
 -- Truth values that satisfy a formula.
-use Rattle.std.proofs.Common.{◌≡◌, ℕ, ◌+◌, ◌-◌, ◌*◌, ◌/◌, ◌%◌, ◌<◌, ◌≤◌, ◌⊎◌, not, Bool, true, false, List, [], ◌∷◌}
-use Rattle.std.proofs.Common.{◌++◌, length, get_or, arith, ap, sym, ◌∙◌, inl, inr, Some}
+use Rattle.std.proofs.Common.{◌≡◌, ℕ, ◌+◌, ◌-◌, ◌*◌, ◌/◌, ◌%◌, ◌<◌, ◌≤◌, ◌⊎◌, not, eqb, Bool, true, false, List}
+use Rattle.std.proofs.Common.{length, arith, ap, sym, if◌then◌else◌, ◌∙◌, inl, inr, Some}
 use Rattle.std.proofs.lemmas.Grind.{common_steps}
-use Rattle.std.proofs.lemmas.Bool.{cases_lt}
-use Rattle.std.proofs.Math.ListN.{get_or-append}
-use Rattle.std.proofs.Math.Seq.{get_or-append_seam}
+use Rattle.std.proofs.lemmas.Bool.{cases_lt, eq-eqb, ne_eqb}
 use Rattle.cnf_base.specs.declared.cnf.Entry.{Entry}
 use Rattle.cnf_base.specs.declared.cnf.Entry.TheVariants.{Clause, True}
 use Rattle.cnf_base.specs.Literals.{variable_of, opposite, member, is_true, IsLiteral}
@@ -29,18 +27,30 @@ use Rattle.cdcl.proofs.Watching.{safe_satisfied}
 use Rattle.cdcl.proofs.Logging.{literal_in}
 use Rattle.cdcl.proofs.Searching.{state_holds}
 
-pub value_more : (vs : List Bool) (index : ℕ) (b : Bool) (set : ℕ → Bool) (size : ℕ) → length vs ≡ index
+-- the values of the variables up to a number, where those above are false
+pub record AreValues (values : List Bool) (set : ℕ → Bool) (size index : ℕ) : Type 0 where
+  pub below : (i : ℕ) → 0 < i → i ≤ index → 2 * i < size → value_of values i ≡ set (2 * i)
+  pub above : (i : ℕ) → index < i → value_of values i ≡ false
+
+-- the value of one more
+pub values_more : (old new : List Bool) (set : ℕ → Bool) (size index : ℕ) (b : Bool) → AreValues old set size index
     → (2 * (index + 1) < size → b ≡ set (2 * (index + 1)))
-    → ((i : ℕ) → 0 < i → i ≤ index → 2 * i < size → value_of vs i ≡ set (2 * i)) → (i : ℕ) → 0 < i → i ≤ index + 1
-    → 2 * i < size → value_of (vs ++ b ∷ []) i ≡ set (2 * i)
-value_more vs index b set size n here a i p h s = at (cases_lt i (index + 1))
+    → ((i : ℕ) → 0 < i → value_of new i ≡ (if eqb i (index + 1) then b else value_of old i))
+    → AreValues new set size (index + 1)
+values_more old new set size index b a here n = record {
+  below = λ i p h s. at i p h s (cases_lt i (index + 1));
+  above = λ i h. other i (omega arith) (λ e. omega arith) ∙ a.above i (omega arith);
+}
   where
-    at : (i < index + 1) ⊎ (index + 1 ≤ i) → value_of (vs ++ b ∷ []) i ≡ set (2 * i)
-    at (inl q) = get_or-append vs (b ∷ []) false (i - 1) (omega arith) ∙ a i p (omega arith) s
-    at (inr q) =
+    other : (i : ℕ) → 0 < i → (i ≡ index + 1 → ⊥) → value_of new i ≡ value_of old i
+    other i p h = n i p ∙ ap (λ (c : Bool). if c then b else value_of old i) (ne_eqb i (index + 1) h)
+
+    at : (i : ℕ) → 0 < i → i ≤ index + 1 → 2 * i < size → (i < index + 1) ⊎ (index + 1 ≤ i)
+        → value_of new i ≡ set (2 * i)
+    at i p h s (inl q) = other i p (λ e. omega arith) ∙ a.below i p (omega arith) s
+    at i p h s (inr q) =
         let e : i ≡ index + 1 = omega arith in
-        let k : i - 1 ≡ length vs = omega arith in
-        ap (λ (j : ℕ). get_or (vs ++ b ∷ []) j false) k ∙ get_or-append_seam vs b [] false
+        n i p ∙ ap (λ (c : Bool). if c then b else value_of old i) (eq-eqb i (index + 1) e)
         ∙ here (let x = s in omega arith) ∙ ap (λ (j : ℕ). set (2 * j)) (sym e)
 
 -- a literal is the one or the other of its variable

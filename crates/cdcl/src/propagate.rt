@@ -1,4 +1,6 @@
-// Unit propagation.
+// Unit propagation: sets what the clauses force under the literals that are set. Nearly all of a search's time goes to
+// the visits here, so a visit reads as little as it can: the blocker first, then the other watched literal, and only then
+// the clause, from where the last search in it ended.
 ghost use Rattle.std.specs.Prelude.{◌≡◌, ℕ, ◌+◌, ◌<◌, ◌≤◌, length, All, IfOk, OnOk, MatchOption, IfSome, IfNone, set};
 ghost use Rattle.std.specs.Prelude.{Some};
 ghost use Rattle.cnf_base.specs.Literals.{opposite};
@@ -13,18 +15,50 @@ use cdcl_tables::{Watch, WatchList, other_of};
 use cnf_base::Lit;
 use std::alloc::Global;
 
+/// A literal that may be watched, and its position in its clause.
+#[derive(Clone, Copy)]
+pub struct Open {
+    pub literal: Lit,
+    pub position: usize,
+}
+
 /// A literal of a clause that is not false and neither of two.
-pub fn open_literal(trail: &Trail, clause: &[Lit], one: Lit, other: Lit) -> Option<Lit>
+fn first_open(trail: &Trail, clause: &[Lit], one: Lit, other: Lit) -> Option<Open>
     requires { All (λ l. (l < trail.now.size) × (opposite l < trail.now.size)) clause.now }
     ensures { MatchOption result (AreFalseBut (is_set trail.now.steps) clause.now one other)
-        (IsOpen (is_set trail.now.steps) clause.now one other) }
+        (λ o. IsOpen (is_set trail.now.steps) clause.now one other o.literal) }
 {
-    for l in clause {
+    for (position, l) in clause.iter().enumerate() {
         if *l != one && *l != other && !trail.is_set(l.opposite()) {
-            return Some(*l);
+            return Some(Open {
+                literal: *l,
+                position,
+            });
         }
     }
     None
+}
+
+/// As `first_open`, by a search from a position on, and from the front where it finds none.
+pub fn open_literal(
+    trail: &Trail,
+    clause: &[Lit],
+    position: usize,
+    one: Lit,
+    other: Lit,
+) -> Option<Open>
+    requires { All (λ l. (l < trail.now.size) × (opposite l < trail.now.size)) clause.now }
+    ensures { MatchOption result (AreFalseBut (is_set trail.now.steps) clause.now one other)
+        (λ o. IsOpen (is_set trail.now.steps) clause.now one other o.literal) }
+{
+    let (front, back) = clause.split_at(position.min(clause.len()));
+    match first_open(trail, back, one, other) {
+        Some(open) => Some(Open {
+            literal: open.literal,
+            position: open.position.saturating_add(front.len()),
+        }),
+        None => first_open(trail, front, one, other),
+    }
 }
 
 impl State {
@@ -56,9 +90,12 @@ impl State {
             return Ok(None);
         }
         let id = watch.place + 1;
-        match open_literal(&self.trail, self.clauses.clause(id), false_one, other) {
-            Some(l) => {
-                self.watches.move_to(watch.place, l, other)?;
+        let position = self.clauses.position(watch.place);
+        let clause = self.clauses.clause(id);
+        match open_literal(&self.trail, clause, position, false_one, other) {
+            Some(open) => {
+                self.clauses.set_position(watch.place, open.position);
+                self.watches.move_to(watch.place, open.literal, other)?;
                 list.remove(i);
                 Ok(None)
             }

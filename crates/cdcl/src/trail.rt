@@ -1,5 +1,5 @@
 // The literals that are set, in the order in which they were set.
-ghost use Rattle.std.specs.Prelude.{◌≡◌, false, ◌+◌, ◌-◌, ◌*◌, ◌^◌, ◌<◌, ◌≤◌, [], ◌∷◌, ◌++◌, length, IfOk, OnOk};
+ghost use Rattle.std.specs.Prelude.{◌≡◌, ℕ, false, ◌+◌, ◌-◌, ◌*◌, ◌^◌, ◌<◌, ◌≤◌, [], ◌∷◌, ◌++◌, length, IfOk, OnOk};
 ghost use Rattle.std.specs.Prelude.{MatchOption, get_or, take};
 ghost use Rattle.cnf_base.specs.Literals.{opposite};
 ghost use Rattle.cdcl.specs.Trail.{no_step, is_set};
@@ -130,6 +130,13 @@ impl Trail {
             }
         }
         None
+    }
+
+    /// The greatest variable that has a place, or 0.
+    pub fn greatest(&self) -> u32
+        ensures { (v : ℕ) → 2 * v < self.now.size → v ≤ result }
+    {
+        (self.places.len() as u32).saturating_sub(1)
     }
 
     /// Whether a variable is true; one that has no place is not.

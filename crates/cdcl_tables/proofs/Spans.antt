@@ -6,7 +6,6 @@ use Rattle.std.proofs.lemmas.Grind.{common_steps}
 use Rattle.cnf_base.specs.declared.cnf.Entry.{Entry}
 use Rattle.cnf_base.specs.declared.cnf.Entry.TheVariants.{Clause, True}
 use Rattle.cdcl_tables.specs.declared.clauses.Span.{Span}
-use Rattle.std.specs.Bool.{OnTrue, OnFalse}
 use Rattle.base.proofs.Lists.{slice_range-append, slice_range-seam}
 use Rattle.lrat_log.specs.Held.{held_by}
 use Rattle.cdcl_tables.specs.ClausesView.{entry_of_span, IsWithin}
@@ -49,22 +48,3 @@ span_held xs spans id s p h e =
     let q : id ≡ id - 1 + 1 = omega arith in
     ap (held_by (map (entry_of_span xs) spans)) q ∙ held_at (map (entry_of_span xs) spans) (id - 1)
     ∙ get_span xs spans (id - 1) s (omega arith) e
-
-pub clause_held : (es : List Entry) (xs : List ℕ) (id : ℕ) (s : Span) → held_by es id ≡ Some (entry_of_span xs s)
-    → OnTrue (not s.is_true) ((x : List ℕ) × held_by es id ≡ Some (Clause x))
-clause_held es xs id s h = at s.is_true refl
-  where
-    at : (b : Bool) → s.is_true ≡ b → OnTrue (not b) ((x : List ℕ) × held_by es id ≡ Some (Clause x))
-    at true e = tt
-    at false e = (
-      slice_range xs s.start s.end,
-      h ∙ ap (λ (b : Bool). Some (if b then True else Clause (slice_range xs s.start s.end))) e,
-    )
-
-pub true_held : (es : List Entry) (xs : List ℕ) (id : ℕ) (s : Span) → held_by es id ≡ Some (entry_of_span xs s)
-    → OnFalse (not s.is_true) (held_by es id ≡ Some True)
-true_held es xs id s h = at s.is_true refl
-  where
-    at : (b : Bool) → s.is_true ≡ b → OnFalse (not b) (held_by es id ≡ Some True)
-    at false e = tt
-    at true e = h ∙ ap (λ (b : Bool). Some (if b then True else Clause (slice_range xs s.start s.end))) e

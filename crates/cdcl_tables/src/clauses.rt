@@ -1,7 +1,9 @@
-// The clauses that are held, one after another in one list of literals.
+// The clauses that are held, one after another in one list of literals, so that a clause is read in one piece. Beside
+// each stands a position, at which the next search for another literal to watch begins: begun at the front each time, it
+// would read the same false literals again and again (Gent, "Optimal Implementation of Watched Literals in
+// Conflict-Driven Clause Learning", 2013). A position carries no facts.
 ghost use Rattle.std.specs.Prelude.{List, ◌≡◌, ℕ, ◌+◌, ◌<◌, ◌≤◌, [], ◌∷◌, ◌++◌, length, OnOk, Some};
 ghost use Rattle.cnf_base.specs.declared.cnf.Entry.TheVariants.{Clause, True};
-ghost use Rattle.std.specs.Bool.{OnTrue, OnFalse};
 ghost use Rattle.lrat_log.specs.Held.{held_by};
 
 use base::Mem;
@@ -22,6 +24,7 @@ pub struct Span {
 pub struct Clauses {
     spans: Vec<Span>,
     literals: Vec<Lit>,
+    positions: Vec<usize>,
 }
 
 impl Model for Clauses {
@@ -38,28 +41,22 @@ impl Model for Clauses {
 }
 
 impl Clauses {
+    /// No clause.
     pub fn new(alloc: Global) -> Clauses
         ensures { result ≡ [] }
     {
         Clauses {
             spans: Vec::new(alloc),
             literals: Vec::new(alloc),
+            positions: Vec::new(alloc),
         }
     }
 
+    /// How many clauses are held, those that are always true among them.
     pub fn len(&self) -> usize
         ensures { result ≡ length self.now }
     {
         self.spans.len()
-    }
-
-    /// Whether the entry with an id is a clause, and not always true.
-    pub fn is_clause(&self, id: u32) -> bool
-        requires { (0 < id) × (id ≤ length self.now) }
-        ensures clause { OnTrue result ((c : List ℕ) × (held_by self.now id ≡ Some (Clause c))) }
-        ensures always { OnFalse result (held_by self.now id ≡ Some True) }
-    {
-        !self.spans[id as usize - 1].is_true
     }
 
     /// The literals of the clause with an id.
@@ -71,6 +68,24 @@ impl Clauses {
         &self.literals[span.start..span.end]
     }
 
+    /// The position in the clause at a place at which a search for a literal begins.
+    pub fn position(&self, place: u32) -> usize {
+        match self.positions.get(place as usize) {
+            Some(position) => *position,
+            None => 0,
+        }
+    }
+
+    /// The next search in the clause at a place begins at a position.
+    pub fn set_position(&mut self, place: u32, position: usize)
+        ensures { self.new ≡ self.old }
+    {
+        if (place as usize) < self.positions.len() {
+            self.positions[place as usize] = position;
+        }
+    }
+
+    /// Holds a clause, under the next id.
     pub fn push(&mut self, clause: &[Lit]) -> Mem<()>
         ensures { OnOk result (self.new ≡ self.old ++ Clause clause.now ∷ []) }
     {
@@ -82,9 +97,11 @@ impl Clauses {
             end,
             is_true: false,
         })?;
+        self.positions.push(0)?;
         Ok(())
     }
 
+    /// Holds a clause that is always true, under the next id.
     pub fn push_true(&mut self) -> Mem<()>
         ensures { OnOk result (self.new ≡ self.old ++ True ∷ []) }
     {
@@ -93,6 +110,7 @@ impl Clauses {
             end: 0,
             is_true: true,
         })?;
+        self.positions.push(0)?;
         Ok(())
     }
 }

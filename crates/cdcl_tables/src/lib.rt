@@ -1,7 +1,6 @@
 //! The tables of a solver with two watched literals, below its search: the clauses, which of them watch a literal,
 //! what guides decisions and restarts, and the lines of a log that is kept. What holds between them is said by the
-// search; here a call says which entry
-//! it writes, and that all others stay.
+//! search; here a call says which entry it writes, and that all others stay.
 #![tactic(auto)]
 
 mod clauses;

@@ -12,12 +12,14 @@ pub struct Phases {
 }
 
 impl Phases {
+    /// No variable was true so far. Variables are numbered from 1 to below `slots`.
     pub fn new(alloc: Global, slots: u32) -> Mem<Phases> {
         Ok(Phases {
             were_true: vec![in alloc; false; slots as usize]?,
         })
     }
 
+    /// A literal was true, and is unset again.
     pub fn save(&mut self, literal: Lit) {
         let slot = literal.variable() as usize;
         if slot < self.were_true.len() {
@@ -25,7 +27,7 @@ impl Phases {
         }
     }
 
-    /// A literal of a variable.
+    /// The literal of a variable that was true last, or its negation where none was.
     pub fn literal(&self, variable: u32) -> Lit
         requires { (0 < variable) × (variable < 2 ^ 31) }
         ensures { (result ≡ 2 * variable) ⊎ (result ≡ 2 * variable + 1) }

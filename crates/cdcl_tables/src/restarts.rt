@@ -11,6 +11,7 @@ pub struct Restarts {
 }
 
 impl Restarts {
+    /// Before the first conflict.
     pub fn new() -> Restarts {
         Restarts { left: UNIT, run: 1 }
     }

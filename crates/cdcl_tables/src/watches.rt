@@ -54,6 +54,7 @@ impl Model for WatchList {
 }
 
 impl WatchList {
+    /// No watch.
     pub fn new(alloc: Global) -> WatchList
         ensures { result ≡ [] }
     {
@@ -62,12 +63,14 @@ impl WatchList {
         }
     }
 
+    /// How many watches there are.
     pub fn len(&self) -> usize
         ensures { result ≡ length self.now }
     {
         self.watches.len()
     }
 
+    /// The watch at an index.
     pub fn get(&self, i: usize) -> Watch
         requires { i < length self.now }
         ensures { result ≡ get_or self.now i no_watch }
@@ -75,6 +78,7 @@ impl WatchList {
         self.watches.as_slice()[i]
     }
 
+    /// Another watch at an index.
     pub fn set(&mut self, i: usize, watch: Watch)
         requires { i < length self.old }
         ensures { self.new ≡ set self.old i watch }
@@ -82,6 +86,7 @@ impl WatchList {
         self.watches.as_mut_slice()[i] = watch;
     }
 
+    /// One more watch, at the end. After want of memory the list is as before.
     pub fn push(&mut self, watch: Watch) -> Mem<()>
         ensures ok { OnOk result (self.new ≡ self.old ++ watch ∷ []) }
         ensures err { OnErr result (self.new ≡ self.old) }
@@ -138,6 +143,7 @@ impl Watches {
         })
     }
 
+    /// The pair of the clause at a place.
     pub fn pair(&self, place: u32) -> Pair
         requires { place < length self.now.pairs.items }
         ensures { result ≡ get_or self.now.pairs.items place no_pair }
@@ -174,6 +180,7 @@ impl Watches {
         mem::replace(&mut self.lists[literal.code() as usize], empty)
     }
 
+    /// Puts a list in place of that of a literal.
     pub fn put_list(&mut self, literal: Lit, list: WatchList)
         requires { literal < length self.old.lists.items }
         ensures lists { self.new.lists.items ≡ set self.old.lists.items literal list }

@@ -37,21 +37,21 @@ impl AtomMap {
     {
         let mut atoms = Vec::new(alloc);
         for entry in &self.atoms {
-            push_true(&mut atoms, entry, values.as_slice())?;
+            push_true(&mut atoms, entry, values)?;
         }
         Ok(Assignment::new(atoms))
     }
 }
 
-fn is_true(values: &[bool], variable: u32) -> bool
+// Variables begin at 1: what is asked of 0 is answered as of 1.
+fn is_true(values: &Values, variable: u32) -> bool
     ensures { result ≡ value_of values.now variable }
 {
-    let at = (variable as usize).saturating_sub(1);
-    if at < values.len() { values[at] } else { false }
+    values.value(variable.max(1))
 }
 
 // Adds the atom if its variable is true.
-fn push_true(atoms: &mut Vec<Atom>, entry: &(Atom, u32), values: &[bool]) -> Mem<()>
+fn push_true(atoms: &mut Vec<Atom>, entry: &(Atom, u32), values: &Values) -> Mem<()>
     ensures { OnOk result (atoms.new.items ≡ atoms.old.items ++ true_atoms values.now (entry.now ∷ [])) }
 {
     if is_true(values, entry.1) {

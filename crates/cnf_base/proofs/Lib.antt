@@ -13,3 +13,4 @@ pub mod Prefixes
 pub mod Again
 pub mod Stamped
 pub mod Written
+pub mod Truths

@@ -17,3 +17,5 @@ pub mod Writing
 pub mod ReaderState
 pub mod LitSetValue
 pub mod LitSets
+pub mod Rising
+pub mod ValuesView

@@ -10,7 +10,7 @@ use Rattle.lrat_log.specs.Held.{Held}
 use Rattle.lrat_log.specs.Accepted.{also, all_but, effect_at, effect_of_clause, effect_of_entry, by_effect}
 use Rattle.lrat_log.specs.Accepted.{outcome_of_hints}
 use Rattle.renumbering.specs.Named.{named}
-use Rattle.renumbering.specs.Renumbered.{AreRising}
+use Rattle.cnf_base.specs.Rising.{AreRising}
 use Rattle.renumbering.proofs.Naming.{named_eqb}
 use Rattle.renumbering.proofs.Sets.{named_option, IsHeldAs, AreSetAs, set_opposite, also_named}
 

@@ -1,9 +1,9 @@
 -- Lists that are made one by one, and truth values under names.
-use Rattle.std.proofs.Common.{◌≡◌, ℕ, zero, suc, ◌+◌, ◌-◌, ◌<◌, ◌≤◌, ◌⊎◌, Bool, false, not, if◌then◌else◌, List}
-use Rattle.std.proofs.Common.{[], ◌∷◌, ◌++◌, length, get_or, set, take, map, slice_get, refl, arith, ap, sym, subst}
+use Rattle.std.proofs.Common.{◌≡◌, ℕ, zero, suc, ◌+◌, ◌-◌, ◌<◌, ◌≤◌, ◌⊎◌, eqb, Bool, true, false, not, if◌then◌else◌, List}
+use Rattle.std.proofs.Common.{[], ◌∷◌, ◌++◌, length, get_or, take, map, slice_get, refl, arith, ap, sym, subst}
 use Rattle.std.proofs.Common.{◌∙◌, Some, inl, inr}
-use Rattle.std.proofs.lemmas.List.{take_more, get_or-set_same, get_or-set_other}
-use Rattle.std.proofs.lemmas.Bool.{cases_lt}
+use Rattle.std.proofs.lemmas.List.{take_more}
+use Rattle.std.proofs.lemmas.Bool.{cases_lt, eq-eqb, ne_eqb}
 use Rattle.cnf_base.specs.declared.cnf.Entry.{Entry}
 use Rattle.cnf_base.specs.declared.cnf.Entry.TheVariants.{Clause, True}
 use Rattle.cnf_base.specs.Literals.{variable_of, is_positive, literal_of, is_true, IsLiteral, AreLiterals}
@@ -16,9 +16,10 @@ use Rattle.lrat_log.specs.Held.{Held, held_of, after_line, after_lines}
 use Rattle.lrat_log.specs.Accepted.{last_id, outcome_of, IsAccepted, IsAcceptedFrom}
 use Rattle.lrat_log.specs.Logs.{IsLineOver, IsLogOver}
 use Rattle.renumbering.specs.Named.{named, named_entry}
-use Rattle.renumbering.specs.Renumbered.{AreRising, IsRenumbered}
+use Rattle.cnf_base.specs.Rising.{AreRising}
+use Rattle.renumbering.specs.Renumbered.{IsRenumbered}
 use Rattle.renumbering.proofs.Numbers.{variable_of-literal_of, is_positive-literal_of, literal_of-variable_of}
-use Rattle.renumbering.proofs.Numbers.{rising_at, rising_once}
+use Rattle.renumbering.proofs.Numbers.{rising_at, rising_order}
 use Rattle.renumbering.proofs.Naming.{map_member, literal_in}
 use Rattle.renumbering.proofs.Logs.{map_push, map_length}
 
@@ -55,33 +56,44 @@ pub rising_wider : (n m last : ℕ) (names : List ℕ) → n ≤ m → AreRising
 rising_wider n m last [] h r = tt
 rising_wider n m last (v ∷ vs) h r = let a = r.1 in (r.0, omega arith, rising_wider n m v vs h r.2)
 
--- values that stand under the first i names, and one more
-pub spread_more : (most : ℕ) (names : List ℕ) (values spread : List Bool) (i : ℕ) → AreRising most 0 names
-    → i < length names → most ≤ length spread
-    → ((k : ℕ) → k < i → get_or spread (get_or names k 0 - 1) false ≡ get_or values k false)
-    → (k : ℕ) → k < i + 1
-    → get_or (set spread (get_or names i 0 - 1) (get_or values i false))
-    (get_or names k 0 - 1) false ≡ get_or values k false
-spread_more most names values spread i r h l s k b = at (cases_lt k i)
-  where
-    at : (k < i) ⊎ (i ≤ k)
-        → get_or (set spread (get_or names i 0 - 1) (get_or values i false))
-        (get_or names k 0 - 1) false ≡ get_or values k false
-    at (inl q) =
-        let a = rising_at most 0 names k r (omega arith) in
-        let c = rising_at most 0 names i r h in
-        let a0 = a.0 in
-        let c0 = c.0 in
-        let other : get_or names k 0 - 1 ≡ get_or names i 0 - 1
-        → ⊥ = (λ e. (let same = rising_once most 0 names k i r (omega arith) h (omega arith) in omega arith)) in
-        get_or-set_other spread (get_or names i 0 - 1) (get_or names k 0 - 1) (get_or values i false) false other
-        ∙ s k q
-    at (inr q) =
-        let e : k ≡ i = omega arith in
-        let c = rising_at most 0 names i r h in
-        let c0 = c.0 in
-        let c1 = c.1 in
-        rw e (get_or-set_same spread (get_or names i 0 - 1) (get_or values i false) false (omega arith))
+-- values that stand under the first i names, where all others are false
+pub record IsSpread (names : List ℕ) (values spread : List Bool) (i : ℕ) : Type 0 where
+  pub value : (k : ℕ) → k < i → value_of spread (get_or names k 0) ≡ value_of values (k + 1)
+  pub above : (v : ℕ) → ((k : ℕ) → k < i → get_or names k 0 < v) → value_of spread v ≡ false
+
+module _ (most : ℕ) (names : List ℕ) (rising : AreRising most 0 names) (values spread : List Bool) (i : ℕ)
+    (h : i < length names) (s : IsSpread names values spread i) where
+  -- the next name and those above it
+  pub still_false : (v : ℕ) → get_or names i 0 ≤ v → value_of spread v ≡ false
+  still_false v p = s.above v (λ k b. (let a = rising_order most 0 names k i rising b h in omega arith))
+
+  pub spread_more : (next : List Bool) (b : Bool) → b ≡ value_of values (i + 1)
+      → ((v : ℕ) → 0 < v → value_of next v ≡ (if eqb v (get_or names i 0) then b else value_of spread v))
+      → IsSpread names values next (i + 1)
+  spread_more next b e n = record {
+    value = λ k l. at k l (cases_lt k i);
+    above = λ v g. (
+        let l = g i (omega arith) in
+        let other : eqb v (get_or names i 0) ≡ false = ne_eqb v (get_or names i 0) (λ q. omega arith) in
+        n v (omega arith) ∙ ap (λ (c : Bool). if c then b else value_of spread v) other
+        ∙ s.above v (λ k l. g k (omega arith)));
+  }
+    where
+      at : (k : ℕ) → k < i + 1 → (k < i) ⊎ (i ≤ k) → value_of next (get_or names k 0) ≡ value_of values (k + 1)
+      at k l (inl q) =
+          let a = rising_order most 0 names k i rising q h in
+          let c = rising_at most 0 names k rising (omega arith) in
+          let other : eqb (get_or names k 0) (get_or names i 0) ≡ false =
+          ne_eqb (get_or names k 0) (get_or names i 0) (λ r. omega arith) in
+          n (get_or names k 0) c.0
+          ∙ ap (λ (d : Bool). if d then b else value_of spread (get_or names k 0)) other ∙ s.value k q
+      at k l (inr q) =
+          let r : i ≡ k = omega arith in
+          let c = rising_at most 0 names i rising h in
+          let here : eqb (get_or names i 0) (get_or names i 0) ≡ true = eq-eqb _ _ refl in
+          subst (λ (j : ℕ). value_of next (get_or names j 0) ≡ value_of values (j + 1)) r
+          (n (get_or names i 0) c.0
+          ∙ ap (λ (d : Bool). if d then b else value_of spread (get_or names i 0)) here ∙ e)
 
 -- a model under names
 module _ (f d : Formula) (names : List ℕ) (r : IsRenumbered f d names) (values all : List Bool)

@@ -15,7 +15,8 @@ use Rattle.lrat_log.specs.Learnt.{AreLearnt, AreLearntFrom}
 use Rattle.lrat_log.specs.Logs.{IsLogOver}
 use Rattle.lrat_log.specs.Refutations.{IsRefutation, IsSpent}
 use Rattle.renumbering.specs.Named.{named, named_entry, named_line}
-use Rattle.renumbering.specs.Renumbered.{AreRising, IsRenumbered}
+use Rattle.cnf_base.specs.Rising.{AreRising}
+use Rattle.renumbering.specs.Renumbered.{IsRenumbered}
 use Rattle.renumbering.proofs.Numbers.{rising_few}
 use Rattle.renumbering.proofs.Naming.{named_literals, named_has_opposites}
 use Rattle.renumbering.proofs.Sets.{named_option, IsHeldAs, false_named, named_resolvent, named_new, named_propagation}

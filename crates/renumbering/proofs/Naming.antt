@@ -6,7 +6,7 @@ use Rattle.std.proofs.lemmas.Bool.{eqb-true, eq-eqb, ne_eqb}
 use Rattle.cnf_base.specs.Literals.{opposite, variable_of, is_positive, literal_of, member, IsLiteral, AreLiterals}
 use Rattle.cnf_base.specs.Clauses.{IsClause, has_opposites}
 use Rattle.renumbering.specs.Named.{named}
-use Rattle.renumbering.specs.Renumbered.{AreRising}
+use Rattle.cnf_base.specs.Rising.{AreRising}
 use Rattle.renumbering.proofs.Numbers.{variable_of-literal_of, is_positive-literal_of, literal_of-variable_of}
 use Rattle.renumbering.proofs.Numbers.{variable_of-opposite, is_positive-opposite, opposite-literal_of, rising_at}
 use Rattle.renumbering.proofs.Numbers.{rising_once}

@@ -3,7 +3,7 @@ use Rattle.std.proofs.Common.{◌≡◌, ℕ, zero, suc, ◌+◌, ◌<◌, ◌�
 use Rattle.std.proofs.Common.{length, get_or, refl, arith, ap}
 use Rattle.std.proofs.lemmas.Grind.{common_steps}
 use Rattle.cnf_base.specs.Literals.{opposite, variable_of, is_positive, literal_of}
-use Rattle.renumbering.specs.Renumbered.{AreRising}
+use Rattle.cnf_base.specs.Rising.{AreRising}
 
 pub variable_of-literal_of : (p : Bool) (v : ℕ) → variable_of (literal_of p v) ≡ v
 variable_of-literal_of true v = omega arith
@@ -36,6 +36,14 @@ rising_at most last [] i r h = absurd (omega arith)
 rising_at most last (v ∷ vs) zero r h = (r.0, r.1)
 rising_at most last (v ∷ vs) (suc i) r h = let t = rising_at most v vs i r.2
     (omega arith) in let a = r.0 in let b = t.0 in (omega arith, t.1)
+
+-- they stand in order
+pub rising_order : (most last : ℕ) (vs : List ℕ) (i j : ℕ) → AreRising most last vs → i < j → j < length vs
+    → get_or vs i 0 < get_or vs j 0
+rising_order most last [] i j r h k = absurd (omega arith)
+rising_order most last (v ∷ vs) i zero r h k = absurd (omega arith)
+rising_order most last (v ∷ vs) zero (suc j) r h k = (rising_at most v vs j r.2 (omega arith)).0
+rising_order most last (v ∷ vs) (suc i) (suc j) r h k = rising_order most v vs i j r.2 (omega arith) (omega arith)
 
 -- no number stands twice
 pub rising_once : (most last : ℕ) (vs : List ℕ) (i j : ℕ) → AreRising most last vs → i < length vs → j < length vs

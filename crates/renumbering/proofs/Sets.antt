@@ -12,7 +12,7 @@ use Rattle.lrat_log.specs.Accepted.{also, all_false}
 use Rattle.lrat_log.specs.Learnt.{IsFalse, IsUnit, IsConsistent, IsQuiet, IsPropagationConsistent, IsNew, StandsInHint}
 use Rattle.lrat_log.specs.Learnt.{IsChain, IsResolvent}
 use Rattle.renumbering.specs.Named.{named, named_entry}
-use Rattle.renumbering.specs.Renumbered.{AreRising}
+use Rattle.cnf_base.specs.Rising.{AreRising}
 use Rattle.renumbering.proofs.Naming.{map_member, member_map, literal_in, opposite_literal, named_opposite, named_once}
 use Rattle.renumbering.proofs.Naming.{named_eqb, named_member}
 

@@ -1,12 +1,8 @@
 -- A formula over the variables 1, 2, .., each of which stands for a variable of another formula.
-use Rattle.std.specs.Prelude.{ℕ, ◌<◌, ◌≤◌, ◌≡◌, List, [], ◌∷◌, length, map}
+use Rattle.std.specs.Prelude.{ℕ, ◌≡◌, List, length, map}
 use Rattle.cnf_base.specs.Formulas.{Formula, IsFormula}
+use Rattle.cnf_base.specs.Rising.{AreRising}
 use Rattle.renumbering.specs.Named.{named_entry}
-
--- rising numbers, from above `last` to at most `most`
-abbrev pub AreRising : ℕ → ℕ → List ℕ → Type 0
-AreRising most last [] = Unit {0}
-AreRising most last (v ∷ vs) = (last < v) × (v ≤ most) × AreRising most v vs
 
 -- Under the names, which are variables of f and none twice, the clauses of `dense` are those of f.
 pub record IsRenumbered (f dense : Formula) (names : List ℕ) : Type 0 where

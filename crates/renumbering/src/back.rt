@@ -1,11 +1,12 @@
 // From the dense formula back: truth values, and lines of logs.
-ghost use Rattle.std.specs.Prelude.{◌≡◌, ℕ, ◌-◌, ◌<◌, ◌≤◌, false, [], length, get_or, map, IfOk, OnOk};
+ghost use Rattle.std.specs.Prelude.{◌≡◌, ℕ, ◌+◌, ◌<◌, ◌≤◌, [], length, get_or, map, IfOk, OnOk};
 ghost use Rattle.cnf_base.specs.Literals.{AreLiterals};
-ghost use Rattle.cnf_base.specs.Formulas.{IsModel};
+ghost use Rattle.cnf_base.specs.Formulas.{IsModel, value_of};
+ghost use Rattle.cnf_base.specs.Rising.{AreRising};
 ghost use Rattle.lrat_log.specs.Accepted.{IsAccepted};
 ghost use Rattle.lrat_log.specs.Logs.{IsLogOver, IsLineOver};
 ghost use Rattle.renumbering.specs.Named.{named, named_line};
-ghost use Rattle.renumbering.specs.Renumbered.{AreRising, IsRenumbered};
+ghost use Rattle.renumbering.specs.Renumbered.{IsRenumbered};
 
 use crate::dense::Renumbered;
 use crate::names::name_of;
@@ -15,16 +16,15 @@ use lrat_log::{Line, Sink};
 use std::alloc::Global;
 
 /// Each value under its name, and false for what has none.
-fn spread(alloc: Global, names: &[u32], values: &[bool], variables: u32) -> Mem<Vec<bool>>
+fn spread(alloc: Global, names: &[u32], values: &Values, variables: u32) -> Mem<Values>
     requires rising { AreRising variables 0 names.now }
-    requires same { length values.now ≡ length names.now }
-    ensures len { IfOk result (λ v. length v.items ≡ variables) }
+    ensures len { IfOk result (λ v. length v ≡ variables) }
     ensures value { IfOk result (λ v. (i : ℕ) → i < length names.now
-        → get_or v.items (get_or names.now i 0 - 1) false ≡ get_or values.now i false) }
+        → value_of v (get_or names.now i 0) ≡ value_of values.now (i + 1)) }
 {
-    let mut spread = vec![in alloc; false; variables as usize]?;
+    let mut spread = Values::all_false(alloc, variables);
     for i in 0..names.len() {
-        spread[names[i] as usize - 1] = values[i];
+        spread.set(names[i], values.value(i as u32 + 1))?;
     }
     Ok(spread)
 }
@@ -35,13 +35,8 @@ pub fn values_back(alloc: Global, cnf: &Cnf, dense: &Renumbered, values: &Values
     requires model { IsModel dense.now.cnf values.now }
     ensures { IfOk result (IsModel cnf.now) }
 {
-    let all = spread(
-        alloc,
-        dense.names.as_slice(),
-        values.as_slice(),
-        cnf.variables(),
-    )?;
-    Ok(Values::from_vec(all))
+    let all = spread(alloc, dense.names.as_slice(), values, cnf.variables())?;
+    Ok(all)
 }
 
 fn clause_back(alloc: Global, names: &[u32], clause: &[Lit]) -> Mem<Vec<Lit>>

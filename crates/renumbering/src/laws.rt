@@ -5,7 +5,8 @@ ghost use Rattle.lrat_log.specs.declared.line.Line.{Line};
 ghost use Rattle.lrat_log.specs.Logs.{IsLogOver};
 ghost use Rattle.lrat_log.specs.Refutations.{IsRefutation, IsSpent};
 ghost use Rattle.renumbering.specs.Named.{named_line};
-ghost use Rattle.renumbering.specs.Renumbered.{AreRising, IsRenumbered};
+ghost use Rattle.cnf_base.specs.Rising.{AreRising};
+ghost use Rattle.renumbering.specs.Renumbered.{IsRenumbered};
 
 use lrat_log::{growth_laws, learnt_laws};
 

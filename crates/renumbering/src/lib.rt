@@ -1,5 +1,5 @@
-//! A formula whose variables have sparse numbers is the same as one over the numbers 1, 2, .., under other names. So a
-//! solver, whose tables go by the greatest variable, takes memory by the literals of the formula alone.
+//! A formula whose variables have sparse numbers is the same as one over the numbers 1, 2, .., under other names. So
+//! the tables of a solver, which go by the greatest variable, take memory by the literals of the formula.
 #![tactic(auto)]
 
 mod back;

@@ -3,7 +3,7 @@ ghost use Rattle.std.specs.Prelude.{◌≡◌, ◌^◌, ◌<◌, ◌≤◌, leng
 ghost use Rattle.std.specs.Bool.{OnTrue};
 ghost use Rattle.cnf_base.specs.Literals.{IsLiteral, literal_of};
 ghost use Rattle.renumbering.specs.Named.{named};
-ghost use Rattle.renumbering.specs.Renumbered.{AreRising};
+ghost use Rattle.cnf_base.specs.Rising.{AreRising};
 
 use base::Mem;
 use cnf_base::{Entry, Lit};

@@ -8,7 +8,7 @@ use std::alloc::{AllocError, Global};
 fn told(alloc: Global, solved: &Solved) -> Mem<String> {
     match solved {
         Solved::Sat(values) => {
-            let count = values.as_slice().len();
+            let count = values.len();
             format!(in alloc; "satisfied by {count} values")
         }
         Solved::Unsat(log) => {

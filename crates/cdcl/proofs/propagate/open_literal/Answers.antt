@@ -1,33 +1,16 @@
-use Rattle.std.proofs.Common.{◌≡◌, ◌<◌, arith, length, inl, inr, get_or, sym, ◌∙◌}
-use Rattle.std.proofs.lemmas.Grind.{common_steps, get_or_default_zero}
+use Rattle.std.proofs.Common.{List}
 use Rattle.cdcl.specs.Trail.{is_set}
-use Rattle.cdcl.proofs.Members.{member-get_or, false_but_more}
+use Rattle.cdcl.proofs.Members.{open_behind, found_before}
 use Rattle.cdcl.proofs.propagate.open_literal.Goals as goal
-use Rattle.cdcl.proofs.propagate.open_literal.Goals.{else-ne-via-then-ne+then-ne-2+else-not-is_set}
-use Rattle.cdcl.proofs.propagate.open_literal.Goals.{else-ne-via-then-ne+else-ne-2, else-ne-via-else-ne}
 
-pub returns-then-not-is_set : goal.returns-then-not-is_set
-returns-then-not-is_set c =
-    let lt : c.loop-l.l-index < length c.args.clause.now = omega arith in
-    let e : c.l-item.result ≡ get_or c.args.clause.now c.loop-l.l-index 0 =
-    c.l-item.is ∙ get_or_default_zero c.args.clause.now c.loop-l.l-index c.l-item.result lt in
-    record {
-      stands = rw e (member-get_or c.args.clause.now c.loop-l.l-index lt);
-      not_first = λ q. (let a = c.if-ne.ensures in grind (arith, common_steps, a, q));
-      not_second = λ q. (let a = c.if-ne-2.ensures in grind (arith, common_steps, a, q));
-      not_false = rw (← c.opposite.ensures) (sym c.if-not-is_set.ensures);
-    }
+pub returns-in-Some : goal.returns-in-Some
+returns-in-Some c =
+    open_behind (is_set c.args.trail.now.steps) c.args.clause.now c.split_at.result.0.now c.split_at.result.1.now
+    c.min.result c.args.one c.args.other c.split_at.ensures.front c.split_at.ensures.back c.in-Some.open.literal
+    c.in-Some.ensures
 
-pub loop-l-preserved : goal.loop-l-preserved
-loop-l-preserved c =
-    let lt : c.loop-l.l-index < length c.args.clause.now = omega arith in
-    let e : get_or c.args.clause.now c.loop-l.l-index 0 ≡ c.l-item.result =
-    sym (get_or_default_zero c.args.clause.now c.loop-l.l-index c.l-item.result lt) ∙ sym c.l-item.is in
-    false_but_more (is_set c.args.trail.now.steps) c.args.clause.now c.args.one c.args.other c.loop-l.l-index lt
-    (elim c.else-ne.branch [
-      | else-ne-via-then-ne+then-ne-2+else-not-is_set w ↦ inr
-          (inr (rw (e, ← w.opposite.ensures) (sym w.if-not-is_set.ensures)))
-      | else-ne-via-then-ne+else-ne-2 w ↦ inr (inl (let a = w.if-ne-2.ensures in grind (arith, common_steps, a, e)))
-      | else-ne-via-else-ne w ↦ inl (let a = w.if-ne.ensures in grind (arith, common_steps, a, e))
-    ])
-    c.loop-l.invariant
+pub returns-in-None : goal.returns-in-None
+returns-in-None c =
+    found_before (is_set c.args.trail.now.steps) c.args.clause.now c.split_at.result.0.now c.split_at.result.1.now
+    c.min.result c.args.one c.args.other c.split_at.ensures.front c.split_at.ensures.back c.first_open-in-None.result
+    c.in-None.ensures c.first_open-in-None.ensures

@@ -20,7 +20,7 @@ loop-i-preserved c =
           (rw (← lit) (sym c.has.ensures ∙ c.if-has.false));
       marks = mark_more c.opposite_laws.ensures.twice (set_of c.loop-i.set)
           (set_of c.insert.new.self) ls c.loop-i.i j c.opposite.result
-          (omega arith) within other c.loop-i.invariant.marks c.in_ok-insert.ensures;
+          (omega arith) within other c.loop-i.invariant.marks c.in_ok-insert.ensures.ok;
     }
 
 pub returns-then-has-clause-opposites : goal.returns-then-has-clause-opposites

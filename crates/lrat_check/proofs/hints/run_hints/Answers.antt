@@ -12,6 +12,6 @@ loop-hint-preserved c =
     let hints = c.args.hints.now in
     let i = c.loop-hint.hint-index in
     let one : set_of c.insert.new.self ≡ also
-    (set_of c.loop-hint.set) c.in-Sets.l = fun_ext c.in_ok-insert-in-Sets.ensures in
+    (set_of c.loop-hint.set) c.in-Sets.l = fun_ext c.in_ok-insert-in-Sets.ensures.ok in
     c.loop-hint.invariant ∙ hint_sets held hints (set_of c.loop-hint.set) i c.in-Sets.l (omega arith) c.in-Sets.ensures
     ∙ ap (λ (f : ℕ → Bool). outcome_of_hints held (drop (i + 1) hints) f) (sym one)

@@ -1,5 +1,5 @@
 use Rattle.std.proofs.Common.{length}
-use Rattle.renumbering.specs.Renumbered.{AreRising}
+use Rattle.cnf_base.specs.Rising.{AreRising}
 use Rattle.renumbering.proofs.names.are_rising.Given as goal
 
 abbrev pub invariant-loop-rest : goal.invariant-loop-rest

@@ -62,7 +62,7 @@ move_to-requires-clause-first c =
       different = c.other_of-other.ensures.different;
     } in
     open_small c.args.self.now c.args.head c.args.list.now c.args.i c.get-watch.result c.pair.result
-    c.opposite-false_one.result c.other_of-other.result v c.clause.result.now c.in-Some.l c.clause.ensures
+    c.opposite-false_one.result c.other_of-other.result v c.clause-clause.result.now c.in-Some.open.literal c.clause-clause.ensures
     c.in-Some.ensures
 
 pub is_set-requires-in-None : goal.is_set-requires-in-None
@@ -96,7 +96,7 @@ returns-then-is_set-3-clause-conflict c =
       different = c.other_of-other.ensures.different;
     } in
     is_conflict c.args.self.now c.args.head c.args.list.now c.args.i c.get-watch.result c.pair.result
-    c.opposite-false_one.result c.other_of-other.result v c.clause.result.now c.clause.ensures c.in-None.ensures
+    c.opposite-false_one.result c.other_of-other.result v c.clause-clause.result.now c.clause-clause.ensures c.in-None.ensures
     (rw (← c.opposite.ensures) (sym c.is_set-in-None.ensures ∙ c.if-is_set-3.true))
 
 pub push-requires-clause-small : goal.push-requires-clause-small
@@ -128,9 +128,11 @@ returns-in_ok-move_to-in-Some-clause-grows c =
       which = c.other_of-other.ensures.stands;
       different = c.other_of-other.ensures.different;
     } in
-    moved_grows c.args.self.now c.args.head c.args.list.now c.args.i c.get-watch.result c.pair.result
-    c.opposite-false_one.result c.other_of-other.result v c.clause.result.now c.in-Some.l c.move_to.new.self
-    c.clause.ensures c.in-Some.ensures c.in_ok-move_to-in-Some.ensures.pairs c.in_ok-move_to-in-Some.ensures.lists
+    rw c.set_position.ensures
+    (moved_grows c.args.self.now c.args.head c.args.list.now c.args.i c.get-watch.result c.pair.result
+    c.opposite-false_one.result c.other_of-other.result v c.clause-clause.result.now c.in-Some.open.literal
+    c.move_to.new.self c.clause-clause.ensures c.in-Some.ensures c.in_ok-move_to-in-Some.ensures.pairs
+    c.in_ok-move_to-in-Some.ensures.lists)
 
 pub returns-in_ok-move_to-in-Some-clause-visited : goal.returns-in_ok-move_to-in-Some-clause-visited
 returns-in_ok-move_to-in-Some-clause-visited c =
@@ -145,11 +147,12 @@ returns-in_ok-move_to-in-Some-clause-visited c =
       which = c.other_of-other.ensures.stands;
       different = c.other_of-other.ensures.different;
     } in
-    moved_visited c.args.self.now c.args.head c.args.list.now c.args.i c.get-watch.result c.pair.result
-    c.opposite-false_one.result c.other_of-other.result v c.clause.result.now c.in-Some.l c.move_to.new.self
-    c.clause.ensures c.in-Some.ensures c.in_ok-move_to-in-Some.ensures.pairs c.in_ok-move_to-in-Some.ensures.lists
-    c.remove.new.self
-    (record { len = c.remove.ensures.len; moved = c.remove.ensures.moved; kept = c.remove.ensures.kept })
+    rw c.set_position.ensures
+    (moved_visited c.args.self.now c.args.head c.args.list.now c.args.i c.get-watch.result c.pair.result
+    c.opposite-false_one.result c.other_of-other.result v c.clause-clause.result.now c.in-Some.open.literal
+    c.move_to.new.self c.clause-clause.ensures c.in-Some.ensures c.in_ok-move_to-in-Some.ensures.pairs
+    c.in_ok-move_to-in-Some.ensures.lists c.remove.new.self
+    (record { len = c.remove.ensures.len; moved = c.remove.ensures.moved; kept = c.remove.ensures.kept }))
 
 pub returns-in_ok-push-in-None-clause-state : goal.returns-in_ok-push-in-None-clause-state
 returns-in_ok-push-in-None-clause-state c =
@@ -165,7 +168,7 @@ returns-in_ok-push-in-None-clause-state c =
       different = c.other_of-other.ensures.different;
     } in
     pushed_state c.args.self.now c.args.head c.args.list.now c.args.i c.get-watch.result c.pair.result
-    c.opposite-false_one.result c.other_of-other.result v c.clause.result.now c.push.new.self c.clause.ensures
+    c.opposite-false_one.result c.other_of-other.result v c.clause-clause.result.now c.push.new.self c.clause-clause.ensures
     c.in-None.ensures (sym c.is_set-2.ensures ∙ c.if-is_set-2.false)
     (rw (← c.opposite.ensures) (sym c.is_set-in-None.ensures ∙ c.if-is_set-3.false))
     c.in_ok-push-in-None.ensures.steps c.in_ok-push-in-None.ensures.size
@@ -184,7 +187,7 @@ returns-in_ok-push-in-None-clause-grows c =
       different = c.other_of-other.ensures.different;
     } in
     pushed_grows c.args.self.now c.args.head c.args.list.now c.args.i c.get-watch.result c.pair.result
-    c.opposite-false_one.result c.other_of-other.result v c.clause.result.now c.push.new.self c.clause.ensures
+    c.opposite-false_one.result c.other_of-other.result v c.clause-clause.result.now c.push.new.self c.clause-clause.ensures
     c.in-None.ensures (sym c.is_set-2.ensures ∙ c.if-is_set-2.false)
     (rw (← c.opposite.ensures) (sym c.is_set-in-None.ensures ∙ c.if-is_set-3.false))
     c.in_ok-push-in-None.ensures.steps c.in_ok-push-in-None.ensures.size
@@ -203,7 +206,7 @@ returns-in_ok-push-in-None-clause-visited c =
       different = c.other_of-other.ensures.different;
     } in
     rw c.set-in-None.ensures (pushed_visited c.args.self.now c.args.head c.args.list.now c.args.i c.get-watch.result
-    c.pair.result c.opposite-false_one.result c.other_of-other.result v c.clause.result.now c.push.new.self
-    c.clause.ensures c.in-None.ensures (sym c.is_set-2.ensures ∙ c.if-is_set-2.false)
+    c.pair.result c.opposite-false_one.result c.other_of-other.result v c.clause-clause.result.now c.push.new.self
+    c.clause-clause.ensures c.in-None.ensures (sym c.is_set-2.ensures ∙ c.if-is_set-2.false)
     (rw (← c.opposite.ensures) (sym c.is_set-in-None.ensures ∙ c.if-is_set-3.false))
     c.in_ok-push-in-None.ensures.steps c.in_ok-push-in-None.ensures.size)
