@@ -16,8 +16,7 @@ pub fn add_quantifiers(all: bool, e: &Expr, places: &mut Vec<u64>) -> Mem<()>
     ensures { OnOk result (places.new.items ≡ places.old.items ++ quantifiers_in all (expr_tree e.now)) }
 {
     match e {
-        Expr::True(_) => Ok(()),
-        Expr::False(_) => Ok(()),
+        Expr::True(_) | Expr::False(_) => Ok(()),
         Expr::Apply(_, args) => {
             add_quantifiers_each(all, args, places)?;
             Ok(())
@@ -28,7 +27,7 @@ pub fn add_quantifiers(all: bool, e: &Expr, places: &mut Vec<u64>) -> Mem<()>
             add_quantifiers(true, b, places)?;
             Ok(())
         }
-        Expr::Equal(_, a, b) => {
+        Expr::Equal(_, a, b) | Expr::Implies(_, a, b) | Expr::Iff(_, a, b) => {
             add_quantifiers(all, a, places)?;
             add_quantifiers(all, b, places)?;
             Ok(())
@@ -37,22 +36,8 @@ pub fn add_quantifiers(all: bool, e: &Expr, places: &mut Vec<u64>) -> Mem<()>
             add_quantifiers(all, a, places)?;
             Ok(())
         }
-        Expr::And(_, args) => {
+        Expr::And(_, args) | Expr::Or(_, args) => {
             add_quantifiers_each(all, args, places)?;
-            Ok(())
-        }
-        Expr::Or(_, args) => {
-            add_quantifiers_each(all, args, places)?;
-            Ok(())
-        }
-        Expr::Implies(_, a, b) => {
-            add_quantifiers(all, a, places)?;
-            add_quantifiers(all, b, places)?;
-            Ok(())
-        }
-        Expr::Iff(_, a, b) => {
-            add_quantifiers(all, a, places)?;
-            add_quantifiers(all, b, places)?;
             Ok(())
         }
         Expr::Quantified(_, at, _, a) => {
@@ -63,6 +48,7 @@ pub fn add_quantifiers(all: bool, e: &Expr, places: &mut Vec<u64>) -> Mem<()>
     }
 }
 
+// Adds this place, where all quantifiers count.
 fn add_quantifier(all: bool, at: u64, places: &mut Vec<u64>) -> Mem<()>
     ensures { OnOk result (places.new.items ≡ places.old.items ++ (if all then at ∷ [] else [])) }
 {
@@ -74,7 +60,7 @@ fn add_quantifier(all: bool, at: u64, places: &mut Vec<u64>) -> Mem<()>
 
 // Adds those of each expression.
 #[cycle(places)]
-pub fn add_quantifiers_each(all: bool, es: &[Expr], places: &mut Vec<u64>) -> Mem<()>
+fn add_quantifiers_each(all: bool, es: &[Expr], places: &mut Vec<u64>) -> Mem<()>
     ensures { OnOk result (places.new.items ≡ places.old.items
         ++ quantifiers_in_each all (exprs_of (expr_trees es.now))) }
 {

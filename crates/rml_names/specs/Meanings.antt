@@ -23,7 +23,11 @@ place_among names name = position (bytes_eq name) names
 abbrev pub is_among : List (List ℕ) → List ℕ → Bool
 is_among names name = list_any (bytes_eq name) names
 
--- how many names are declared, of all kinds together
+-- how many names a text may declare, of all kinds together
+abbrev pub max_names : ℕ
+max_names = 1000
+
+-- how many are declared
 abbrev pub name_count : Names → ℕ
 name_count n = length n.sorts + length n.relations + length n.functions + length n.axioms + length n.conjectures
     + length n.actions

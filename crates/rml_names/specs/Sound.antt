@@ -7,7 +7,7 @@ use Rattle.rml_command.specs.Trees.{EachPrimitive, HasBranches}
 use Rattle.rml_command.specs.Models.{ModelTree, EachBlock, FitsModel, IsNamed, IsPlaced, IsWritten, IsPlainModel}
 use Rattle.rml_names.specs.declared.meaning.Meaning.{Meaning}
 use Rattle.rml_names.specs.declared.meaning.Meaning.TheVariants.{Bound, Relation, Function, Unknown}
-use Rattle.rml_names.specs.Meanings.{name_count}
+use Rattle.rml_names.specs.Meanings.{max_names, name_count}
 
 pub record IsSound (m : ModelTree) : Type 0 where
   pub sorted : AreSorted (symbols m.signature)
@@ -16,7 +16,7 @@ pub record IsSound (m : ModelTree) : Type 0 where
   pub branches : EachBlock HasBranches m
   pub named : IsNamed m
   pub placed : IsPlaced m
-  pub few : name_count m.names ≤ 1000
+  pub few : name_count m.names ≤ max_names
   pub written : EachBlock (EachPrimitive (IsWritten m.places.conditions)) m
   pub plain : m.places.quantifiers ≡ [] → IsPlainModel m
 

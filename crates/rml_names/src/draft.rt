@@ -20,37 +20,59 @@ use rml_syntax::Name;
 /// The names of what is declared, those of each kind in a table.
 #[derive(Drop)]
 pub struct NameTables {
+    /// Sorts.
     pub sorts: NameTable,
+    /// Relations.
     pub relations: NameTable,
+    /// Functions and variables, in one table.
     pub functions: NameTable,
+    /// Axioms.
     pub axioms: NameTable,
+    /// Conjectures.
     pub conjectures: NameTable,
+    /// Actions.
     pub actions: NameTable,
 }
 
 /// The places at which the fragment may be left: bytes of the text, counted from 0.
 #[derive(Drop)]
 pub struct PlaceLists {
+    /// The names of the functions and variables.
     pub functions: Vec<u64>,
+    /// The names of the axioms.
     pub axioms: Vec<u64>,
+    /// The names of the conjectures.
     pub conjectures: Vec<u64>,
+    /// The word `init`.
     pub init: u64,
+    /// The names of the actions.
     pub actions: Vec<u64>,
+    /// The word `final`.
     pub last: u64,
+    /// The conditions of all blocks.
     pub conditions: Vec<Condition>,
+    /// The quantifiers inside an `ite` and on the right of `:=`.
     pub quantifiers: Vec<u64>,
 }
 
 /// The model of the items that were read so far: the parts of a model, with its names in tables.
 #[derive(Drop)]
 pub struct ModelDraft {
+    /// The symbols so far.
     pub signature: Signature,
+    /// The names so far.
     pub names: NameTables,
+    /// The axioms so far.
     pub axioms: Vec<Sentence>,
+    /// The conjectures so far.
     pub conjectures: Vec<Sentence>,
+    /// The block `init`, or `skip`.
     pub init: Command,
+    /// The blocks of the actions so far.
     pub actions: Vec<Command>,
+    /// The block `final`, or `skip`.
     pub last: Command,
+    /// The places so far.
     pub places: PlaceLists,
 }
 

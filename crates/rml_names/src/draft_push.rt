@@ -1,11 +1,12 @@
-// A draft grows by one declaration.
+// A draft grows by one declaration. Each call says what the model becomes, and asks only that the name is new and that
+// there is room for it; that a text demands both is the business of the crates above.
 ghost use Rattle.std.specs.Prelude.{◌≡◌, ◌<◌, ◌+◌, ◌++◌, ◌∷◌, [], false, length, map, OnOk, IfOk};
 ghost use Rattle.fol_sig.specs.Tables.{AreSorts};
 ghost use Rattle.rml_syntax.specs.declared.tree.Name.{Name};
 ghost use Rattle.rml_syntax.specs.Within.{NameWithin};
 ghost use Rattle.rml_command.specs.View.{command as command_view};
 ghost use Rattle.rml_command.specs.Models.{IsModel};
-ghost use Rattle.rml_names.specs.Meanings.{bytes_of, is_among, name_count, is_symbol};
+ghost use Rattle.rml_names.specs.Meanings.{bytes_of, is_among, max_names, name_count, is_symbol};
 ghost use Rattle.rml_names.specs.Growth.{empty_model, with_function};
 ghost use Rattle.rml_names.specs.Drafts.{model_in, names_in, places_in};
 ghost use Rattle.rml_names.specs.Sound.{IsSound};
@@ -19,6 +20,7 @@ use rml_command::{Command, Condition, Model, Names, Parts, Places};
 use rml_syntax::Name;
 use std::alloc::Global;
 
+// No name of any kind.
 fn no_names(alloc: Global) -> NameTables
     ensures { result ≡ record {
       sorts = [];
@@ -39,6 +41,7 @@ fn no_names(alloc: Global) -> NameTables
     }
 }
 
+// No places.
 fn no_places(alloc: Global) -> PlaceLists
     ensures { places_in result ≡ empty_model.places }
 {
@@ -54,6 +57,7 @@ fn no_places(alloc: Global) -> PlaceLists
     }
 }
 
+// A block that is missing.
 fn skip(alloc: Global) -> Command
     ensures { command_view result ≡ empty_model.init }
 {
@@ -82,7 +86,7 @@ impl ModelDraft {
         requires sound { IsSound (model_in self.old) }
         requires within { NameWithin (length text.now) name }
         requires new { is_among (model_in self.old).names.sorts (bytes_of text.now name) ≡ false }
-        requires few { name_count (model_in self.old).names < 1000 }
+        requires few { name_count (model_in self.old).names < max_names }
         ensures { OnOk result (model_in self.new ≡ record (model_in self.old) {
           signature = record (model_in self.old).signature { sorts = (model_in self.old).signature.sorts + 1 };
           names = record (model_in self.old).names
@@ -99,7 +103,7 @@ impl ModelDraft {
         requires sound { IsSound (model_in self.old) }
         requires within { NameWithin (length text.now) name }
         requires new { is_symbol (model_in self.old) (bytes_of text.now name) ≡ false }
-        requires few { name_count (model_in self.old).names < 1000 }
+        requires few { name_count (model_in self.old).names < max_names }
         requires known { AreSorts (model_in self.old).signature.sorts sorts }
         ensures { OnOk result (model_in self.new ≡ record (model_in self.old) {
           signature = record (model_in self.old).signature
@@ -125,7 +129,7 @@ impl ModelDraft {
         requires sound { IsSound (model_in self.old) }
         requires within { NameWithin (length text.now) name }
         requires new { is_symbol (model_in self.old) (bytes_of text.now name) ≡ false }
-        requires few { name_count (model_in self.old).names < 1000 }
+        requires few { name_count (model_in self.old).names < max_names }
         requires known { AreSorts (model_in self.old).signature.sorts from }
         requires into_known { into.0 < (model_in self.old).signature.sorts }
         ensures { OnOk result (model_in self.new ≡ with_function text.now (model_in self.old) name from into.0) }
@@ -147,7 +151,7 @@ impl ModelDraft {
     ) -> Mem<()>
         requires within { NameWithin (length text.now) name }
         requires new { is_among (model_in self.old).names.axioms (bytes_of text.now name) ≡ false }
-        requires few { name_count (model_in self.old).names < 1000 }
+        requires few { name_count (model_in self.old).names < max_names }
         ensures { OnOk result (model_in self.new ≡ record (model_in self.old) {
           names = record (model_in self.old).names
               { axioms = (model_in self.old).names.axioms ++ bytes_of text.now name ∷ [] };
@@ -176,7 +180,7 @@ impl ModelDraft {
     ) -> Mem<()>
         requires within { NameWithin (length text.now) name }
         requires new { is_among (model_in self.old).names.conjectures (bytes_of text.now name) ≡ false }
-        requires few { name_count (model_in self.old).names < 1000 }
+        requires few { name_count (model_in self.old).names < max_names }
         ensures { OnOk result (model_in self.new ≡ record (model_in self.old) {
           names = record (model_in self.old).names
               { conjectures = (model_in self.old).names.conjectures ++ bytes_of text.now name ∷ [] };
@@ -198,7 +202,7 @@ impl ModelDraft {
     pub fn add_action(&mut self, alloc: Global, text: &[u8], name: Name, block: Command) -> Mem<()>
         requires within { NameWithin (length text.now) name }
         requires new { is_among (model_in self.old).names.actions (bytes_of text.now name) ≡ false }
-        requires few { name_count (model_in self.old).names < 1000 }
+        requires few { name_count (model_in self.old).names < max_names }
         ensures { OnOk result (model_in self.new ≡ record (model_in self.old) {
           names = record (model_in self.old).names
               { actions = (model_in self.old).names.actions ++ bytes_of text.now name ∷ [] };
@@ -264,6 +268,7 @@ fn all_names(alloc: Global, tables: &NameTables) -> Mem<Names>
     })
 }
 
+// The places as lists.
 fn all_places(lists: PlaceLists) -> Places
     ensures { result ≡ places_in lists }
 {

@@ -11,4 +11,4 @@ mod table;
 pub use draft::{ModelDraft, NameTables, PlaceLists, bytes};
 pub use meaning::Meaning;
 pub use scope::{Bound, Scope};
-pub use table::NameTable;
+pub use table::{MAX_NAMES, NameTable};

@@ -1,4 +1,5 @@
-// What a name is.
+// What a name is. A name has one meaning at each place of a text, whichever crate asks: the one that judges an
+// expression and the one that builds its formula both go by it.
 
 /// What a name in an expression is.
 #[derive(Clone, Copy, Debug)]

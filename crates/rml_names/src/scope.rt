@@ -1,4 +1,6 @@
-// The binders around an expression.
+// The binders around an expression, as a chain from the nearest one outward: each lives in the call that walks the
+// quantifier's body, so that a scope costs no memory and nothing has to be taken off again. A look-up goes along the
+// chain, which has at most 108 binders: 100 of quantifiers and 8 of parameters.
 ghost use Rattle.std.specs.Prelude.{◌≡◌, [], ◌∷◌};
 ghost use Rattle.rml_names.specs.Meanings.{is_among};
 ghost use Rattle.rml_names.specs.Scopes.{bound_names, names_of};
@@ -6,14 +8,18 @@ ghost use Rattle.rml_names.specs.Scopes.{bound_names, names_of};
 /// A bound name and the number of its sort.
 #[derive(Clone, Copy)]
 pub struct Bound<'a> {
+    /// The bytes of the name.
     pub name: &'a [u8],
+    /// The number of its sort.
     pub sort: u32,
 }
 
 /// The binders around an expression: the nearest one, and those around it.
 #[derive(Clone, Copy)]
 pub enum Scope<'a> {
+    /// No binder.
     Outside,
+    /// A binder inside others.
     Inside(Bound<'a>, &'a Scope<'a>),
 }
 

@@ -1,6 +1,7 @@
-// The declared names of one kind.
+// The declared names of one kind. A text may use a name wherever it may stand, so that each look-up is by hash; and a
+// name's place in the table is the number of what it declares, so that nothing else has to be kept with it.
 ghost use Rattle.std.specs.Prelude.{◌≡◌, ◌<◌, ◌++◌, ◌∷◌, [], false, length, OnOk, IfOk, OnErr};
-ghost use Rattle.rml_names.specs.Meanings.{place_among, is_among};
+ghost use Rattle.rml_names.specs.Meanings.{max_names, place_among, is_among};
 
 use base::{Mem, Row};
 use indexmap::IndexSet;
@@ -8,6 +9,10 @@ use rml_command::Name;
 use std::alloc::Global;
 use std::marker::Model;
 
+/// How many names a text may declare, of all kinds together.
+pub const MAX_NAMES: usize = 1_000;
+
+// A copy of these bytes.
 fn owned(alloc: Global, name: &[u8]) -> Mem<Vec<u8>>
     ensures { IfOk result (λ copy. copy.items ≡ name.now) }
 {
@@ -16,7 +21,7 @@ fn owned(alloc: Global, name: &[u8]) -> Mem<Vec<u8>>
     Ok(copy)
 }
 
-/// At most 1,000 names of one kind in the order of the file, each found by its hash.
+/// The names of one kind in the order of the file, at most `MAX_NAMES`, each found by its hash.
 #[derive(Drop)]
 pub struct NameTable {
     names: IndexSet<Vec<u8>>,
@@ -24,12 +29,13 @@ pub struct NameTable {
 
 impl Model for NameTable {
     ghost use Rattle.std.specs.Prelude.{List, ℕ, map, ◌≤◌, length};
+    ghost use Rattle.rml_names.specs.Meanings.{max_names};
 
     ghost Value = { List (List ℕ) };
 
     ghost view = { λ t. map (λ v. v.items) t.names.keys };
 
-    ghost invariant = { λ t. length t.names.keys ≤ 1000 };
+    ghost invariant = { λ t. length t.names.keys ≤ max_names };
 }
 
 impl NameTable {
@@ -72,7 +78,7 @@ impl NameTable {
     #[tactic(auto, using(crate::proofs::Tables::any_map))]
     pub fn insert(&mut self, alloc: Global, name: &[u8]) -> Mem<()>
         requires new { is_among self.old name.now ≡ false }
-        requires few { length self.old < 1000 }
+        requires few { length self.old < max_names }
         ensures { OnOk result (self.new ≡ self.old ++ name.now ∷ []) }
     {
         self.names.insert(owned(alloc, name)?)?;

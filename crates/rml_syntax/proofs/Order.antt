@@ -1,28 +1,5 @@
 -- The places of a tree ascend as those of its tokens do.
-use Rattle.std.proofs.Common.{
-  ◌≡◌,
-  ℕ,
-  zero,
-  suc,
-  ◌+◌,
-  ◌≤◌,
-  Bool,
-  true,
-  false,
-  List,
-  [],
-  ◌∷◌,
-  ◌++◌,
-  map,
-  drop,
-  Option,
-  Some,
-  None,
-  refl,
-  sym,
-  subst,
-  arith,
-}
+use Rattle.std.proofs.Common.{ℕ, ◌≤◌, Bool, true, false, List, [], ◌∷◌, ◌++◌, map, drop, Option, Some, None, subst, arith}
 use Rattle.std.proofs.lemmas.List.{map-append}
 use Rattle.rml_lex.specs.declared.token.Token.{Token}
 use Rattle.rml_lex.specs.Bytes.{gap_len}
@@ -47,7 +24,7 @@ use Rattle.rml_syntax.specs.Tree.{
   nested,
   quantified,
 }
-use Rattle.rml_syntax.specs.Grammar.{file, max_levels}
+use Rattle.rml_syntax.specs.Grammar.{max_levels}
 use Rattle.rml_syntax.specs.Faults.{IsTree}
 use Rattle.rml_syntax.specs.Places.{
   AscendBetween,
@@ -63,21 +40,7 @@ use Rattle.rml_syntax.specs.Places.{
   places_of_item,
   places_of_items,
 }
-use Rattle.rml_syntax.proofs.Walk.{
-  Rules,
-  Span,
-  Walks,
-  Trees,
-  Deepens,
-  OfToken,
-  Both,
-  Maybe,
-  Each,
-  Placed,
-  Taken,
-  each_of_some,
-  file_walks,
-}
+use Rattle.rml_syntax.proofs.Walk.{Rules, Span, Trees, Deepens, OfToken, Both, Maybe, Each, Placed, Taken, each_of_some, file_walks}
 
 -- ---- ascending places
 

@@ -1,6 +1,5 @@
 -- A tree's binders nest no deeper than its levels, and each choice has a branch.
-use Rattle.std.proofs.Common.{◌≡◌, ℕ, zero, suc, Bool, true, false, List, [], ◌∷◌, Option, Some, None}
-use Rattle.std.specs.List.{AllByRecursion}
+use Rattle.std.proofs.Common.{ℕ, zero, suc, Bool, true, false, List, [], ◌∷◌, Option, Some, None}
 use Rattle.rml_lex.specs.declared.token.Token.{Token}
 use Rattle.rml_syntax.specs.declared.tree.Name.{Name}
 use Rattle.rml_syntax.specs.declared.tree.Binder.{Binder}
@@ -52,17 +51,7 @@ use Rattle.rml_syntax.specs.Tree.{
   choice,
 }
 use Rattle.rml_syntax.specs.Grammar.{file, max_levels}
-use Rattle.rml_syntax.specs.Shape.{
-  ExprNests,
-  ExprsNest,
-  SideNests,
-  CommandNests,
-  BlockNests,
-  BlocksNest,
-  CommandsNest,
-  ItemNests,
-  IsShaped,
-}
+use Rattle.rml_syntax.specs.Shape.{ExprNests, ExprsNest, SideNests, CommandNests, BlockNests, BlocksNest, ItemNests, IsShaped}
 use Rattle.rml_syntax.proofs.Walk.{
   Rules,
   Span,

@@ -1,20 +1,5 @@
 -- The names and nodes of a tree stand where its tokens do.
-use Rattle.std.proofs.Common.{
-  ◌≡◌,
-  ℕ,
-  ◌≤◌,
-  Bool,
-  true,
-  false,
-  List,
-  [],
-  ◌∷◌,
-  ◌++◌,
-  Option,
-  Some,
-  None,
-  arith,
-}
+use Rattle.std.proofs.Common.{ℕ, ◌≤◌, Bool, true, false, List, [], ◌∷◌, ◌++◌, Option, Some, None, arith}
 use Rattle.std.specs.List.{AllByRecursion}
 use Rattle.rml_lex.specs.declared.token.Token.{Token}
 use Rattle.rml_lex.specs.Tokens.{EndsBy}
@@ -38,20 +23,7 @@ use Rattle.rml_syntax.specs.Tree.{
   nested,
 }
 use Rattle.rml_syntax.specs.Grammar.{file}
-use Rattle.rml_syntax.specs.Within.{
-  NameWithin,
-  NamesWithin,
-  BinderWithin,
-  ExprWithin,
-  ExprsWithin,
-  ValueWithin,
-  CommandWithin,
-  BlockWithin,
-  BlocksWithin,
-  CommandsWithin,
-  ItemWithin,
-  TreeWithin,
-}
+use Rattle.rml_syntax.specs.Within.{NameWithin, BinderWithin, ExprWithin, ExprsWithin, ValueWithin, CommandWithin, BlockWithin, BlocksWithin, ItemWithin, TreeWithin}
 use Rattle.rml_syntax.proofs.Walk.{
   Rules,
   Span,

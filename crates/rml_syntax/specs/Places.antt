@@ -1,22 +1,6 @@
 -- Where the names and the nodes of a tree begin, in the order of reading.
-use Rattle.std.specs.Prelude.{
-  ◌≤◌,
-  ℕ,
-  Bool,
-  true,
-  false,
-  if◌then◌else◌,
-  List,
-  [],
-  ◌∷◌,
-  ◌++◌,
-  map,
-  Option,
-  Some,
-  None,
-}
+use Rattle.std.specs.Prelude.{◌≤◌, ℕ, Bool, true, false, List, [], ◌∷◌, ◌++◌, map, Option, Some, None}
 use Rattle.rml_syntax.specs.declared.tree.Name.{Name}
-use Rattle.rml_syntax.specs.declared.tree.Binder.{Binder}
 use Rattle.rml_syntax.specs.Tree.{
   ExprTree,
   ExprTrees,
