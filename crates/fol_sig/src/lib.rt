@@ -3,7 +3,7 @@
 //! A signature declares sorts, relations and functions; a structure gives each sort a size, each
 //! relation a truth value and each function an element at each tuple of elements of its argument
 //! sorts. (Padon, McMillan, Panda, Sagiv and Shoham, "Ivy: Safety Verification by Interactive
-//! Generalization", PLDI 2016, section 3.)
+//! Generalization", PLDI 2016.)
 #![tactic(auto)]
 
 mod growing;

@@ -21,6 +21,7 @@ impl Model for Strata {
 }
 
 impl Strata {
+    /// The sorts, in the order.
     pub fn order(&self) -> &[Sort]
         ensures { numbers result.now ≡ self.now }
     {
@@ -31,5 +32,6 @@ impl Strata {
 /// Why there are no strata: the first function that closes a cycle with those before it.
 #[derive(Clone, Copy, PartialEq, Eq, Debug)]
 pub struct Cycle {
+    /// The function that closes the cycle.
     pub function: FunId,
 }

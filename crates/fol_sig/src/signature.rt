@@ -51,6 +51,7 @@ impl Signature {
         }
     }
 
+    /// A second signature that declares the same.
     pub fn copy(&self, alloc: Global) -> Mem<Signature>
         ensures { IfOk result (λ s. s ≡ self.now) }
     {
@@ -61,6 +62,7 @@ impl Signature {
         })
     }
 
+    /// Adds a sort behind the others.
     pub fn add_sort(&mut self) -> Sort
         requires { self.old.sorts + 1 < 2 ^ 32 }
         ensures sort { result.0 ≡ self.old.sorts }
@@ -71,7 +73,8 @@ impl Signature {
         sort
     }
 
-    /// The signature is as before where the memory is wanting.
+    /// Adds a relation, with the sorts of its arguments, behind the others. The signature is as before
+    /// where the memory is wanting.
     pub fn add_relation(&mut self, sorts: Sorts) -> Mem<RelId>
         requires known { AreSorts self.old.sorts sorts }
         requires few { length self.old.relations + 1 < 2 ^ 32 }
@@ -84,7 +87,8 @@ impl Signature {
         Ok(id)
     }
 
-    /// The signature is as before where the memory is wanting.
+    /// Adds a function, with the sorts of its arguments and the sort of its values, behind the others. The
+    /// signature is as before where the memory is wanting.
     pub fn add_function(&mut self, from: Sorts, into: Sort) -> Mem<FunId>
         requires known { AreSorts self.old.sorts from }
         requires into_known { into.0 < self.old.sorts }
@@ -108,12 +112,14 @@ impl Signature {
         self.sorts
     }
 
+    /// How many relations there are.
     pub fn relation_count(&self) -> u32
         ensures { result ≡ length self.now.relations }
     {
         self.relations.len() as u32
     }
 
+    /// How many functions there are, those without arguments too.
     pub fn function_count(&self) -> u32
         ensures { result ≡ length self.now.functions }
     {

@@ -34,6 +34,7 @@ impl Sorts {
         }
     }
 
+    /// Adds a sort behind the others.
     pub fn push(&mut self, sort: Sort)
         requires { length self.old < 8 }
         ensures { self.new ≡ self.old ++ sort.0 ∷ [] }
@@ -41,6 +42,7 @@ impl Sorts {
         self.items.push_reserved(sort);
     }
 
+    /// The sorts, in order.
     pub fn as_slice(&self) -> &[Sort]
         ensures value { numbers result.now ≡ self.now }
         ensures few { length result.now ≤ 8 }
@@ -48,6 +50,7 @@ impl Sorts {
         self.items.as_slice()
     }
 
+    /// A second list of the same sorts.
     pub fn copy(&self) -> Sorts
         ensures { result ≡ self.now }
     {

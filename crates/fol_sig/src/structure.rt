@@ -30,6 +30,7 @@ impl Model for Function {
 }
 
 impl Function {
+    /// The function with this table, whose cells are elements of this sort.
     pub fn new(table: Table<u32>, into: Sort) -> Function
         ensures { result ≡ record { sorts = table.sorts; into = into.0; cells = table.cells } }
     {
@@ -96,6 +97,7 @@ impl Structure {
         }
     }
 
+    /// A second structure with the same sizes and tables.
     pub fn copy(&self, alloc: Global) -> Mem<Structure>
         ensures { IfOk result (λ s. s ≡ self.now) }
     {
@@ -110,6 +112,7 @@ impl Structure {
         })
     }
 
+    /// How many elements a sort has: they are the numbers below.
     pub fn size(&self, sort: Sort) -> u32
         requires { sort.0 < length self.now.sizes }
         ensures { result ≡ size_at self.now sort.0 }
@@ -117,6 +120,7 @@ impl Structure {
         self.sizes[sort.0 as usize]
     }
 
+    /// The truth value of a relation at a tuple, which has an element of each argument sort.
     pub fn rel(&self, rel: RelId, tuple: &[u32]) -> bool
         requires known { rel.0 < length self.now.relations }
         requires in_range { InRange self.now.sizes (relation_at self.now rel.0).sorts tuple.now }
@@ -125,6 +129,7 @@ impl Structure {
         self.relations[rel.0 as usize].cell(&self.sizes, tuple)
     }
 
+    /// The element that a function gives at a tuple, which has an element of each argument sort.
     pub fn fun(&self, fun: FunId, tuple: &[u32]) -> u32
         requires known { fun.0 < length self.now.functions }
         requires in_range { InRange self.now.sizes (function_at self.now fun.0).sorts tuple.now }
