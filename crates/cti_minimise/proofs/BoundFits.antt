@@ -4,9 +4,8 @@ use Rattle.fol_sig.specs.Symbols.{Symbols}
 use Rattle.fol_formula.specs.Syntax.{FormTree, for_all, disjunction}
 use Rattle.fol_formula.specs.Fits.{FitsForm, FitsForms, BoundForm}
 use Rattle.fol_formula.specs.Closed.{FitsIsBound}
-use Rattle.fol_formula.specs.Fragments.{AreUniversal, IsExistsForall, HasPlainTerms, HavePlainTerms}
+use Rattle.fol_formula.specs.Fragments.{AreUniversal, IsEa, IsExistsForall, HasPlainTerms, HavePlainTerms}
 use Rattle.cti_minimise.specs.SizeBounds.{equations, for_some_times, size_bound}
-use Rattle.cti_minimise.specs.Laws.{BoundsAreExistsForall, BoundsFit}
 
 are-universal : (n : ℕ) → AreUniversal true (equations n)
 are-universal zero = tt
@@ -24,7 +23,7 @@ times-plain : (n k : ℕ) (p : FormTree) → HasPlainTerms p → HasPlainTerms (
 times-plain zero k p h = h
 times-plain (suc n) k p h = times-plain n k p h
 
-pub bounds-ea : BoundsAreExistsForall
+pub bounds-ea : (k n : ℕ) → IsEa (size_bound k n)
 bounds-ea k n =
     let p = for_all k (disjunction (equations n)) in
     (times-exists n k p (are-universal n), times-plain n k p (are-plain n))
@@ -56,14 +55,15 @@ module _ (sig : Symbols) (k : ℕ) where
       next zero lt = (omega arith, refl)
       next (suc i) lt = let at = each i (omega (arith, lt)) in let within = at.0 in (omega (arith, within), at.1)
 
-pub bounds-fit : BoundsFit
+pub bounds-fit : (sig : Symbols) (k n : ℕ) → k < sig.sorts → FitsForm sig [] (size_bound k n)
 bounds-fit sig k n known =
     times-fit sig k n 0 (for_all k (disjunction (equations n))) [] known (λ i lt. absurd (omega (arith, lt)))
     (λ all each. (known, equations-fit sig k n all (λ i lt. each i (omega (arith, lt)))))
 
--- it has no free index
-pub bound-closed : FitsIsBound → (k n : ℕ) → BoundForm 0 (size_bound k n)
-bound-closed bound k n =
+-- a sentence that fits each signature with the sort has no free index
+pub bound-closed : FitsIsBound → (said : ℕ → ℕ → FormTree)
+    → ((sig : Symbols) (k n : ℕ) → k < sig.sorts → FitsForm sig [] (said k n)) → (k n : ℕ) → BoundForm 0 (said k n)
+bound-closed bound said fits k n =
     let sig : Symbols = record {
       sorts = suc k;
       relations = 0;
@@ -72,4 +72,4 @@ bound-closed bound k n =
       from_of = λ f. [];
       into_of = λ f. 0;
     } in
-    bound sig [] (size_bound k n) (bounds-fit sig k n (omega arith))
+    bound sig [] (said k n) (fits sig k n (omega arith))

@@ -20,12 +20,13 @@ use Rattle.std.proofs.Common.{
   arith,
 }
 use Rattle.std.proofs.lemmas.Bool.{eqb-true, eq-eqb, or_cases, or_left, or_right, cases_lt}
-use Rattle.fol_sig.specs.Tables.{Reading, reading}
+use Rattle.std.specs.Prelude.{◌↔◌}
+use Rattle.fol_sig.specs.Tables.{Tables, Reading, reading, size_at}
 use Rattle.fol_formula.specs.Syntax.{FormTree, for_all, disjunction}
 use Rattle.fol_formula.specs.Truth.{truth, any_true}
 use Rattle.fol_formula.specs.Quantified.{AllBelow, AnyBelow}
 use Rattle.cti_minimise.specs.SizeBounds.{equations, for_some_times, size_bound}
-use Rattle.cti_minimise.specs.Laws.{BoundsAreExact}
+use Rattle.rml_command.specs.Outcomes.{is_true}
 use Rattle.cti_minimise.proofs.Pigeons.{pigeons}
 
 module _ (s : Reading) where
@@ -95,5 +96,6 @@ module _ (s : Reading) where
         (let at = listed x (omega (arith, lt)) in omega (arith, at))))
         (λ j lt. absurd (omega (arith, lt, le)))
 
-pub bounds-exact : AllBelow → AnyBelow → BoundsAreExact
+pub bounds-exact : AllBelow → AnyBelow → (s : Tables) (k n : ℕ) → 0 < size_at s k
+    → (is_true s (size_bound k n) ≡ true) ↔ (size_at s k ≤ n)
 bounds-exact all any s k n some = (at-most (reading s) all any k n, enough (reading s) all any k n some)

@@ -13,9 +13,9 @@ use Rattle.fol_formula.specs.Truth.{all_true}
 use Rattle.fol_formula.specs.Fits.{FitsForm}
 use Rattle.fol_formula.specs.Fragments.{IsEa}
 use Rattle.rml_command.specs.Outcomes.{satisfies, is_true}
-use Rattle.cti_minimise.specs.SizeBounds.{size_bound, size_bounds}
+use Rattle.cti_minimise.specs.SizeBounds.{bounds_by}
 use Rattle.cti_minimise.specs.Minimal.{IsSmaller}
-use Rattle.cti_minimise.specs.Laws.{BoundsAreExact, BoundsAreExistsForall, BoundsFit}
+use Rattle.cti_minimise.specs.Laws.{AreBounds}
 
 -- each number of the second list bounds that of the first in its place
 abbrev pub AtMost : List ℕ → List ℕ → Type 0
@@ -68,59 +68,95 @@ below-next (x ∷ xs) (y ∷ ys) n less =
     (below-next xs ys n same.1))
     less
 
--- the bounds of some sorts, and then of one more
-pub bounds-append : (k : ℕ) (ns : List ℕ) (n : ℕ)
-    → size_bounds k (ns ++ n ∷ []) ≡ size_bounds k ns ++ size_bound (k + length ns) n ∷ []
-bounds-append k [] n = let same : k ≡ k + 0 = omega arith in ap (λ j. size_bound j n ∷ []) same
-bounds-append k (x ∷ xs) n =
-    let next : suc k + length xs ≡ k + suc (length xs) = omega arith in
-    ap (λ ps. size_bound k x ∷ ps)
-    (bounds-append (suc k) xs n ∙ ap (λ j. size_bounds (suc k) xs ++ size_bound j n ∷ []) next)
+-- what is below the next bound is below before it, or within this one
+pub below-above : (xs ys : List ℕ) (n : ℕ) → IsSmaller xs (ys ++ (n + 1) ∷ [])
+    → IsSmaller xs ys ⊎ AtMost xs (ys ++ n ∷ [])
+below-above [] ys n less =
+    elim ys as (λ (zs : List ℕ). IsSmaller [] (zs ++ (n + 1) ∷ []) → IsSmaller [] zs ⊎ AtMost [] (zs ++ n ∷ []))
+    [ [] ↦ (λ h. absurd h) | z ∷ zs ↦ (λ h. absurd h) ] less
+below-above (x ∷ xs) [] n less =
+    ⊎_elim (λ below. inr (omega (arith, below), tt)) (λ same. absurd (none xs same.1)) less
+  where
+    none : (zs : List ℕ) → IsSmaller zs [] → ⊥
+    none [] h = h
+    none (z ∷ zs) h = h
+below-above (x ∷ xs) (y ∷ ys) n less =
+    ⊎_elim
+    (λ below. inl (inl below))
+    (λ same. ⊎_elim
+    (λ smaller. inl (inr (same.0, smaller)))
+    (λ within. let e = same.0 in inr (omega (arith, e), within))
+    (below-above xs ys n same.1))
+    less
 
-pub bounds-are-ea : BoundsAreExistsForall → (k : ℕ) (ns : List ℕ) → AllByRecursion IsEa (size_bounds k ns)
-bounds-are-ea ea k [] = tt
-bounds-are-ea ea k (n ∷ ns) = (ea k n, bounds-are-ea ea (suc k) ns)
+-- bounds on more numbers are bounds on the first of them
+pub at-most-front : (xs ys zs : List ℕ) → AtMost xs (ys ++ zs) → AtMost xs ys
+at-most-front xs [] zs most = tt
+at-most-front [] (y ∷ ys) zs most = most
+at-most-front (x ∷ xs) (y ∷ ys) zs most = (most.0, at-most-front xs ys zs most.1)
 
-pub bounds-all-fit : BoundsFit → (sig : Symbols) (k : ℕ) (ns : List ℕ) → k + length ns ≤ sig.sorts
-    → AllByRecursion (FitsForm sig []) (size_bounds k ns)
-bounds-all-fit fit sig k [] le = tt
-bounds-all-fit fit sig k (n ∷ ns) le =
-    (fit sig k n (omega (arith, le)), bounds-all-fit fit sig (suc k) ns (omega (arith, le)))
+module _ (said : ℕ → ℕ → FormTree) where
+  -- the bounds of some sorts, and then of one more
+  pub bounds-append : (k : ℕ) (ns : List ℕ) (n : ℕ)
+      → bounds_by said k (ns ++ n ∷ []) ≡ bounds_by said k ns ++ said (k + length ns) n ∷ []
+  bounds-append k [] n = let same : k ≡ k + 0 = omega arith in ap (λ j. said j n ∷ []) same
+  bounds-append k (x ∷ xs) n =
+      let next : suc k + length xs ≡ k + suc (length xs) = omega arith in
+      ap (λ ps. said k x ∷ ps)
+      (bounds-append (suc k) xs n ∙ ap (λ j. bounds_by said (suc k) xs ++ said j n ∷ []) next)
 
--- a structure satisfies bounds exactly where its sizes are within them
-module _ (exact : BoundsAreExact) (s : Tables) (positive : All (λ n. 0 < n) s.sizes) where
-  next-size : (k : ℕ) → k < length s.sizes → drop k s.sizes ≡ size_at s k ∷ drop (suc k) s.sizes
-  next-size k lt =
-      let e : k + 1 ≡ suc k = omega arith in
-      drop_more s.sizes k 0 lt ∙ ap (λ j. size_at s k ∷ drop j s.sizes) e
+  -- one bound more
+  pub bounds-push : (sizes : List ℕ) (k n : ℕ) (p : FormTree) (items new : List FormTree) → k ≤ length sizes
+      → items ≡ bounds_by said 0 (take k sizes) → p ≡ said k n → new ≡ items ++ p ∷ []
+      → new ≡ bounds_by said 0 (take k sizes ++ n ∷ [])
+  bounds-push sizes k n p items new le before is pushed =
+      let count : 0 + length (take k sizes) ≡ k = let front = length-take-le k sizes le in omega (arith, front) in
+      pushed ∙ ap (λ qs. qs ++ p ∷ []) before
+      ∙ ap (λ q. bounds_by said 0 (take k sizes) ++ q ∷ []) (is ∙ ap (λ j. said j n) (sym count))
+      ∙ sym (bounds-append 0 (take k sizes) n)
 
-  pub within : (k : ℕ) (ns : List ℕ) → k + length ns ≤ length s.sizes → satisfies s (size_bounds k ns) ≡ true
-      → AtMost (drop k s.sizes) ns
-  within k [] le h = tt
-  within k (n ∷ ns) le h =
-      let lt : k < length s.sizes = omega (arith, le) in
-      let parts = and_parts (is_true s (size_bound k n)) (all_true (reading s) (forms_of (size_bounds (suc k) ns)) [])
-      h in
-      let here = (exact s k n (All-get_or (λ n. 0 < n) s.sizes k 0 lt positive)).0 parts.0 in
-      subst (λ (xs : List ℕ). AtMost xs (n ∷ ns)) (sym (next-size k lt))
-      (here, within (suc k) ns (omega (arith, le)) parts.1)
+  module _ (laws : AreBounds said) where
+    pub bounds-are-ea : (k : ℕ) (ns : List ℕ) → AllByRecursion IsEa (bounds_by said k ns)
+    bounds-are-ea k [] = tt
+    bounds-are-ea k (n ∷ ns) = (laws.fragment k n, bounds-are-ea (suc k) ns)
 
-  pub bounded : (k : ℕ) (ns : List ℕ) → k + length ns ≤ length s.sizes → AtMost (drop k s.sizes) ns
-      → satisfies s (size_bounds k ns) ≡ true
-  bounded k [] le h = refl
-  bounded k (n ∷ ns) le h =
-      let lt : k < length s.sizes = omega (arith, le) in
-      let most = subst (λ (xs : List ℕ). AtMost xs (n ∷ ns)) (next-size k lt) h in
-      let here = (exact s k n (All-get_or (λ n. 0 < n) s.sizes k 0 lt positive)).1 most.0 in
-      and_from (is_true s (size_bound k n)) (all_true (reading s) (forms_of (size_bounds (suc k) ns)) []) here
-      (bounded (suc k) ns (omega (arith, le)) most.1)
+    pub bounds-all-fit : (sig : Symbols) (k : ℕ) (ns : List ℕ) → k + length ns ≤ sig.sorts
+        → AllByRecursion (FitsForm sig []) (bounds_by said k ns)
+    bounds-all-fit sig k [] le = tt
+    bounds-all-fit sig k (n ∷ ns) le =
+        (laws.fits sig k n (omega (arith, le)), bounds-all-fit sig (suc k) ns (omega (arith, le)))
 
--- one bound more
-pub bounds-push : (sizes : List ℕ) (k n : ℕ) (p : FormTree) (items new : List FormTree) → k ≤ length sizes
-    → items ≡ size_bounds 0 (take k sizes) → p ≡ size_bound k n → new ≡ items ++ p ∷ []
-    → new ≡ size_bounds 0 (take k sizes ++ n ∷ [])
-bounds-push sizes k n p items new le before is pushed =
-    let count : 0 + length (take k sizes) ≡ k = let front = length-take-le k sizes le in omega (arith, front) in
-    pushed ∙ ap (λ qs. qs ++ p ∷ []) before
-    ∙ ap (λ q. size_bounds 0 (take k sizes) ++ q ∷ []) (is ∙ ap (λ j. size_bound j n) (sym count))
-    ∙ sym (bounds-append 0 (take k sizes) n)
+    -- a structure satisfies bounds exactly where its sizes are within them
+    module _ (s : Tables) (positive : All (λ n. 0 < n) s.sizes) where
+      next-size : (k : ℕ) → k < length s.sizes → drop k s.sizes ≡ size_at s k ∷ drop (suc k) s.sizes
+      next-size k lt =
+          let e : k + 1 ≡ suc k = omega arith in
+          drop_more s.sizes k 0 lt ∙ ap (λ j. size_at s k ∷ drop j s.sizes) e
+
+      pub within : (k : ℕ) (ns : List ℕ) → k + length ns ≤ length s.sizes → satisfies s (bounds_by said k ns) ≡ true
+          → AtMost (drop k s.sizes) ns
+      within k [] le h = tt
+      within k (n ∷ ns) le h =
+          let lt : k < length s.sizes = omega (arith, le) in
+          let parts = and_parts (is_true s (said k n)) (all_true (reading s) (forms_of (bounds_by said (suc k) ns)) [])
+          h in
+          let here = (laws.exact s k n (All-get_or (λ n. 0 < n) s.sizes k 0 lt positive)).0 parts.0 in
+          subst (λ (xs : List ℕ). AtMost xs (n ∷ ns)) (sym (next-size k lt))
+          (here, within (suc k) ns (omega (arith, le)) parts.1)
+
+      pub bounded : (k : ℕ) (ns : List ℕ) → k + length ns ≤ length s.sizes → AtMost (drop k s.sizes) ns
+          → satisfies s (bounds_by said k ns) ≡ true
+      bounded k [] le h = refl
+      bounded k (n ∷ ns) le h =
+          let lt : k < length s.sizes = omega (arith, le) in
+          let most = subst (λ (xs : List ℕ). AtMost xs (n ∷ ns)) (next-size k lt) h in
+          let here = (laws.exact s k n (All-get_or (λ n. 0 < n) s.sizes k 0 lt positive)).1 most.0 in
+          and_from (is_true s (said k n)) (all_true (reading s) (forms_of (bounds_by said (suc k) ns)) []) here
+          (bounded (suc k) ns (omega (arith, le)) most.1)
+
+-- bounds that are said otherwise are true in the same structures
+pub said-otherwise : (one other : ℕ → ℕ → FormTree) → AreBounds one → AreBounds other
+    → (s : Tables) → All (λ n. 0 < n) s.sizes → (ns : List ℕ) → length ns ≤ length s.sizes
+    → satisfies s (bounds_by one 0 ns) ≡ true → satisfies s (bounds_by other 0 ns) ≡ true
+said-otherwise one other by to s positive ns le h =
+    bounded other to s positive 0 ns (omega (arith, le)) (within one by s positive 0 ns (omega (arith, le)) h)

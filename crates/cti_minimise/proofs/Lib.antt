@@ -1,5 +1,10 @@
 mod Pigeons
 mod BoundTruth
 mod BoundFits
+mod PairTruth
+mod PairFits
+mod ShortBounds
+mod Pushing
 mod Bounded
 mod Searching
+mod Attempts

@@ -7,7 +7,7 @@ use Rattle.std.proofs.lemmas.Bool.{cond-true, cond-false, lt-ltb, le-ltb, cases_
 abbrev without : (ℕ → ℕ) → ℕ → ℕ → ℕ
 without f k i = cond (nat_lt i k) (f i) (f (suc i))
 
-abbrev IsValue : (ℕ → ℕ) → ℕ → ℕ → Type 0
+abbrev pub IsValue : (ℕ → ℕ) → ℕ → ℕ → Type 0
 IsValue f n x = (i : ℕ) × (i < n) × (f i ≡ x)
 
 -- another value than that of k is still there

@@ -1,4 +1,5 @@
 pub mod SizeBounds
+pub mod Saying
 pub mod Minimal
 pub mod Steps
 pub mod Laws

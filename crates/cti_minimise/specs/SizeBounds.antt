@@ -1,5 +1,5 @@
 -- Sentences that bound the sizes of sorts.
-use Rattle.std.specs.Prelude.{ℕ, zero, suc, List, [], ◌∷◌}
+use Rattle.std.specs.Prelude.{ℕ, zero, suc, nat_le, if◌then◌else◌, List, [], ◌∷◌}
 use Rattle.fol_formula.specs.Syntax.{
   FormTree,
   FormTrees,
@@ -25,7 +25,37 @@ for_some_times (suc n) k p = for_some k (for_some_times n k p)
 abbrev pub size_bound : ℕ → ℕ → FormTree
 size_bound k n = for_some_times n k (for_all k (disjunction (equations n)))
 
+-- the equations of variable j with each of i that are bound last, in front of others
+abbrev pub equations_with : ℕ → ℕ → FormTrees → FormTrees
+equations_with j zero others = others
+equations_with j (suc i) others = form_then (equal (bound i) (bound j)) (equations_with j i others)
+
+-- the equation of each two of n + 1 variables
+abbrev pub pair_equations : ℕ → FormTrees
+pair_equations zero = no_forms
+pair_equations (suc n) = equations_with (suc n) (suc n) (pair_equations n)
+
+abbrev pub for_all_times : ℕ → ℕ → FormTree → FormTree
+for_all_times zero k p = p
+for_all_times (suc n) k p = for_all k (for_all_times n k p)
+
+-- the sort has at most n elements: of n + 1 elements two are equal
+abbrev pub pair_bound : ℕ → ℕ → FormTree
+pair_bound k n = for_all_times (suc n) k (disjunction (pair_equations n))
+
+-- the most elements on which a bound is said by pairs
+abbrev pub most_paired : ℕ
+most_paired = 6
+
+-- a bound that needs no constants, where it is on few elements
+abbrev pub short_bound : ℕ → ℕ → FormTree
+short_bound k n = if nat_le n most_paired then pair_bound k n else size_bound k n
+
+-- the sorts from k on have at most these sizes, each bound said so
+abbrev pub bounds_by : (ℕ → ℕ → FormTree) → ℕ → List ℕ → List FormTree
+bounds_by said k [] = []
+bounds_by said k (n ∷ ns) = said k n ∷ bounds_by said (suc k) ns
+
 -- the sorts from k on have at most these sizes
 abbrev pub size_bounds : ℕ → List ℕ → List FormTree
-size_bounds k [] = []
-size_bounds k (n ∷ ns) = size_bound k n ∷ size_bounds (suc k) ns
+size_bounds = bounds_by size_bound

@@ -3,17 +3,15 @@ ghost use Rattle.std.specs.Prelude.{◌≡◌, ◌<◌, length, take, IfOk};
 ghost use Rattle.rml_command.specs.Goals.{IsGoal};
 ghost use Rattle.ea_decide.specs.Passing.{ceilings};
 ghost use Rattle.obligation_decide.specs.GoalDecisions.{IsFailing};
-ghost use Rattle.obligation_decide.specs.Restricted.{IsRestrictedDecision};
-ghost use Rattle.cti_minimise.specs.SizeBounds.{size_bounds};
-ghost use Rattle.cti_minimise.specs.Minimal.{HasNoSmaller, IsLeast, sizes_up_to};
-ghost use Rattle.cti_minimise.specs.Steps.{IsStep};
+ghost use Rattle.cti_minimise.specs.Minimal.{HasNoSmaller, IsLeast};
+ghost use Rattle.cti_minimise.specs.Steps.{IsStep, IsDescent};
 
-use crate::bounds::size_bounds;
+use crate::bounds::MOST_PAIRED;
 use crate::laws::bound_law;
+use crate::trials::{Attempt, Trial, try_bound, try_short};
 use base::Mem;
-use fol_sig::{Sort, Structure};
+use fol_sig::Sort;
 use lrat_log::Limits;
-use obligation_decide::{Decision, decide_where};
 use rml_command::{Checked, Goal};
 use rml_exec::Counterexample;
 use rml_report::{Cause, Least};
@@ -30,6 +28,15 @@ enum Step {
         size: u32,
         cause: Cause,
     },
+}
+
+// What the search from above ends with at one sort.
+#[derive(Drop)]
+enum Descent {
+    // No counterexample has smaller sizes up to the sort.
+    Settled(Counterexample),
+    // Whether one has is left open.
+    Open(Counterexample),
 }
 
 /// A counterexample of the goal, found from this one, with sizes that are least among all counterexamples of the goal,
@@ -62,8 +69,72 @@ pub fn least(
     Ok((found, Least::Yes))
 }
 
-// Tries the bounds below the size of a sort, where no counterexample has smaller sizes before it.
+// Makes a sort least, where no counterexample has smaller sizes before it.
 fn least_at(
+    alloc: Global,
+    checked: &Checked,
+    goal: &Goal,
+    sort: u32,
+    shown: Counterexample,
+    limits: &Limits,
+) -> Mem<Step>
+    requires goal { IsGoal checked.now goal.now }
+    requires sort { sort < checked.now.signature.sorts }
+    requires failing { IsFailing (ceilings limits.now) checked.now goal.now shown }
+    requires before { HasNoSmaller checked.now goal.now (take sort shown.structure.sizes) }
+    ensures { IfOk result (IsStep (ceilings limits.now) checked.now goal.now sort) }
+{
+    match from_above(alloc, checked, goal, sort, shown, limits)? {
+        Descent::Settled(settled) => Ok(Step::Settled(settled)),
+        Descent::Open(shown) => {
+            let step = from_below(alloc, checked, goal, sort, shown, limits)?;
+            Ok(step)
+        }
+    }
+}
+
+// Asks for one element less, in short, as long as a smaller counterexample is found. Each turn lowers the size, which
+// is small, so there are no more turns than elements.
+fn from_above(
+    alloc: Global,
+    checked: &Checked,
+    goal: &Goal,
+    sort: u32,
+    shown: Counterexample,
+    limits: &Limits,
+) -> Mem<Descent>
+    requires goal { IsGoal checked.now goal.now }
+    requires sort { sort < checked.now.signature.sorts }
+    requires failing { IsFailing (ceilings limits.now) checked.now goal.now shown }
+    requires before { HasNoSmaller checked.now goal.now (take sort shown.structure.sizes) }
+    ensures { IfOk result (IsDescent (ceilings limits.now) checked.now goal.now sort) }
+{
+    bound_law();
+    let mut found = shown;
+    for _turn in 0..MOST_PAIRED {
+        let size = found.structure.size(Sort(sort));
+        if size == 1 {
+            return Ok(Descent::Settled(found));
+        }
+        match try_short(
+            alloc,
+            checked,
+            goal,
+            &found.structure,
+            sort,
+            size - 1,
+            limits,
+        )? {
+            Attempt::Refuted => return Ok(Descent::Settled(found)),
+            Attempt::Found(smaller) => found = smaller,
+            Attempt::Open => return Ok(Descent::Open(found)),
+        }
+    }
+    Ok(Descent::Open(found))
+}
+
+// Tries the bounds below the size of a sort, the least first.
+fn from_below(
     alloc: Global,
     checked: &Checked,
     goal: &Goal,
@@ -81,35 +152,13 @@ fn least_at(
     let size = shown.structure.size(Sort(sort));
     for most in 1..size {
         match try_bound(alloc, checked, goal, &shown.structure, sort, most, limits)? {
-            Decision::Holds(_) => {}
-            Decision::Fails(smaller) => return Ok(Step::Settled(smaller)),
-            Decision::Undecided(cause) => {
+            Trial::Refuted => {}
+            Trial::Found(smaller) => return Ok(Step::Settled(smaller)),
+            Trial::Open(cause) => {
                 let size = most;
                 return Ok(Step::Stopped { shown, size, cause });
             }
         }
     }
     Ok(Step::Settled(shown))
-}
-
-// Whether the goal has a counterexample with at most these sizes.
-fn try_bound(
-    alloc: Global,
-    checked: &Checked,
-    goal: &Goal,
-    structure: &Structure,
-    sort: u32,
-    most: u32,
-    limits: &Limits,
-) -> Mem<Decision>
-    requires goal { IsGoal checked.now goal.now }
-    requires sorts { length structure.now.sizes ≡ checked.now.signature.sorts }
-    requires sort { sort < checked.now.signature.sorts }
-    ensures { IfOk result (IsRestrictedDecision (ceilings limits.now) checked.now
-        (size_bounds 0 (sizes_up_to structure.now sort most)) goal.now) }
-{
-    bound_law();
-    let bounds = size_bounds(alloc, structure, sort, most)?;
-    let decision = decide_where(alloc, checked, goal, &bounds, limits)?;
-    Ok(decision)
 }

@@ -68,6 +68,15 @@ pub enum Passed {
     Conflicts(u64),
 }
 
+/// What a sentence would cost.
+#[derive(Clone, Copy, Debug, PartialEq, Eq)]
+pub enum Measured {
+    /// It passes no limit by its size, and its ground formulas are of this size.
+    Within(u64),
+    /// A limit is passed by the sentence's size.
+    Over(Passed),
+}
+
 /// The answer to a sentence.
 #[derive(Drop)]
 pub enum Decided {

@@ -11,7 +11,7 @@ ghost use Rattle.ea_decide.specs.Passing.{ceilings, Passes};
 ghost use Rattle.ea_decide.specs.Decisions.{IsDecided};
 ghost use Rattle.ea_decide.specs.Steps.{more_symbols, IsGroundable, HasRoom, IsSearchedFor};
 
-use crate::decided::{Decided, Passed};
+use crate::decided::{Decided, Measured, Passed};
 use crate::grounding::{clauses, skolemise};
 use crate::measuring::measure;
 use crate::searching::{Searched, search};
@@ -38,7 +38,7 @@ pub fn decide(
     requires fits { FitsForm (symbols signature.now) [] sentence.now }
     ensures { IfOk result (IsDecided (ceilings limits.now) signature.now sentence.now) }
 {
-    if let Some(passed) = measure(alloc, signature, strata, sentence, limits)? {
+    if let Measured::Over(passed) = measure(alloc, signature, strata, sentence, limits)? {
         return Ok(Decided::Over(passed));
     }
     let decided = decide_within(alloc, signature, strata, sentence, limits)?;

@@ -15,7 +15,8 @@ mod searching;
 mod steps;
 mod writing;
 
-pub use decided::{Clauses, Decided, Passed, Proof};
+pub use decided::{Clauses, Decided, Measured, Passed, Proof};
 pub use deciding::decide;
 pub use laws::passing_law;
+pub use measuring::measure;
 pub use writing::clauses_of;

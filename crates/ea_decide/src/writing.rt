@@ -7,7 +7,7 @@ ghost use Rattle.ea_decide.specs.GroundForm.{IsClauseForm};
 ghost use Rattle.ea_decide.specs.Passing.{ceilings, Passes};
 ghost use Rattle.ea_decide.specs.Decisions.{AreClauses};
 
-use crate::decided::Clauses;
+use crate::decided::{Clauses, Measured};
 use crate::deciding::prepare;
 use crate::grounding::{clauses, skolemise};
 use crate::measuring::measure;
@@ -32,7 +32,7 @@ pub fn clauses_of(
     requires fits { FitsForm (symbols signature.now) [] sentence.now }
     ensures { IfOk result (AreClauses (ceilings limits.now) signature.now sentence.now) }
 {
-    if let Some(passed) = measure(alloc, signature, strata, sentence, limits)? {
+    if let Measured::Over(passed) = measure(alloc, signature, strata, sentence, limits)? {
         return Ok(Clauses::Over(passed));
     }
     let cnf = write(alloc, signature, strata, sentence, limits)?;

@@ -1,10 +1,10 @@
 -- The values of the terms, sort by sort.
-use Rattle.std.proofs.Common.{◌≡◌, ℕ, zero, suc, ◌<◌, ◌≤◌, Bool, true, false, ◌==◌, ◌||◌, cond, List, [], ◌∷◌, length}
+use Rattle.std.proofs.Common.{◌≡◌, ℕ, zero, suc, ◌<◌, true, false, ◌==◌, cond, List, [], ◌∷◌}
 use Rattle.std.proofs.Common.{get_or, refl, sym, ap, ◌∙◌, subst, arith, ⊎_elim}
 use Rattle.std.specs.Prelude.{All}
 use Rattle.std.proofs.lemmas.Bool.{cond-true, cond-false, or_cases, or_left, or_right, false≢true, eqb-true, eq-eqb}
 use Rattle.std.proofs.lemmas.Bool.{ne_eqb}
-use Rattle.fol_sig.specs.Tables.{Tables, Reading, InRange, reading, AreSorts, function_at, fun_at, size_at}
+use Rattle.fol_sig.specs.Tables.{Tables, InRange, reading, AreSorts, fun_at, size_at}
 use Rattle.fol_sig.specs.Symbols.{Symbols, FitsStructure, AreSorted}
 use Rattle.fol_sig.specs.Ranges.{FunctionsStayInRange}
 use Rattle.fol_sig.specs.Tuples.{TuplesAreNumbered}
@@ -13,7 +13,7 @@ use Rattle.ground_terms.specs.Terms.{PlainTerm, default_constant, application, L
 use Rattle.ground_terms.specs.Terms.{IsTermAt}
 use Rattle.ground_terms.specs.Numberings.{numbering}
 use Rattle.ground_terms.specs.Values.{Elements, elements_of, value_of_term, values_in_order, term_values, AreValues}
-use Rattle.ground_terms.specs.Values.{atoms_in, HasValues, StructuresGiveValues}
+use Rattle.ground_terms.specs.Values.{StructuresGiveValues}
 use Rattle.ground_terms.proofs.Numbers.{is-term, term-place}
 use Rattle.ground_terms.proofs.Firsts.{is_placed}
 

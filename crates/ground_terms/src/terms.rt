@@ -1,5 +1,6 @@
 // The closed lists of ground terms.
-ghost use Rattle.std.specs.Prelude.{◌≡◌, ◌<◌, ◌≤◌, ◌^◌, ◌+◌, ◌++◌, ℕ, length, map, All, IfOk, slice_index};
+ghost use Rattle.std.specs.Prelude.{◌≡◌, ◌<◌, ◌≤◌, ◌^◌, ◌+◌, ◌++◌, ℕ, [], length, map, replicate, slice_index};
+ghost use Rattle.std.specs.Prelude.{All, IfOk};
 ghost use Rattle.fol_sig.specs.Symbols.{symbols};
 ghost use Rattle.fol_sig.specs.Strata.{IsStrata};
 ghost use Rattle.fol_sig.specs.Tables.{InRange, tuple_count, place_of, numbers};
@@ -134,10 +135,7 @@ fn closed_lists(
         (λ made. made.1.items ≡ term_counts (map (λ v. map plain_term v.items) made.0.items)) }
 {
     tuple_laws();
-    let mut lists = Vec::new(alloc);
-    for _k in 0..signature.sorts() {
-        lists.push(Vec::new(alloc))?;
-    }
+    let mut lists = empty_lists(alloc, signature.sorts())?;
     let mut counts = vec![in alloc; 0u32; signature.sorts() as usize]?;
     for sort in strata.order() {
         let list = terms_of(alloc, signature, &counts, *sort)?;
@@ -145,6 +143,17 @@ fn closed_lists(
         lists[sort.0 as usize] = list;
     }
     Ok((lists, counts))
+}
+
+// An empty list for each of so many sorts.
+fn empty_lists(alloc: Global, sorts: u32) -> Mem<Vec<Vec<GroundTerm>>>
+    ensures { IfOk result (λ lists. map (λ v. map plain_term v.items) lists.items ≡ replicate sorts []) }
+{
+    let mut lists = Vec::new(alloc);
+    for _k in 0..sorts {
+        lists.push(Vec::new(alloc))?;
+    }
+    Ok(lists)
 }
 
 // The terms of a sort, where each sort has so many.

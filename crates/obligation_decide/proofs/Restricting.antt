@@ -46,8 +46,11 @@ use Rattle.obligation_decide.specs.GoalDecisions.{IsDecision}
 use Rattle.obligation_decide.specs.WithConstants.{HoldsWithConstants}
 use Rattle.obligation_decide.specs.Restricted.{with_parts, IsSentenceDecision, RestrictedSentencePasses}
 use Rattle.obligation_decide.specs.Restricted.{RestrictedPassesFirst, IsLeftOpenWhere, IsRestrictedDecision}
+use Rattle.obligation_decide.specs.Costs.{IsSentenceMeasured, IsRestrictedMeasured}
 use Rattle.obligation_decide.specs.declared.decision.Decision.{Decision}
 use Rattle.obligation_decide.specs.declared.decision.Decision.TheVariants.{Holds, Fails, Undecided}
+use Rattle.obligation_decide.specs.declared.decision.Measured.{Measured}
+use Rattle.obligation_decide.specs.declared.decision.Measured.TheVariants.{Within, Over}
 
 same-list : (ps : List FormTree) → list_of_forms (forms_of ps) ≡ ps
 same-list [] = refl
@@ -96,6 +99,16 @@ module _ (limits : Ceilings) (m : ModelTree) (goal : Goal) where
     over (passed.Terms n) h = passes (Some (cause.Terms n)) (Some (passed.Terms n), h, refl)
     over (passed.GroundSize n) h = passes (Some (cause.Ground n)) (Some (passed.GroundSize n), h, refl)
     over (passed.Conflicts n) h = (passes None (None, h.0, refl), h.1, h.2)
+
+    by_measure : (d : Measured) → IsSentenceMeasured limits m (refuting_all m m.conjectures more goal) d
+        → IsRestrictedMeasured limits m more goal d
+    by_measure (Within size) h = (passes None (None, h.0, refl), h.1, h.2)
+    by_measure (Over c) h = passes (Some c) (Some h.0, h.2, ap (λ (x : Cause). Some x) h.1)
+
+    -- what the sentence would cost is what the goal would
+    pub measured_by : (p : FormTree) (d : Measured) → p ≡ refuting_all m m.conjectures more goal
+        → IsSentenceMeasured limits m p d → IsRestrictedMeasured limits m more goal d
+    measured_by p d is h = by_measure d (subst (λ (q : FormTree). IsSentenceMeasured limits m q d) is h)
 
     module _ (exact : RefutingIsExact) (fits : FitsModel m) (g : IsGoal m goal) where
       by_sentence : (d : Decision) → IsSentenceDecision limits m (refuting_all m m.conjectures more goal) goal d

@@ -3,3 +3,4 @@ pub mod GoalDecisions
 pub mod WithConstants
 pub mod Laws
 pub mod Restricted
+pub mod Costs

@@ -12,3 +12,12 @@ pub enum Decision {
     /// A limit is passed.
     Undecided(Cause),
 }
+
+/// What a goal would cost.
+#[derive(Clone, Copy)]
+pub enum Measured {
+    /// It passes no limit by its size, and the ground formulas of its refuting sentence are of this size.
+    Within(u64),
+    /// A limit is passed by the goal's size.
+    Over(Cause),
+}

@@ -8,6 +8,7 @@
 mod axioms;
 mod decision;
 mod laws;
+mod measuring;
 mod parts;
 mod walk;
 
@@ -24,11 +25,12 @@ ghost use Rattle.obligation_decide.specs.Restricted.{IsRefutingWith, IsSentenceD
 
 pub use axioms::decide_axioms;
 use base::{Mem, Refused};
-pub use decision::Decision;
+pub use decision::{Decision, Measured};
 use ea_decide::{Decided, Passed};
 use fol_formula::{Ea, Sentence};
 pub use laws::passing_law;
 use lrat_log::Limits;
+pub use measuring::measure_where;
 use parts::restricted;
 use rml_command::{Checked, Goal};
 use rml_report::Cause;

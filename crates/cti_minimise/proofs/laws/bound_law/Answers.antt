@@ -1,12 +1,8 @@
-use Rattle.cti_minimise.proofs.BoundTruth.{bounds-exact}
-use Rattle.cti_minimise.proofs.BoundFits.{bounds-ea, bounds-fit}
+use Rattle.cti_minimise.proofs.ShortBounds.{named-bounds, short-bounds}
 use Rattle.cti_minimise.proofs.laws.bound_law.Goals as goal
 
-pub returns-clause-exact : goal.returns-clause-exact
-returns-clause-exact c = bounds-exact c.quantified.ensures.all c.quantified.ensures.any
+pub returns-clause-named : goal.returns-clause-named
+returns-clause-named c = named-bounds c.quantified.ensures.all c.quantified.ensures.any
 
-pub returns-clause-fragment : goal.returns-clause-fragment
-returns-clause-fragment c = bounds-ea
-
-pub returns-clause-fits : goal.returns-clause-fits
-returns-clause-fits c = bounds-fit
+pub returns-clause-short : goal.returns-clause-short
+returns-clause-short c = short-bounds c.quantified.ensures.all c.quantified.ensures.any

@@ -1,4 +1,4 @@
-use Rattle.std.proofs.Common.{[], ◌∷◌, subst, sym, ap}
+use Rattle.std.proofs.Common.{[], ◌∷◌, subst, sym}
 use Rattle.ground_terms.specs.declared.ground.Junction.TheVariants.{And, Or}
 use Rattle.ground_terms.specs.Calls.{a_node}
 use Rattle.ground_terms.specs.Taking.{Hands, one_handed}

@@ -3,19 +3,25 @@ use Rattle.std.specs.List.{AllByRecursion}
 use Rattle.fol_sig.specs.Symbols.{symbols}
 use Rattle.fol_formula.specs.Fits.{FitsForm}
 use Rattle.fol_formula.specs.Fragments.{IsEa}
+use Rattle.cti_minimise.specs.Saying.{said_by}
 use Rattle.cti_minimise.specs.Minimal.{sizes_up_to}
 use Rattle.cti_minimise.proofs.Bounded.{bounds-are-ea, bounds-all-fit}
 use Rattle.cti_minimise.proofs.Searching.{length-up-to}
-use Rattle.cti_minimise.proofs.minimising.try_bound.Goals as goal
+use Rattle.cti_minimise.proofs.Attempts.{laws-of}
+use Rattle.cti_minimise.proofs.trials.decide_by.Goals as goal
 
 pub decide_where-requires-clause-fragment : goal.decide_where-requires-clause-fragment
 decide_where-requires-clause-fragment c =
+    let said = said_by c.args.saying in
+    let laws = laws-of c.bound_law.ensures.named c.bound_law.ensures.short c.args.saying in
     let sizes = sizes_up_to c.args.structure.now c.args.sort c.args.most in
     subst (AllByRecursion IsEa) (sym (c.deref.ensures.value ∙ c.in_ok-bounds.ensures))
-    (bounds-are-ea c.bound_law.ensures.fragment 0 sizes)
+    (bounds-are-ea said laws 0 sizes)
 
 pub decide_where-requires-clause-fits : goal.decide_where-requires-clause-fits
 decide_where-requires-clause-fits c =
+    let said = said_by c.args.saying in
+    let laws = laws-of c.bound_law.ensures.named c.bound_law.ensures.short c.args.saying in
     let s = c.args.structure.now in
     let sizes = sizes_up_to s c.args.sort c.args.most in
     let sig = symbols c.args.checked.now.signature in
@@ -23,4 +29,4 @@ decide_where-requires-clause-fits c =
     let sort = c.requires.sort in
     let count = length-up-to s c.args.sort c.args.most (omega (arith, sorts, sort)) in
     subst (AllByRecursion (FitsForm sig [])) (sym (c.deref.ensures.value ∙ c.in_ok-bounds.ensures))
-    (bounds-all-fit c.bound_law.ensures.fits sig 0 sizes (omega (arith, count, sort)))
+    (bounds-all-fit said laws sig 0 sizes (omega (arith, count, sort)))

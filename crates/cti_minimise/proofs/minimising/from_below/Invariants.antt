@@ -1,5 +1,5 @@
 use Rattle.cti_minimise.specs.Minimal.{HasNoSmaller, sizes_up_to}
-use Rattle.cti_minimise.proofs.minimising.least_at.Given as goal
+use Rattle.cti_minimise.proofs.minimising.from_below.Given as goal
 
 abbrev pub invariant-loop-most : goal.invariant-loop-most
 invariant-loop-most l = HasNoSmaller l.fn.checked l.fn.goal (sizes_up_to l.fn.shown.structure l.fn.sort l.most)

@@ -1,0 +1,20 @@
+use Rattle.ea_decide.specs.Passing.{ceilings}
+use Rattle.obligation_decide.proofs.SameAnswer.{signature_of, same_measure}
+use Rattle.obligation_decide.proofs.measuring.measure_sentence.Goals as goal
+
+pub returns-in-Within : goal.returns-in-Within
+returns-in-Within c =
+    let m = c.args.checked.now in
+    let sig = signature_of _ _ m c.signature-signature.ensures.value c.model.ensures.value in
+    same_measure (ceilings c.args.limits.now) _ m.signature c.args.sentence.now _ _ sig c.in-Within.is
+    c.in_ok-size.ensures
+
+pub returns-in-Over : goal.returns-in-Over
+returns-in-Over c =
+    let m = c.args.checked.now in
+    let sig = signature_of _ _ m c.signature-signature.ensures.value c.model.ensures.value in (
+      c.in-Over.passed,
+      c.cause_of.ensures,
+      same_measure (ceilings c.args.limits.now) _ m.signature c.args.sentence.now _ _ sig c.in-Over.is
+          c.in_ok-size.ensures,
+    )

@@ -1,0 +1,27 @@
+-- What a goal would cost where the structures must satisfy further sentences, or the limit that it passes by its size.
+use Rattle.std.specs.Prelude.{◌≡◌, ℕ, ◌≤◌, List, Some, None}
+use Rattle.fol_formula.specs.Syntax.{FormTree}
+use Rattle.rml_command.specs.Models.{ModelTree}
+use Rattle.rml_command.specs.declared.goal.Goal.{Goal}
+use Rattle.rml_wp.specs.Added.{refuting_all}
+use Rattle.ea_decide.specs.declared.decided.Passed.{Passed}
+use Rattle.ea_decide.specs.Passing.{Ceilings, Passes}
+use Rattle.ea_decide.specs.Measuring.{HasSize}
+use Rattle.obligation_decide.specs.GoalPassing.{cause_of}
+use Rattle.obligation_decide.specs.Restricted.{RestrictedPassesFirst}
+use Rattle.obligation_decide.specs.declared.decision.Measured.{Measured}
+use Rattle.obligation_decide.specs.declared.decision.Measured.TheVariants.{Within, Over}
+
+-- Of the sentence. Private contracts alone cite this.
+abbrev pub IsSentenceMeasured : Ceilings → ModelTree → FormTree → Measured → Type 0
+IsSentenceMeasured limits m p (Within size) =
+    Passes limits m.signature p None × HasSize m.signature p size × (size ≤ limits.size)
+IsSentenceMeasured limits m p (Over c) = (passed : Passed) × (c ≡ cause_of passed) × Passes limits m.signature p (Some passed)
+
+-- No limit is passed, and the ground formulas of the refuting sentence with these sentences are of this size, within
+-- its limit; or this limit is passed first.
+abbrev pub IsRestrictedMeasured : Ceilings → ModelTree → List FormTree → Goal → Measured → Type 0
+IsRestrictedMeasured limits m more goal (Within size) =
+    RestrictedPassesFirst limits m more goal None
+    × HasSize m.signature (refuting_all m m.conjectures more goal) size × (size ≤ limits.size)
+IsRestrictedMeasured limits m more goal (Over c) = RestrictedPassesFirst limits m more goal (Some c)
