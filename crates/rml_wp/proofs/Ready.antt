@@ -3,9 +3,6 @@ use Rattle.std.proofs.Common.{◌≡◌, ℕ, ◌||◌, Bool, true, false, List,
 use Rattle.std.proofs.Common.{append_assoc, append-nil}
 use Rattle.std.specs.Prelude.{IsTrue}
 use Rattle.base.proofs.Lists.{all_back}
-use Rattle.fol_formula.specs.View.{form}
-use Rattle.rml_wp.specs.declared.measured.Measured.{Measured}
-use Rattle.rml_wp.specs.Measures.{Measures}
 use Rattle.std.specs.List.{AllByRecursion}
 use Rattle.base.specs.Because.{Because}
 use Rattle.base.specs.declared.refused.Refused.{Refused}
@@ -26,7 +23,7 @@ use Rattle.rml_wp.proofs.StepTruth.{Replaces, lawful-fits, precondition-fits, on
 module _ (conditions : ShortListsSuffice) (sig : Symbols) (given axioms : List FormTree) (rest w : FormTree)
     (fit : AllByRecursion (FitsForm sig []) axioms) (h : FitsForm sig [] rest) (same : given ≡ axioms)
     (is : w ≡ where_lawful given rest) where
-  pub within_fits : FitsForm sig [] w
+  within_fits : FitsForm sig [] w
   within_fits =
       subst (FitsForm sig []) (sym (is ∙ ap (λ a. where_lawful a rest) same)) (lawful-fits sig axioms rest fit h)
 
@@ -66,35 +63,33 @@ module _ (sig : Symbols) (axioms : List FormTree) (target : FormTree) where
       later (is_too_large (precondition_of sig axioms target (q ∷ (front ++ behind)))) _ (limit-append front behind e)
 
   -- a path was gone back as far as these primitives before, and the formula is the precondition of those behind
-  pub record IsBack (path before : List PrimitiveTree) (now : Measured) : Type 0 where
+  pub record IsBack (path before : List PrimitiveTree) (now : FormTree) : Type 0 where
     pub behind : List PrimitiveTree
     pub split : path ≡ before ++ behind
-    pub measured : Measures now (precondition_of sig axioms target behind)
+    pub tree : now ≡ precondition_of sig axioms target behind
     pub small : passes_limit sig axioms target behind ≡ false
 
-  pub at_end : (given : FormTree) (path before : List PrimitiveTree) (now : Measured) → given ≡ target → before ≡ path
-      → Measures now given → IsBack path before now
-  at_end given path before now is whole m =
-      let measured : Measures now target = subst (Measures now) is m in
+  pub at_end : (given : FormTree) (path before : List PrimitiveTree) (now : FormTree) → given ≡ target → before ≡ path
+      → now ≡ given → is_too_large now ≡ false → IsBack path before now
+  at_end given path before now is whole same small =
       record {
         behind = [];
         split = sym (append-nil path) ∙ ap (λ z. z ++ []) (sym whole);
-        measured = measured;
-        small = measured.small;
+        tree = same ∙ is;
+        small = ap is_too_large (sym (same ∙ is)) ∙ small;
       }
 
-  pub at_start : (path before : List PrimitiveTree) (now : Measured) → before ≡ [] → IsBack path before now
-      → Measures now (precondition_of sig axioms target path)
+  pub at_start : (path before : List PrimitiveTree) (now : FormTree) → before ≡ [] → IsBack path before now
+      → now ≡ precondition_of sig axioms target path
   at_start path before now none h =
-      subst (λ p. Measures now (precondition_of sig axioms target p)) (sym (h.split ∙ ap (λ z. z ++ h.behind) none))
-      h.measured
+      h.tree ∙ ap (precondition_of sig axioms target) (sym (h.split ∙ ap (λ z. z ++ h.behind) none))
 
-  pub within_limit : (path before : List PrimitiveTree) (now : Measured) → before ≡ [] → IsBack path before now
+  pub within_limit : (path before : List PrimitiveTree) (now : FormTree) → before ≡ [] → IsBack path before now
       → passes_limit sig axioms target path ≡ false
   within_limit path before now none h =
       ap (passes_limit sig axioms target) (h.split ∙ ap (λ z. z ++ h.behind) none) ∙ h.small
 
-  module _ (path before rest : List PrimitiveTree) (q : PrimitiveTree) (now : Measured) (step : before ≡ rest ++ q ∷ [])
+  module _ (path before rest : List PrimitiveTree) (q : PrimitiveTree) (now : FormTree) (step : before ≡ rest ++ q ∷ [])
       (fits : FitsPath sig path) (h : IsBack path before now) where
     whole : path ≡ rest ++ (q ∷ h.behind)
     whole = h.split ∙ ap (λ z. z ++ h.behind) step ∙ append_assoc rest (q ∷ []) h.behind
@@ -106,27 +101,27 @@ module _ (sig : Symbols) (axioms : List FormTree) (target : FormTree) where
     one-fits = behind-fits.0
 
     pub formula-fits : Replaces → AllByRecursion (FitsForm sig []) axioms → FitsForm sig [] target
-        → FitsForm sig [] (form now.formula)
+        → FitsForm sig [] now
     formula-fits laws a t =
-        subst (FitsForm sig []) (sym h.measured.tree)
+        subst (FitsForm sig []) (sym h.tree)
         (precondition-fits laws sig axioms target h.behind a t behind-fits.1)
 
     pub stops_at : (e : Refused FormulaLimit)
-        → Because (λ x. IsTrue (is_too_large (back_of sig axioms q (form now.formula)))) e → Because (Passes path) e
+        → Because (λ x. IsTrue (is_too_large (back_of sig axioms q now))) e → Because (Passes path) e
     stops_at (For x) large =
         let passes : is_too_large (precondition_of sig axioms target (q ∷ h.behind)) ≡ true =
-        ap (λ r. is_too_large (back_of sig axioms q r)) (sym h.measured.tree) ∙ large in
+        ap (λ r. is_too_large (back_of sig axioms q r)) (sym h.tree) ∙ large in
         ap (passes_limit sig axioms target) whole
         ∙ limit-append rest (q ∷ h.behind) (sooner _ (passes_limit sig axioms target h.behind) passes)
     stops_at NoMemory large = tt
 
-    pub goes_back : (next : Measured) → Measures next (back_of sig axioms q (form now.formula)) → IsBack path rest next
-    goes_back next m =
-        let measured : Measures next (precondition_of sig axioms target (q ∷ h.behind)) =
-        subst (λ r. Measures next (back_of sig axioms q r)) h.measured.tree m in
+    pub goes_back : (next : FormTree) → next ≡ back_of sig axioms q now → is_too_large next ≡ false
+        → IsBack path rest next
+    goes_back next is small =
+        let tree : next ≡ precondition_of sig axioms target (q ∷ h.behind) = is ∙ ap (back_of sig axioms q) h.tree in
         record {
           behind = q ∷ h.behind;
           split = whole;
-          measured = measured;
-          small = ap (λ b. b || passes_limit sig axioms target h.behind) measured.small ∙ h.small;
+          tree = tree;
+          small = ap (λ b. b || passes_limit sig axioms target h.behind) (ap is_too_large (sym tree) ∙ small) ∙ h.small;
         }

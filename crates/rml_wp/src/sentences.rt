@@ -40,8 +40,8 @@ pub fn precondition(
     fragment_law();
     let model = checked.model();
     let path = checked.path(goal);
-    let measured = along(alloc, model, goal.about, &path)?;
-    Ok(Ae::new(Sentence::of(measured.formula)))
+    let counted = along(alloc, model, goal.about, &path)?;
+    Ok(Ae::new(Sentence::of(counted.formula)))
 }
 
 /// The sentence that a structure satisfies exactly where the goal has a counterexample from it.

@@ -15,13 +15,14 @@ ghost use Rattle.rml_command.specs.Outcomes.{all_of as all_of_them};
 ghost use Rattle.rml_wp.specs.Preconditions.{back_of, precondition_of, passes_limit, target_of};
 ghost use Rattle.rml_wp.specs.Preconditions.{where_lawful as where_lawful_of};
 ghost use Rattle.rml_wp.specs.Laws.{HasTarget};
-ghost use Rattle.rml_wp.specs.Measures.{Measures};
 
-use crate::measured::Measured;
+use crate::counted::{count, with_size};
 use base::{Mem, Refused};
 use fol_formula::{Formula, Sentence, Term};
 use fol_sig::{FunId, RelId, Sort};
-use fol_subst::{FormulaLimit, replace_const, replace_fun, replace_rel};
+use fol_subst::{
+    Counted, FormulaLimit, replace_const_counted, replace_fun_counted, replace_rel_counted,
+};
 use rml_command::{About, Model, Path, Primitive};
 use std::alloc::Global;
 
@@ -31,12 +32,12 @@ pub fn along(
     model: &Model,
     about: About,
     path: &Path,
-) -> Result<Measured, Refused<FormulaLimit>>
+) -> Result<Counted, Refused<FormulaLimit>>
     requires about { HasTarget model.now about }
     requires path { FitsPath (symbols model.now.signature) path.now }
     ensures precondition { IfOk result
-        (λ m. Measures m
-        (precondition_of (symbols model.now.signature) model.now.axioms (target_of model.now about) path.now)) }
+        (λ c. form c.formula
+        ≡ precondition_of (symbols model.now.signature) model.now.axioms (target_of model.now about) path.now) }
     ensures within { OnOk result
         (passes_limit (symbols model.now.signature) model.now.axioms (target_of model.now about) path.now ≡ false) }
     ensures limit { IfErr result
@@ -47,14 +48,14 @@ pub fn along(
     fol_formula::indices();
     let _ = model.signature();
     let target = target(alloc, model, about)?;
-    let mut now = match Measured::of(target) {
-        Ok(measured) => measured,
+    let mut now = match count(target) {
+        Ok(counted) => counted,
         Err(refused) => return Err(refused),
     };
     let mut before = path.primitives();
     while let Some(primitive) = before.next_back() {
         now = match step_back(alloc, model, primitive, now) {
-            Ok(measured) => measured,
+            Ok(counted) => counted,
             Err(refused) => return Err(refused),
         };
     }
@@ -78,14 +79,13 @@ fn step_back(
     alloc: Global,
     model: &Model,
     primitive: &Primitive,
-    rest: Measured,
-) -> Result<Measured, Refused<FormulaLimit>>
+    rest: Counted,
+) -> Result<Counted, Refused<FormulaLimit>>
     requires primitive { FitsPrimitive (symbols model.now.signature) (primitive_view primitive.now) }
     requires rest { FitsForm (symbols model.now.signature) [] (form rest.formula) }
-    requires counted { Measures rest (form rest.formula) }
     ensures back { IfOk result
-        (λ m. Measures m
-        (back_of (symbols model.now.signature) model.now.axioms (primitive_view primitive.now) (form rest.formula))) }
+        (λ c. form c.formula
+        ≡ back_of (symbols model.now.signature) model.now.axioms (primitive_view primitive.now) (form rest.formula)) }
     ensures limit { IfErr result
         (Because (λ _. IsTrue
         (is_too_large
@@ -95,8 +95,8 @@ fn step_back(
         Primitive::Assume(sentence) => before_assumption(alloc, sentence, rest),
         Primitive::SetRel(rel, by) => before_set_rel(alloc, model, *rel, by, rest.formula),
         Primitive::SetFun(fun, by) => before_set_fun(alloc, model, *fun, by, rest.formula),
-        Primitive::Havoc(variable) => before_havoc(alloc, model, *variable, rest),
-        Primitive::Abort => Measured::of(Formula::False),
+        Primitive::Havoc(variable) => before_havoc(alloc, model, *variable, rest.formula),
+        Primitive::Abort => count(Formula::False),
     }
 }
 
@@ -104,10 +104,9 @@ fn step_back(
 fn before_assumption(
     alloc: Global,
     sentence: &Sentence,
-    rest: Measured,
-) -> Result<Measured, Refused<FormulaLimit>>
-    requires { Measures rest (form rest.formula) }
-    ensures back { IfOk result (λ m. Measures m (implication sentence.now (form rest.formula))) }
+    rest: Counted,
+) -> Result<Counted, Refused<FormulaLimit>>
+    ensures back { IfOk result (λ c. form c.formula ≡ implication sentence.now (form rest.formula)) }
     ensures limit { IfErr result (Because (λ _. IsTrue (is_too_large (implication sentence.now (form rest.formula))))) }
 {
     let nodes = sentence
@@ -116,7 +115,8 @@ fn before_assumption(
         .saturating_add(1);
     let depth = sentence.depth().max(rest.depth).saturating_add(1);
     let implication = implies(alloc, sentence.formula().copy(alloc)?, rest.formula)?;
-    Measured::new(implication, nodes, depth)
+    let counted = with_size(implication, nodes, depth)?;
+    Ok(counted)
 }
 
 fn before_set_rel(
@@ -125,12 +125,12 @@ fn before_set_rel(
     rel: RelId,
     by: &Formula,
     rest: Formula,
-) -> Result<Measured, Refused<FormulaLimit>>
+) -> Result<Counted, Refused<FormulaLimit>>
     requires primitive { FitsPrimitive (symbols model.now.signature) (set_rel rel.0 (form by.now)) }
     requires rest { FitsForm (symbols model.now.signature) [] (form rest) }
     ensures back { IfOk result
-        (λ m. Measures m
-        (changed_form (change_rel rel.0 (form by.now)) 0 (where_lawful_of model.now.axioms (form rest)))) }
+        (λ c. form c.formula
+        ≡ changed_form (change_rel rel.0 (form by.now)) 0 (where_lawful_of model.now.axioms (form rest))) }
     ensures limit { IfErr result
         (Because (λ _. IsTrue
         (is_too_large
@@ -139,8 +139,8 @@ fn before_set_rel(
     fol_subst::conditions();
     let axioms = model.axioms();
     let within = where_lawful(alloc, axioms, rest)?;
-    let replaced = replace_rel(alloc, &within, rel, by)?;
-    Measured::of(replaced)
+    let replaced = replace_rel_counted(alloc, &within, rel, by)?;
+    Ok(replaced)
 }
 
 fn before_set_fun(
@@ -149,12 +149,12 @@ fn before_set_fun(
     fun: FunId,
     by: &Term,
     rest: Formula,
-) -> Result<Measured, Refused<FormulaLimit>>
+) -> Result<Counted, Refused<FormulaLimit>>
     requires primitive { FitsPrimitive (symbols model.now.signature) (set_fun fun.0 (term by.now)) }
     requires rest { FitsForm (symbols model.now.signature) [] (form rest) }
     ensures back { IfOk result
-        (λ m. Measures m
-        (changed_form (change_fun fun.0 (term by.now)) 0 (where_lawful_of model.now.axioms (form rest)))) }
+        (λ c. form c.formula
+        ≡ changed_form (change_fun fun.0 (term by.now)) 0 (where_lawful_of model.now.axioms (form rest))) }
     ensures limit { IfErr result
         (Because (λ _. IsTrue
         (is_too_large
@@ -163,38 +163,35 @@ fn before_set_fun(
     fol_subst::conditions();
     let axioms = model.axioms();
     let within = where_lawful(alloc, axioms, rest)?;
-    let replaced = replace_fun(alloc, &within, fun, by)?;
-    Measured::of(replaced)
+    let replaced = replace_fun_counted(alloc, &within, fun, by)?;
+    Ok(replaced)
 }
 
-// A bound variable is as large as the program variable that it replaces, so nothing is counted again.
 fn before_havoc(
     alloc: Global,
     model: &Model,
     variable: FunId,
-    rest: Measured,
-) -> Result<Measured, Refused<FormulaLimit>>
+    rest: Formula,
+) -> Result<Counted, Refused<FormulaLimit>>
     requires primitive { FitsPrimitive (symbols model.now.signature) (havoc variable.0) }
-    requires rest { FitsForm (symbols model.now.signature) [] (form rest.formula) }
-    requires counted { Measures rest (form rest.formula) }
+    requires rest { FitsForm (symbols model.now.signature) [] (form rest) }
     ensures back { IfOk result
-        (λ m. Measures m
-        (back_of (symbols model.now.signature) model.now.axioms (havoc variable.0) (form rest.formula))) }
+        (λ c. form c.formula
+        ≡ back_of (symbols model.now.signature) model.now.axioms (havoc variable.0) (form rest)) }
     ensures limit { IfErr result
         (Because (λ _. IsTrue
-        (is_too_large
-        (back_of (symbols model.now.signature) model.now.axioms (havoc variable.0) (form rest.formula))))) }
+        (is_too_large (back_of (symbols model.now.signature) model.now.axioms (havoc variable.0) (form rest))))) }
 {
     fol_subst::conditions();
     fol_formula::indices();
     let axioms = model.axioms();
-    let lawful = all_of(alloc, axioms)?;
-    let nodes = lawful.nodes().saturating_add(rest.nodes).saturating_add(2);
-    let depth = lawful.depth().max(rest.depth).saturating_add(2);
-    let within = implies(alloc, lawful, rest.formula)?;
-    let replaced = replace_const(alloc, &within, variable, 0)?;
-    let all = for_each(alloc, model.signature().into_of(variable), replaced)?;
-    Measured::new(all, nodes, depth)
+    let within = where_lawful(alloc, axioms, rest)?;
+    let replaced = replace_const_counted(alloc, &within, variable, 0)?;
+    let nodes = replaced.nodes.saturating_add(1);
+    let depth = replaced.depth.saturating_add(1);
+    let all = for_each(alloc, model.signature().into_of(variable), replaced.formula)?;
+    let counted = with_size(all, nodes, depth)?;
+    Ok(counted)
 }
 
 fn for_each(alloc: Global, sort: Sort, body: Formula) -> Mem<Formula>
