@@ -1,15 +1,13 @@
 -- How a search begins.
-use Rattle.std.proofs.Common.{◌≡◌, ℕ, zero, suc, ◌+◌, ◌^◌, ◌<◌, ◌≤◌, ◌⊎◌, Bool, true, false, List, [], ◌∷◌, ◌++◌}
+use Rattle.std.proofs.Common.{◌≡◌, ℕ, zero, suc, ◌+◌, ◌^◌, ◌<◌, Bool, true, false, List, [], ◌∷◌, ◌++◌}
 use Rattle.std.proofs.Common.{length, get_or, replicate, refl, arith, ap, sym, subst, ◌∙◌, inl, inr, Some}
 use Rattle.std.proofs.lemmas.Grind.{common_steps}
-use Rattle.std.proofs.lemmas.Bool.{cases_lt}
 use Rattle.std.specs.List.{All}
 use Rattle.cnf_base.specs.declared.cnf.Entry.{Entry}
 use Rattle.cnf_base.specs.declared.cnf.Entry.TheVariants.{Clause, True}
-use Rattle.cnf_base.specs.Literals.{opposite, member, variable_of}
+use Rattle.cnf_base.specs.Literals.{opposite, member}
 use Rattle.cdcl.specs.declared.trail.Step.{Step}
 use Rattle.cdcl_tables.specs.declared.watches.Pair.{Pair}
-use Rattle.cdcl_tables.specs.declared.watches.Watch.{Watch}
 use Rattle.cdcl.specs.declared.state.State.{State}
 use Rattle.cdcl.specs.TrailValue.{TrailValue}
 use Rattle.cdcl.specs.Trail.{reason_at, IsTrail, IsConflict, was_set, is_set}

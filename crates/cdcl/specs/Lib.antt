@@ -15,4 +15,5 @@ pub mod Found
 pub mod Loading
 pub mod Logged
 pub mod Answered
+pub mod Turns
 pub mod Learning

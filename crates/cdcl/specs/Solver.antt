@@ -1,5 +1,5 @@
 -- What holds of a search, and what going back does.
-use Rattle.std.specs.Prelude.{ℕ, ◌<◌, ◌≤◌, ◌≡◌, ◌≢◌, false, List, length, get_or, take}
+use Rattle.std.specs.Prelude.{ℕ, ◌<◌, ◌≤◌, ◌≡◌, ◌≢◌, false, length, get_or, take}
 use Rattle.cdcl.specs.declared.search.Search.{Search}
 use Rattle.cdcl.specs.Trail.{reason_at, IsConflict}
 use Rattle.cdcl.specs.State.{held_in, IsState}

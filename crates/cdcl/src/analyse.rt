@@ -40,14 +40,13 @@ pub struct Analysis {
     pub decisions_only: bool,
 }
 
-/// A marked literal on the way down the trail: its place, how many of the marked literals were set at the top level,
-/// how many learnt ones were, and whether its reason's other literals are marked already.
+/// A marked literal on the way down the trail: its place, how many of the marked literals were set at the top level, and
+/// how many learnt ones were.
 #[derive(Clone, Copy)]
 pub struct Met {
     pub place: usize,
     pub open: usize,
     pub tops: usize,
-    pub is_implied: bool,
 }
 
 fn is_left_out(except: &Option<Lit>, l: Lit) -> bool
@@ -117,33 +116,18 @@ fn is_implied(marks: &[bool], clause: &[Lit], except: Lit, trail: &Trail, root: 
     true
 }
 
-/// Whether the reason's other literals are marked already, or set at level 0, for a literal below the top level.
-fn is_reason_implied(
+/// Whether a marked literal is learnt and not resolved: always where it was decided.
+fn is_kept(
     clauses: &Clauses,
     trail: &Trail,
     marks: &[bool],
-    levels: Levels,
-    t: usize,
     step: &Step,
+    met: Met,
+    analysis: Analysis,
 ) -> bool
     requires tables { IsHolding clauses.now trail.now }
     requires held { (step.now.reason ≡ 0) ⊎ ((c : List ℕ) × (held_by clauses.now step.now.reason ≡ Some (Clause c))) }
     requires size { length marks.now ≡ trail.now.size }
-{
-    if step.reason == 0 || t >= levels.top {
-        return false;
-    }
-    is_implied(
-        marks,
-        clauses.clause(step.reason),
-        step.literal,
-        trail,
-        levels.root,
-    )
-}
-
-/// Whether a marked literal is learnt and not resolved: always where it was decided.
-fn is_kept(step: &Step, met: Met, analysis: Analysis) -> bool
     ensures decision { step.now.reason ≡ 0 → result ≡ true }
     ensures root { step.now.reason ≢ 0 → met.place < analysis.levels.top → met.place < analysis.levels.root
         → result ≡ false }
@@ -152,12 +136,16 @@ fn is_kept(step: &Step, met: Met, analysis: Analysis) -> bool
 {
     let levels = analysis.levels;
     if step.reason == 0 {
-        true
-    } else if met.place >= levels.top {
-        !analysis.decisions_only && met.open == 1 && met.tops == 0
-    } else {
-        met.place >= levels.root && !met.is_implied
+        return true;
     }
+    if met.place >= levels.top {
+        return !analysis.decisions_only && met.open == 1 && met.tops == 0;
+    }
+    if met.place < levels.root {
+        return false;
+    }
+    let reason = clauses.clause(step.reason);
+    !is_implied(marks, reason, step.literal, trail, levels.root)
 }
 
 /// A variable that was set above level 0 is met.
@@ -232,8 +220,7 @@ fn analyse(
     let levels = analysis.levels;
     let mut found = Vec::new(alloc);
     let mut hints = Vec::new(alloc);
-    let mut tops = 0;
-    let mut second = 0;
+    let (mut tops, mut second) = (0, 0);
     hints.push(analysis.conflict as u64)?;
     let clause = clauses.clause(analysis.conflict);
     let mut open = mark_clause(marks, clause, None, trail, levels.top);
@@ -244,14 +231,12 @@ fn analyse(
         if marks[step.literal.code() as usize] {
             unmark(marks, step.literal);
             meet(order, step.literal, t, levels.root);
-            let is_implied = is_reason_implied(clauses, trail, marks, levels, t, &step);
             let met = Met {
                 place: t,
                 open,
                 tops,
-                is_implied,
             };
-            let kept = is_kept(&step, met, analysis);
+            let kept = is_kept(clauses, trail, marks, &step, met, analysis);
             open = less_open(open, t, levels.top);
             if kept {
                 tops = count_tops(tops, t, levels.top);

@@ -1,4 +1,6 @@
-// The solver.
+// The main loop: down to a conflict, then one learnt clause, as often as the budget allows. What is learnt is handed over
+// at once and held by the search alone, so a log is never in memory twice; and each answer is proved by what was handed
+// over, whatever the search did.
 ghost use Rattle.std.specs.Prelude.{List, ◌≡◌, ◌+◌, ◌-◌, ◌<◌, ◌≤◌, [], length, IfOk, OnOk, OnErr, reverse};
 ghost use Rattle.cnf_base.specs.declared.cnf.Entry.{Entry};
 ghost use Rattle.cnf_base.specs.Formulas.{IsModel};
@@ -13,7 +15,8 @@ ghost use Rattle.cdcl.specs.Trail.{IsConflict};
 ghost use Rattle.cdcl.specs.State.{held_in};
 ghost use Rattle.cdcl.specs.Assigned.{AreAllSet};
 ghost use Rattle.cdcl.specs.Logged.{IsLogged};
-ghost use Rattle.cdcl.specs.Answered.{IsAnswer, IsTurn};
+ghost use Rattle.cdcl.specs.Answered.{IsAnswer};
+ghost use Rattle.cdcl.specs.Turns.{IsTurn};
 
 use crate::analyse::Learnt;
 use crate::load::{Loaded, load};

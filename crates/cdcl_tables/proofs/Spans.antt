@@ -1,5 +1,5 @@
 -- Clauses in one list of literals, one more of them, and one more entry.
-use Rattle.std.proofs.Common.{◌≡◌, ℕ, zero, suc, ◌+◌, ◌-◌, ◌<◌, ◌≤◌, not, Bool, true, false, List, [], ◌∷◌, ◌++◌}
+use Rattle.std.proofs.Common.{◌≡◌, ℕ, zero, suc, ◌+◌, ◌-◌, ◌<◌, ◌≤◌, Bool, false, List, [], ◌∷◌, ◌++◌}
 use Rattle.std.proofs.Common.{length, get_or, slice_get, map, slice_range, refl, arith, ap, sym, ◌∙◌, Some, None, cond}
 use Rattle.std.proofs.Common.{eqb, if◌then◌else◌}
 use Rattle.std.proofs.lemmas.Grind.{common_steps}

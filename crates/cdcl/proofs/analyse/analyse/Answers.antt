@@ -171,8 +171,8 @@ returns-clause-below c =
     (reverse c.loop-t.hints.items)
     (rw zero_is at c.loop-t.invariant.walk)
 
-pub is_reason_implied-is_implied-requires-clause-held : goal.is_reason_implied-is_implied-requires-clause-held
-is_reason_implied-is_implied-requires-clause-held c =
+pub is_kept-kept-requires-clause-held : goal.is_kept-kept-requires-clause-held
+is_kept-kept-requires-clause-held c =
     let within : c.loop-t.t - 1 < length c.args.trail.now.steps =
     (let h = c.loop-t.invariant.within in let g = c.loop-t-test.true in omega arith) in
     let why : c.step-step.result.reason ≡ reason_at c.args.trail.now.steps (c.loop-t.t - 1) =

@@ -1,4 +1,3 @@
-use Rattle.std.proofs.Common.{List}
 use Rattle.cdcl.specs.Trail.{is_set}
 use Rattle.cdcl.proofs.Members.{open_behind, found_before}
 use Rattle.cdcl.proofs.propagate.open_literal.Goals as goal

@@ -1,4 +1,4 @@
-use Rattle.std.proofs.Common.{◌≡◌, ℕ, ◌<◌, arith, sym, subst, ◌∙◌}
+use Rattle.std.proofs.Common.{arith, ◌∙◌}
 use Rattle.renumbering.proofs.Numbers.{rising_at, rising_few}
 use Rattle.renumbering.proofs.Lists.{still_false, spread_more}
 use Rattle.renumbering.proofs.back.spread.Goals as goal
