@@ -16,7 +16,8 @@ use Rattle.obligation_decide.specs.declared.decision.Measured.TheVariants.{Withi
 abbrev pub IsSentenceMeasured : Ceilings → ModelTree → FormTree → Measured → Type 0
 IsSentenceMeasured limits m p (Within size) =
     Passes limits m.signature p None × HasSize m.signature p size × (size ≤ limits.size)
-IsSentenceMeasured limits m p (Over c) = (passed : Passed) × (c ≡ cause_of passed) × Passes limits m.signature p (Some passed)
+IsSentenceMeasured limits m p (Over c) =
+    (passed : Passed) × (c ≡ cause_of passed) × Passes limits m.signature p (Some passed)
 
 -- No limit is passed, and the ground formulas of the refuting sentence with these sentences are of this size, within
 -- its limit; or this limit is passed first.
