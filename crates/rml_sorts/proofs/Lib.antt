@@ -11,3 +11,4 @@ pub mod Whole
 pub mod Standing
 pub mod Stays
 pub mod ItemLists
+pub mod Ordered

@@ -12,7 +12,7 @@ use Rattle.rml_command.specs.Models.{ModelTree}
 use Rattle.rml_command.specs.declared.places.Places.{Places}
 use Rattle.rml_sort_check.specs.declared.wanted.Wanted.TheVariants.{Formula}
 use Rattle.rml_names.specs.Growth.{empty_model, with_function}
-use Rattle.rml_names.specs.Meanings.{bytes_of, is_among, name_count, is_symbol, sort_by_name, sort_number}
+use Rattle.rml_names.specs.Meanings.{bytes_of, is_among, max_names, name_count, is_symbol, sort_by_name, sort_number}
 use Rattle.rml_sort_check.specs.Demands.{Demand, asks, first_fault, demands, block_demands}
 use Rattle.rml_elaborate.specs.Formulas.{formula_of}
 use Rattle.rml_elaborate.specs.Quantifiers.{quantifiers_in}
@@ -32,10 +32,14 @@ no_items = record {
   has_last = false;
 }
 
--- a declared name: its kind does not have it already, and there are fewer than 1,000 names
+-- how many arguments a symbol may have
+abbrev pub max_arguments : ℕ
+max_arguments = 8
+
+-- a declared name: its kind does not have it already, and there are fewer names than there may be
 abbrev pub declares : ModelTree → Bool → Name → List Demand
 declares m taken name = asks name.start fault_code.DeclaredTwice (not taken)
-    ∷ asks name.start fault_code.TooManyNames (nat_lt (name_count m.names) 1000) ∷ []
+    ∷ asks name.start fault_code.TooManyNames (nat_lt (name_count m.names) max_names) ∷ []
 
 -- `init` or `final`: it does not stand a second time
 abbrev pub stands_once : ℕ → Bool → List Demand
@@ -47,10 +51,11 @@ module _ (text : List ℕ) where
   abbrev pub sort_known : ModelTree → Name → Demand
   sort_known m sort = asks sort.start fault_code.UnknownName (is_some (sort_by_name text m sort))
 
-  -- argument sorts, the first of them as the i-th: known, and at most 8
+  -- argument sorts, the first of them as the i-th: known, and no more than there may be
   abbrev pub sort_demands : ModelTree → ℕ → List Name → List Demand
   sort_demands m i [] = []
-  sort_demands m i (sort ∷ sorts) = sort_known m sort ∷ asks sort.start fault_code.WrongArgumentCount (nat_lt i 8)
+  sort_demands m i (sort ∷ sorts) =
+      sort_known m sort ∷ asks sort.start fault_code.WrongArgumentCount (nat_lt i max_arguments)
       ∷ sort_demands m (suc i) sorts
 
   abbrev pub declares_symbol : ModelTree → Name → List Demand

@@ -1,4 +1,4 @@
-// Items: each is judged, and added to the draft.
+// Items: each is judged in the model of those before it, and added to the draft.
 ghost use Rattle.std.specs.Prelude.{◌≡◌, ℕ, List, ◌++◌, ◌∷◌, ◌<◌, [], None, length, map, IfOk};
 ghost use Rattle.fol_sig.specs.Tables.{AreSorts};
 ghost use Rattle.rml_syntax.specs.Tree.{expr_tree, command_trees, item_tree, block_of};
@@ -25,10 +25,13 @@ use fol_sig::{Sort, Sorts};
 use rml_command::{Command, Condition};
 use rml_elaborate::{add_block_quantifiers, add_quantifiers};
 use rml_lex::{Fault, FaultCode};
-use rml_names::{ModelDraft, bytes};
+use rml_names::{MAX_NAMES, ModelDraft, bytes};
 use rml_syntax as syntax;
 use rml_syntax::{Expr, Item, Name};
 use std::alloc::Global;
+
+// How many arguments a symbol may have.
+const MAX_ARGUMENTS: usize = 8;
 
 // A draft, and which of the blocks that may stand once it has.
 #[derive(Drop)]
@@ -38,7 +41,7 @@ pub struct Progress {
     pub has_last: bool,
 }
 
-// A declared name: it is new, and there are fewer than 1,000.
+// A declared name: it is new, and there is room for it.
 fn declaration_fault(draft: &ModelDraft, taken: bool, name: Name) -> Option<Fault>
     requires { IsSound (model_in draft.now) }
     ensures { result ≡ first_fault (declares (model_in draft.now) taken name) }
@@ -49,7 +52,7 @@ fn declaration_fault(draft: &ModelDraft, taken: bool, name: Name) -> Option<Faul
             at: name.start,
         });
     }
-    if draft.name_count() >= 1000 {
+    if draft.name_count() >= MAX_NAMES {
         return Some(Fault {
             code: FaultCode::TooManyNames,
             at: name.start,
@@ -108,7 +111,7 @@ fn argument_sorts(
     let mut sorts = Sorts::new(alloc);
     for name in names {
         let sort = known_sort(text, draft, *name)?;
-        if sorts.as_slice().len() >= 8 {
+        if sorts.as_slice().len() >= MAX_ARGUMENTS {
             return Err(Refused::For(Fault {
                 code: FaultCode::WrongArgumentCount,
                 at: name.start,

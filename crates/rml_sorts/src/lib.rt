@@ -8,5 +8,5 @@ mod sentences;
 mod update_commands;
 mod whole_tree;
 
-pub use laws::{fault_law, model_law, place_law};
+pub use laws::{fault_law, model_law, order_law, place_law};
 pub use whole_tree::resolve;

@@ -1,4 +1,5 @@
-// A whole tree.
+// A whole tree: its items are read from the first to the last, each in the model of those before it, and the first
+// fault ends the reading. So a name is known behind its declaration alone.
 ghost use Rattle.std.specs.Prelude.{◌≡◌, length, None, Some, IfOk, OnOk, IfErr};
 ghost use Rattle.base.specs.Because.{Because};
 ghost use Rattle.rml_lex.specs.Tokens.{StandsBy};
@@ -21,6 +22,7 @@ use rml_syntax::{Item, Tree};
 use std::alloc::Global;
 
 impl Progress {
+    // Before the first item.
     fn new(alloc: Global) -> Self
         ensures { draft_of result ≡ no_items }
     {
@@ -32,6 +34,7 @@ impl Progress {
     }
 }
 
+// The draft of all items.
 fn read_items(alloc: Global, text: &[u8], items: &[Item]) -> Result<ModelDraft, Refused<Fault>>
     requires within { TreeWithin (length text.now) (item_trees items.now) }
     requires shape { IsShaped (item_trees items.now) }
@@ -46,8 +49,8 @@ fn read_items(alloc: Global, text: &[u8], items: &[Item]) -> Result<ModelDraft, 
     Ok(progress.draft)
 }
 
-/// The model of a tree, or the fault of its names and sorts, at the first place that breaks a
-/// rule of the language in the order of reading.
+/// The model of a tree, or the fault of its names and sorts: of the demands that are not met, the first in the order of
+/// reading.
 pub fn resolve(alloc: Global, text: &[u8], tree: &Tree) -> Result<Model, Refused<Fault>>
     requires within { TreeWithin (length text.now) (file_tree tree.now) }
     requires shape { IsShaped (file_tree tree.now) }

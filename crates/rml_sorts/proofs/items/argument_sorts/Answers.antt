@@ -21,7 +21,7 @@ loop-name-preserved c =
     let new = c.push.new.self in
     let k = c.in_ok-sort.sort.0 in
     let below : length old < 8 =
-    omega (arith, c.if-as_slice-ge8.false, as_many c.as_slice.result.now old c.as_slice.ensures.value) in
+    omega (arith, c.if-as_slice-ge-MAX_ARGUMENTS.false, as_many c.as_slice.result.now old c.as_slice.ensures.value) in
     let longer : length new ≡ length old + 1 = omega (arith, ap length c.push.ensures, length-append old (k ∷ [])) in
     let next : length new ≡ suc (length old) = omega (arith, longer) in
     let few : nat_lt (length old) 8 ≡ true = grind (arith, nat_tests, below) in
