@@ -2,8 +2,14 @@
 ghost use Rattle.std.specs.Prelude.{◌≡◌};
 ghost use Rattle.fol_subst.specs.Extents.{beside, over, under, put_in, is_over, extent};
 
+/// How many nodes a formula may have.
+pub const MOST_NODES: u64 = 1_000_000;
+
+/// How deep a formula may be.
+pub const MOST_DEPTH: u64 = 1000;
+
 // Above both limits: there the counts stop.
-const CAP: u64 = 1_000_001;
+const CAP: u64 = MOST_NODES + 1;
 
 #[derive(Clone, Copy)]
 pub struct Extent {
@@ -78,6 +84,6 @@ impl Extent {
     pub fn is_over(self) -> bool
         ensures { result ≡ is_over self }
     {
-        self.count > 1_000_000 || self.depth > 1000
+        self.count > MOST_NODES || self.depth > MOST_DEPTH
     }
 }

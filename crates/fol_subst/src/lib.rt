@@ -24,6 +24,7 @@ use base::Refused;
 use change::change_formula;
 pub use counted::Counted;
 use extent::Extent;
+pub use extent::{MOST_DEPTH, MOST_NODES};
 use fol_formula::{Formula, Term};
 use fol_sig::{FunId, RelId};
 use indices::{Shift, copy_formula};
@@ -36,25 +37,9 @@ use std::alloc::Global;
 #[derive(Clone, Copy, PartialEq, Eq, Debug)]
 pub struct FormulaLimit;
 
-/// The formula with `by` in the place of the relation. The indices that `by` does not bind are the
-/// relation's parameters, the last one 0.
+/// The formula with `by` in the place of the relation, with its size. The indices that `by` does not bind
+/// are the relation's parameters, the last one 0.
 pub fn replace_rel(
-    alloc: Global,
-    within: &Formula,
-    rel: RelId,
-    by: &Formula,
-) -> Result<Formula, Refused<FormulaLimit>>
-    requires { CanReplace (form within.now) (change_rel rel.0 (form by.now)) }
-    ensures replaced { IfOk result (λ f. IsReplacement (form within.now) (change_rel rel.0 (form by.now)) (form f)) }
-    ensures limit { IfErr result
-        (Because (λ _. IsTrue (is_too_large (changed_form (change_rel rel.0 (form by.now)) 0 (form within.now))))) }
-{
-    let counted = replace(alloc, within, &Replacement::Rel(rel, &*by))?;
-    Ok(counted.formula)
-}
-
-/// As `replace_rel`, with the size of the result, which is not counted again.
-pub fn replace_rel_counted(
     alloc: Global,
     within: &Formula,
     rel: RelId,
@@ -70,27 +55,9 @@ pub fn replace_rel_counted(
     Ok(counted)
 }
 
-/// The formula with `by` in the place of the function. The indices that `by` does not bind are the
-/// function's parameters, the last one 0.
+/// The formula with `by` in the place of the function, with its size. The indices that `by` does not bind
+/// are the function's parameters, the last one 0.
 pub fn replace_fun(
-    alloc: Global,
-    within: &Formula,
-    fun: FunId,
-    by: &Term,
-) -> Result<Formula, Refused<FormulaLimit>>
-    requires { CanReplace (form within.now) (change_fun fun.0 (term_view by.now)) }
-    ensures replaced { IfOk result
-        (λ f. IsReplacement (form within.now) (change_fun fun.0 (term_view by.now)) (form f)) }
-    ensures limit { IfErr result
-        (Because (λ _. IsTrue
-        (is_too_large (changed_form (change_fun fun.0 (term_view by.now)) 0 (form within.now))))) }
-{
-    let counted = replace(alloc, within, &Replacement::Fun(fun, &*by))?;
-    Ok(counted.formula)
-}
-
-/// As `replace_fun`, with the size of the result, which is not counted again.
-pub fn replace_fun_counted(
     alloc: Global,
     within: &Formula,
     fun: FunId,
@@ -108,24 +75,8 @@ pub fn replace_fun_counted(
 }
 
 /// The formula with the bound variable that has this index outside of it in the place of the program
-/// variable `fun`.
+/// variable `fun`, with its size.
 pub fn replace_const(
-    alloc: Global,
-    within: &Formula,
-    fun: FunId,
-    index: u32,
-) -> Result<Formula, Refused<FormulaLimit>>
-    requires { CanReplace (form within.now) (change_const fun.0 index) }
-    ensures replaced { IfOk result (λ f. IsReplacement (form within.now) (change_const fun.0 index) (form f)) }
-    ensures limit { IfErr result
-        (Because (λ _. IsTrue (is_too_large (changed_form (change_const fun.0 index) 0 (form within.now))))) }
-{
-    let counted = replace(alloc, within, &Replacement::Const(fun, index))?;
-    Ok(counted.formula)
-}
-
-/// As `replace_const`, with the size of the result, which is not counted again.
-pub fn replace_const_counted(
     alloc: Global,
     within: &Formula,
     fun: FunId,

@@ -54,6 +54,7 @@ fn check_blocks(alloc: Global, model: Model, strata: Strata) -> Result<Checked, 
     }
 }
 
+// The paths of the blocks are listed, and all is known.
 fn with_paths(alloc: Global, model: Model, strata: Strata) -> Mem<Checked>
     requires checked { IsChecked model }
     requires strata { IsStrata (symbols model.signature) strata }
@@ -79,6 +80,7 @@ struct BlockPaths {
     last: Paths,
 }
 
+// The paths of each block.
 fn block_lists(alloc: Global, model: &Model) -> Mem<BlockPaths>
     requires { EachBlock HasFewPaths model.now }
     ensures init { IfOk result (λ l. l.init ≡ paths_of model.now.init) }
@@ -95,6 +97,7 @@ fn block_lists(alloc: Global, model: &Model) -> Mem<BlockPaths>
     })
 }
 
+// The paths of a block that has few.
 fn block_paths(alloc: Global, block: &Command) -> Mem<Paths>
     requires { HasFewPaths (command_view block.now) }
     ensures { IfOk result (λ ps. ps ≡ paths_of (command_view block.now)) }
@@ -106,6 +109,7 @@ fn block_paths(alloc: Global, block: &Command) -> Mem<Paths>
     }
 }
 
+// The paths of each action.
 fn action_paths(alloc: Global, actions: &[Command]) -> Mem<Row<Paths>>
     requires { AllByRecursion HasFewPaths (map command_view actions.now) }
     ensures { IfOk result (λ all. all ≡ map paths_of (map command_view actions.now)) }

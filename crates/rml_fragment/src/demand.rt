@@ -1,4 +1,5 @@
-// What a sentence of a text must be.
+// What a sentence of a text must be. The word before it decides, since the same sentence is assumed by one command and
+// has its negation assumed by another.
 ghost use Rattle.std.specs.Prelude.{◌≡◌, ◌↔◌, IsTrue};
 ghost use Rattle.rml_fragment.specs.Demands.{Meets, code_of, demand_of};
 
@@ -42,6 +43,7 @@ impl Demand {
         }
     }
 
+    /// Whether a sentence is so.
     pub fn is_met(self, sentence: &Sentence) -> bool
         ensures { IsTrue result ↔ Meets self sentence.now }
     {

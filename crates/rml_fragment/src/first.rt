@@ -27,6 +27,7 @@ pub fn first_with(fault: Fault, other: Option<Fault>) -> Fault
     }
 }
 
+// The earlier of two faults.
 fn earlier_of(first: Fault, other: Fault) -> Fault
     ensures { result ≡ earlier_of first other }
 {

@@ -1,4 +1,5 @@
-// Where a model leaves the fragment.
+// Where a model leaves the fragment. Each rule gives its own first fault, and the first of these is the model's: so no
+// rule need know where the others look, and the order of the text decides between them.
 ghost use Rattle.std.specs.Prelude.{◌≡◌, IfOk, IfErr, OnOk};
 ghost use Rattle.base.specs.Because.{Because};
 ghost use Rattle.fol_sig.specs.Symbols.{symbols};
@@ -109,6 +110,7 @@ fn fault_at(condition: &Condition) -> Option<Fault>
     )
 }
 
+// The first fault of a condition.
 fn condition_fault(conditions: &[Condition]) -> Option<Fault>
     ensures { IsFirstOf (ConditionMisses conditions.now) result }
 {
@@ -119,6 +121,7 @@ fn condition_fault(conditions: &[Condition]) -> Option<Fault>
     first
 }
 
+// The first of the quantifiers that may not stand where they do.
 fn quantifier_fault(places: &[u64]) -> Option<Fault>
     ensures { IsFirstOf (QuantifierStands places.now) result }
 {

@@ -1,4 +1,5 @@
-// What follows from the definitions alone. The function is its contract, and does nothing.
+// What follows from the definitions alone. Each function is its contract: it only calls the laws of the crates below
+// that its proof takes.
 ghost use Rattle.rml_fragment.specs.Laws.{FaultsAreExact, FaultsStandInText, PassedIsChecked};
 
 /// A model has one fault or none, and has none exactly where it can be checked.

@@ -21,12 +21,14 @@ pub fn long_block_fault(model: &Model) -> Option<Fault>
     earlier(init, others)
 }
 
+// The fault of one block.
 fn block_fault(block: &Command, at: u64) -> Option<Fault>
     ensures { IsFirstOf (λ f. (f.at ≡ at) × HasManyPaths (command_view block.now) f.code) result }
 {
     fault_unless(has_few_paths(block), FaultCode::TooManyPaths, at)
 }
 
+// The first fault of an action.
 fn action_fault(actions: &[Command], places: &[u64]) -> Option<Fault>
     ensures { IsFirstOf (SomePlaced HasManyPaths (map command_view actions.now) places.now) result }
 {

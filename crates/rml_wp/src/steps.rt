@@ -16,13 +16,10 @@ ghost use Rattle.rml_wp.specs.Preconditions.{back_of, precondition_of, passes_li
 ghost use Rattle.rml_wp.specs.Preconditions.{where_lawful as where_lawful_of};
 ghost use Rattle.rml_wp.specs.Laws.{HasTarget};
 
-use crate::counted::{count, with_size};
 use base::{Mem, Refused};
 use fol_formula::{Formula, Sentence, Term};
 use fol_sig::{FunId, RelId, Sort};
-use fol_subst::{
-    Counted, FormulaLimit, replace_const_counted, replace_fun_counted, replace_rel_counted,
-};
+use fol_subst::{Counted, FormulaLimit, replace_const, replace_fun, replace_rel};
 use rml_command::{About, Model, Path, Primitive};
 use std::alloc::Global;
 
@@ -48,7 +45,7 @@ pub fn along(
     fol_formula::indices();
     let _ = model.signature();
     let target = target(alloc, model, about)?;
-    let mut now = match count(target) {
+    let mut now = match Counted::of(target) {
         Ok(counted) => counted,
         Err(refused) => return Err(refused),
     };
@@ -96,7 +93,7 @@ fn step_back(
         Primitive::SetRel(rel, by) => before_set_rel(alloc, model, *rel, by, rest.formula),
         Primitive::SetFun(fun, by) => before_set_fun(alloc, model, *fun, by, rest.formula),
         Primitive::Havoc(variable) => before_havoc(alloc, model, *variable, rest.formula),
-        Primitive::Abort => count(Formula::False),
+        Primitive::Abort => Counted::of(Formula::False),
     }
 }
 
@@ -115,7 +112,7 @@ fn before_assumption(
         .saturating_add(1);
     let depth = sentence.depth().max(rest.depth).saturating_add(1);
     let implication = implies(alloc, sentence.formula().copy(alloc)?, rest.formula)?;
-    let counted = with_size(implication, nodes, depth)?;
+    let counted = Counted::new(implication, nodes, depth)?;
     Ok(counted)
 }
 
@@ -139,7 +136,7 @@ fn before_set_rel(
     fol_subst::conditions();
     let axioms = model.axioms();
     let within = where_lawful(alloc, axioms, rest)?;
-    let replaced = replace_rel_counted(alloc, &within, rel, by)?;
+    let replaced = replace_rel(alloc, &within, rel, by)?;
     Ok(replaced)
 }
 
@@ -163,7 +160,7 @@ fn before_set_fun(
     fol_subst::conditions();
     let axioms = model.axioms();
     let within = where_lawful(alloc, axioms, rest)?;
-    let replaced = replace_fun_counted(alloc, &within, fun, by)?;
+    let replaced = replace_fun(alloc, &within, fun, by)?;
     Ok(replaced)
 }
 
@@ -186,11 +183,11 @@ fn before_havoc(
     fol_formula::indices();
     let axioms = model.axioms();
     let within = where_lawful(alloc, axioms, rest)?;
-    let replaced = replace_const_counted(alloc, &within, variable, 0)?;
+    let replaced = replace_const(alloc, &within, variable, 0)?;
     let nodes = replaced.nodes.saturating_add(1);
     let depth = replaced.depth.saturating_add(1);
     let all = for_each(alloc, model.signature().into_of(variable), replaced.formula)?;
-    let counted = with_size(all, nodes, depth)?;
+    let counted = Counted::new(all, nodes, depth)?;
     Ok(counted)
 }
 
