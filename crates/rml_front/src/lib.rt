@@ -8,5 +8,5 @@
 mod laws;
 mod reading;
 
-pub use laws::text_law;
+pub use laws::{name_fault_law, text_law};
 pub use reading::read_model;

@@ -14,4 +14,8 @@ returns c =
     let made : IsReport limits m report =
     subst (λ (l : Ceilings). IsReport l m report) c.limits_of-limits.ensures c.in_ok-report.ensures in
     let right : Reports m report = c.report_law.ensures.right limits m report made in
-    record { reports = right; safe = c.report_law-2.ensures m report c.model-model.ensures.checked.model.fits right; now = made }
+    record {
+      reports = right;
+      safe = c.report_law-2.ensures m report c.model-model.ensures.checked.model.fits right;
+      now = made;
+    }
