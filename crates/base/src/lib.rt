@@ -1,5 +1,5 @@
-//! What every crate of the checker shares: a list that contracts see as a list, the two ways in which a call can give no
-//! answer, and the bytes and numbers of a text.
+//! What every crate of the checker shares: a list that contracts see as a list, the two ways in which a call can give
+//! no answer, and the bytes and numbers of a text.
 #![tactic(auto)]
 
 mod refused;

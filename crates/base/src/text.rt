@@ -1,5 +1,5 @@
-// What all readers and writers of texts share: kinds of bytes, and what is added behind a text. A text is a `Vec<u8>`, so
-// that bytes that are no UTF-8, as in a name of a file, need no other way.
+// What all readers and writers of texts share: kinds of bytes, and what is added behind a text. A text is a `Vec<u8>`,
+// since what is read, a model or a formula, may be any bytes.
 ghost use Rattle.std.specs.Prelude.{◌≡◌, ◌++◌, OnOk, OnErr, decimal};
 ghost use Rattle.base.specs.Bytes.{is_digit, is_blank};
 

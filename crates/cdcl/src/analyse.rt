@@ -40,8 +40,8 @@ pub struct Analysis {
     pub decisions_only: bool,
 }
 
-/// A marked literal on the way down the trail: its place, how many of the marked literals were set at the top level, and
-/// how many learnt ones were.
+/// A marked literal on the way down the trail: its place, how many of the marked literals were set at the top level,
+/// and how many learnt ones were.
 #[derive(Clone, Copy)]
 pub struct Met {
     pub place: usize,

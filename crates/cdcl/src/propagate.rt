@@ -1,6 +1,6 @@
 // Unit propagation: sets what the clauses force under the literals that are set. Nearly all of a search's time goes to
-// the visits here, so a visit reads as little as it can: the blocker first, then the other watched literal, and only then
-// the clause, from where the last search in it ended.
+// the visits here, so a visit reads as little as it can: the blocker first, then the other watched literal, and only
+// then the clause, from where the last search in it ended.
 ghost use Rattle.std.specs.Prelude.{◌≡◌, ℕ, ◌+◌, ◌<◌, ◌≤◌, length, All, IfOk, OnOk, MatchOption, IfSome, IfNone, set};
 ghost use Rattle.std.specs.Prelude.{Some};
 ghost use Rattle.cnf_base.specs.Literals.{opposite};

@@ -1,6 +1,5 @@
-// The main loop: down to a conflict, then one learnt clause, as often as the budget allows. What is learnt is handed over
-// at once and held by the search alone, so a log is never in memory twice; and each answer is proved by what was handed
-// over, whatever the search did.
+// The main loop: down to a conflict, then one learnt clause, as often as the budget allows. What is learnt is handed
+// over at once, so a log need not be kept; and each answer is proved by what was handed over, whatever the search did.
 ghost use Rattle.std.specs.Prelude.{List, ◌≡◌, ◌+◌, ◌-◌, ◌<◌, ◌≤◌, [], length, IfOk, OnOk, OnErr, reverse};
 ghost use Rattle.cnf_base.specs.declared.cnf.Entry.{Entry};
 ghost use Rattle.cnf_base.specs.Formulas.{IsModel};

@@ -1,5 +1,5 @@
-// Solving, also where the numbers of the variables are sparse: the search then runs over the variables 1, 2, .., and its
-// log is handed over under the names when it is whole. So memory goes by the literals of the formula and the log.
+// Solving, also where the numbers of the variables are sparse: the search then runs over the variables 1, 2, .., and
+// its log is handed over under the names when it is whole. So memory goes by the literals of the formula and the log.
 ghost use Rattle.std.specs.Prelude.{◌≡◌, ◌+◌, ◌≤◌, [], length, IfOk};
 ghost use Rattle.lrat_log.specs.Accepted.{IsAccepted};
 ghost use Rattle.lrat_log.specs.Logs.{IsLogOver};

@@ -1,5 +1,5 @@
-// What propagation works on: the clauses, what is set, and which literals watch. It stands apart from the levels and the
-// order of decisions, so that what a visit of a watch keeps is said without them.
+// What propagation works on: the clauses, what is set, and which literals watch. It stands apart from the levels and
+// the order of decisions, so that what a visit of a watch keeps is said without them.
 use crate::pairing::watch;
 use crate::trail::Trail;
 use base::Mem;

@@ -1,6 +1,6 @@
 // The clauses that are held, one after another in one list of literals, so that a clause is read in one piece. Beside
-// each stands a position, at which the next search for another literal to watch begins: begun at the front each time, it
-// would read the same false literals again and again (Gent, "Optimal Implementation of Watched Literals in
+// each stands a position, at which the next search for another literal to watch begins: begun at the front each time,
+// it would read the same false literals again and again (Gent, "Optimal Implementation of Watched Literals in
 // Conflict-Driven Clause Learning", 2013). A position carries no facts.
 ghost use Rattle.std.specs.Prelude.{List, ◌≡◌, ℕ, ◌+◌, ◌<◌, ◌≤◌, [], ◌∷◌, ◌++◌, length, OnOk, Some};
 ghost use Rattle.cnf_base.specs.declared.cnf.Entry.TheVariants.{Clause, True};

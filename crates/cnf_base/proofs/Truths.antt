@@ -46,7 +46,10 @@ not_among (t ∷ ts) x h =
 above_last : (most last : ℕ) (ts : List ℕ) (k : ℕ) → AreRising most last ts → k < length ts → last < get_or ts k 0
 above_last most last [] k r h = absurd (omega arith)
 above_last most last (t ∷ ts) zero r h = r.0
-above_last most last (t ∷ ts) (suc k) r h = let a = r.0 in let b = above_last most t ts k r.2 (omega arith) in omega arith
+above_last most last (t ∷ ts) (suc k) r h =
+    let a = r.0 in
+    let b = above_last most t ts k r.2 (omega arith) in
+    omega arith
 
 in_order : (most last : ℕ) (ts : List ℕ) (i j : ℕ) → AreRising most last ts → i ≤ j → j < length ts
     → get_or ts i 0 ≤ get_or ts j 0
@@ -131,10 +134,12 @@ module _ (n : ℕ) (ts : List ℕ) (x : ℕ) (some : 0 < x) (few : x ≤ n) wher
       → value_of (values_from 1 n (ts ++ x ∷ [])) v ≡ (eqb v x || value_of (values_from 1 n ts) v)
   one_more v p = at (cases_lt n v)
     where
-      at : (n < v) ⊎ (v ≤ n) → value_of (values_from 1 n (ts ++ x ∷ [])) v ≡ (eqb v x || value_of (values_from 1 n ts) v)
+      at : (n < v) ⊎ (v ≤ n)
+          → value_of (values_from 1 n (ts ++ x ∷ [])) v ≡ (eqb v x || value_of (values_from 1 n ts) v)
       at (inl q) =
           let e : eqb v x ≡ false = ne_eqb v x (λ k. omega arith) in
-          beyond n (ts ++ x ∷ []) v q ∙ sym (ap (λ (b : Bool). eqb v x || b) (beyond n ts v q) ∙ ap (λ (b : Bool). b || false) e)
+          beyond n (ts ++ x ∷ []) v q
+          ∙ sym (ap (λ (b : Bool). eqb v x || b) (beyond n ts v q) ∙ ap (λ (b : Bool). b || false) e)
       at (inr q) =
           value_at n (ts ++ x ∷ []) v p q ∙ member_more ts x v
           ∙ ap (λ (b : Bool). eqb v x || b) (sym (value_at n ts v p q))

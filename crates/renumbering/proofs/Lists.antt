@@ -1,5 +1,6 @@
 -- Lists that are made one by one, and truth values under names.
-use Rattle.std.proofs.Common.{◌≡◌, ℕ, zero, suc, ◌+◌, ◌-◌, ◌<◌, ◌≤◌, ◌⊎◌, eqb, Bool, true, false, not, if◌then◌else◌, List}
+use Rattle.std.proofs.Common.{◌≡◌, ℕ, zero, suc, ◌+◌, ◌-◌, ◌<◌, ◌≤◌, ◌⊎◌, eqb, Bool, true, false, not, if◌then◌else◌}
+use Rattle.std.proofs.Common.{List}
 use Rattle.std.proofs.Common.{[], ◌∷◌, ◌++◌, length, get_or, take, map, slice_get, refl, arith, ap, sym, subst}
 use Rattle.std.proofs.Common.{◌∙◌, Some, inl, inr}
 use Rattle.std.proofs.lemmas.List.{take_more}

@@ -1,9 +1,9 @@
 //! Whether a model is in the fragment in which its goals can be decided, and where it leaves it.
 //!
 //! The functions must have no cycle of sorts, each axiom, conjecture and condition must be of its class, and no
-//! quantifier may stand inside an `ite` or on the right of an update; then each block must have few paths. `check` hands
-//! on what it found on its way, or answers a fault: the first by which the text leaves the fragment, and where there is
-//! none, that of the first long block.
+//! quantifier may stand inside an `ite` or on the right of an update; then each block must have few paths. `check`
+//! hands on what it found on its way, or answers a fault: the first by which the text leaves the fragment, and where
+//! there is none, that of the first long block.
 #![tactic(auto)]
 
 mod checking;

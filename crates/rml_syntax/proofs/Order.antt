@@ -1,5 +1,6 @@
 -- The places of a tree ascend as those of its tokens do.
-use Rattle.std.proofs.Common.{ℕ, ◌≤◌, Bool, true, false, List, [], ◌∷◌, ◌++◌, map, drop, Option, Some, None, subst, arith}
+use Rattle.std.proofs.Common.{ℕ, ◌≤◌, Bool, true, false, List, [], ◌∷◌, ◌++◌, map, drop, Option, Some, None}
+use Rattle.std.proofs.Common.{subst, arith}
 use Rattle.std.proofs.lemmas.List.{map-append}
 use Rattle.rml_lex.specs.declared.token.Token.{Token}
 use Rattle.rml_lex.specs.Bytes.{gap_len}
@@ -40,7 +41,8 @@ use Rattle.rml_syntax.specs.Places.{
   places_of_item,
   places_of_items,
 }
-use Rattle.rml_syntax.proofs.Walk.{Rules, Span, Trees, Deepens, OfToken, Both, Maybe, Each, Placed, Taken, each_of_some, file_walks}
+use Rattle.rml_syntax.proofs.Walk.{Rules, Span, Trees, Deepens, OfToken, Both, Maybe, Each, Placed, Taken}
+use Rattle.rml_syntax.proofs.Walk.{each_of_some, file_walks}
 
 -- ---- ascending places
 

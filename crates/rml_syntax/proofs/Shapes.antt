@@ -51,7 +51,8 @@ use Rattle.rml_syntax.specs.Tree.{
   choice,
 }
 use Rattle.rml_syntax.specs.Grammar.{file, max_levels}
-use Rattle.rml_syntax.specs.Shape.{ExprNests, ExprsNest, SideNests, CommandNests, BlockNests, BlocksNest, ItemNests, IsShaped}
+use Rattle.rml_syntax.specs.Shape.{ExprNests, ExprsNest, SideNests, CommandNests, BlockNests, BlocksNest}
+use Rattle.rml_syntax.specs.Shape.{ItemNests, IsShaped}
 use Rattle.rml_syntax.proofs.Walk.{
   Rules,
   Span,

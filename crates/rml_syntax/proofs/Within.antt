@@ -23,7 +23,8 @@ use Rattle.rml_syntax.specs.Tree.{
   nested,
 }
 use Rattle.rml_syntax.specs.Grammar.{file}
-use Rattle.rml_syntax.specs.Within.{NameWithin, BinderWithin, ExprWithin, ExprsWithin, ValueWithin, CommandWithin, BlockWithin, BlocksWithin, ItemWithin, TreeWithin}
+use Rattle.rml_syntax.specs.Within.{NameWithin, BinderWithin, ExprWithin, ExprsWithin, ValueWithin}
+use Rattle.rml_syntax.specs.Within.{CommandWithin, BlockWithin, BlocksWithin, ItemWithin, TreeWithin}
 use Rattle.rml_syntax.proofs.Walk.{
   Rules,
   Span,

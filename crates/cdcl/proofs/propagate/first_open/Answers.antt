@@ -10,7 +10,8 @@ pub returns-then-not-is_set : goal.returns-then-not-is_set
 returns-then-not-is_set c =
     let lt : c.loop-position.position < length c.args.clause.now = omega arith in
     let e : c.index-clause-position.result ≡ get_or c.args.clause.now c.loop-position.position 0 =
-    c.index-clause-position.is ∙ get_or_default_zero c.args.clause.now c.loop-position.position c.index-clause-position.result lt in
+    c.index-clause-position.is
+    ∙ get_or_default_zero c.args.clause.now c.loop-position.position c.index-clause-position.result lt in
     record {
       stands = rw e (member-get_or c.args.clause.now c.loop-position.position lt);
       not_first = λ q. (let a = c.if-ne.ensures in grind (arith, common_steps, a, q));
@@ -22,7 +23,8 @@ pub loop-position-preserved : goal.loop-position-preserved
 loop-position-preserved c =
     let lt : c.loop-position.position < length c.args.clause.now = omega arith in
     let e : get_or c.args.clause.now c.loop-position.position 0 ≡ c.index-clause-position.result =
-    sym (get_or_default_zero c.args.clause.now c.loop-position.position c.index-clause-position.result lt) ∙ sym c.index-clause-position.is in
+    sym (get_or_default_zero c.args.clause.now c.loop-position.position c.index-clause-position.result lt)
+    ∙ sym c.index-clause-position.is in
     false_but_more (is_set c.args.trail.now.steps) c.args.clause.now c.args.one c.args.other c.loop-position.position lt
     (elim c.else-ne.branch [
       | else-ne-via-then-ne+then-ne-2+else-not-is_set w ↦ inr

@@ -4,10 +4,12 @@ use Rattle.renumbering.proofs.Lists.{still_false, spread_more}
 use Rattle.renumbering.proofs.back.spread.Goals as goal
 
 pub overflow_cast-i : goal.overflow_cast-i
-overflow_cast-i c = let few = rising_few c.args.variables 0 c.args.names.now (omega arith) c.requires.rising in omega arith
+overflow_cast-i c =
+    let few = rising_few c.args.variables 0 c.args.names.now (omega arith) c.requires.rising in omega arith
 
 pub overflow_add-i : goal.overflow_add-i
-overflow_add-i c = let few = rising_few c.args.variables 0 c.args.names.now (omega arith) c.requires.rising in omega arith
+overflow_add-i c =
+    let few = rising_few c.args.variables 0 c.args.names.now (omega arith) c.requires.rising in omega arith
 
 pub set-requires-clause-within : goal.set-requires-clause-within
 set-requires-clause-within c =

@@ -62,7 +62,8 @@ move_to-requires-clause-first c =
       different = c.other_of-other.ensures.different;
     } in
     open_small c.args.self.now c.args.head c.args.list.now c.args.i c.get-watch.result c.pair.result
-    c.opposite-false_one.result c.other_of-other.result v c.clause-clause.result.now c.in-Some.open.literal c.clause-clause.ensures
+    c.opposite-false_one.result c.other_of-other.result v c.clause-clause.result.now
+    c.in-Some.open.literal c.clause-clause.ensures
     c.in-Some.ensures
 
 pub is_set-requires-in-None : goal.is_set-requires-in-None
@@ -96,7 +97,8 @@ returns-then-is_set-3-clause-conflict c =
       different = c.other_of-other.ensures.different;
     } in
     is_conflict c.args.self.now c.args.head c.args.list.now c.args.i c.get-watch.result c.pair.result
-    c.opposite-false_one.result c.other_of-other.result v c.clause-clause.result.now c.clause-clause.ensures c.in-None.ensures
+    c.opposite-false_one.result c.other_of-other.result v c.clause-clause.result.now
+    c.clause-clause.ensures c.in-None.ensures
     (rw (← c.opposite.ensures) (sym c.is_set-in-None.ensures ∙ c.if-is_set-3.true))
 
 pub push-requires-clause-small : goal.push-requires-clause-small
@@ -168,7 +170,8 @@ returns-in_ok-push-in-None-clause-state c =
       different = c.other_of-other.ensures.different;
     } in
     pushed_state c.args.self.now c.args.head c.args.list.now c.args.i c.get-watch.result c.pair.result
-    c.opposite-false_one.result c.other_of-other.result v c.clause-clause.result.now c.push.new.self c.clause-clause.ensures
+    c.opposite-false_one.result c.other_of-other.result v c.clause-clause.result.now
+    c.push.new.self c.clause-clause.ensures
     c.in-None.ensures (sym c.is_set-2.ensures ∙ c.if-is_set-2.false)
     (rw (← c.opposite.ensures) (sym c.is_set-in-None.ensures ∙ c.if-is_set-3.false))
     c.in_ok-push-in-None.ensures.steps c.in_ok-push-in-None.ensures.size
@@ -187,7 +190,8 @@ returns-in_ok-push-in-None-clause-grows c =
       different = c.other_of-other.ensures.different;
     } in
     pushed_grows c.args.self.now c.args.head c.args.list.now c.args.i c.get-watch.result c.pair.result
-    c.opposite-false_one.result c.other_of-other.result v c.clause-clause.result.now c.push.new.self c.clause-clause.ensures
+    c.opposite-false_one.result c.other_of-other.result v c.clause-clause.result.now
+    c.push.new.self c.clause-clause.ensures
     c.in-None.ensures (sym c.is_set-2.ensures ∙ c.if-is_set-2.false)
     (rw (← c.opposite.ensures) (sym c.is_set-in-None.ensures ∙ c.if-is_set-3.false))
     c.in_ok-push-in-None.ensures.steps c.in_ok-push-in-None.ensures.size
