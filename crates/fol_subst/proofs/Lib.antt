@@ -1,5 +1,6 @@
 mod Truth
 mod Ready
+mod Unchanged
 mod Fitting
 mod Sizes
 mod Counting

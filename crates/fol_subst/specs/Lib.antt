@@ -5,6 +5,7 @@ pub mod Limits
 pub mod Structures
 pub mod KeptFragments
 pub mod KeptSize
+pub mod Unchanged
 pub mod Outcome
 pub mod Extents
 pub mod Room

@@ -1,6 +1,7 @@
 // What holds of every replacement. Each function is its contract, and does nothing.
 ghost use Rattle.fol_subst.specs.Outcome.{ShortListsSuffice, ShortListsAllowShifts, ReplacementKeepsMeaning};
 ghost use Rattle.fol_subst.specs.KeptSize.{ShiftKeepsSize, IndexKeepsSize};
+ghost use Rattle.fol_subst.specs.Unchanged.{OwnValueChangesNothing};
 
 /// A formula with a symbol replaced is true in a structure exactly where the formula is true in the
 /// structure with the symbol's table changed; it fits where the formula does, and stays in its fragments.
@@ -32,3 +33,8 @@ pub fn same_size()
 {
     fol_formula::indices();
 }
+
+/// To replace a symbol by its own application to its parameters in order changes nothing.
+pub fn own_values()
+    ensures { OwnValueChangesNothing }
+{}

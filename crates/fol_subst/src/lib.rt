@@ -8,6 +8,7 @@ mod extent;
 mod indices;
 mod laws;
 mod measure;
+mod own;
 mod places;
 mod replacement;
 
@@ -28,8 +29,9 @@ pub use extent::{MOST_DEPTH, MOST_NODES};
 use fol_formula::{Formula, Term};
 use fol_sig::{FunId, RelId};
 use indices::{Shift, copy_formula};
-pub use laws::{conditions, exactness, same_size};
+pub use laws::{conditions, exactness, own_values, same_size};
 use measure::Measure;
+pub use own::{is_own_fun, is_own_rel};
 use replacement::Replacement;
 use std::alloc::Global;
 
