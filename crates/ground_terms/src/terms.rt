@@ -1,17 +1,19 @@
 // The closed lists of ground terms.
 ghost use Rattle.std.specs.Prelude.{◌≡◌, ◌<◌, ◌≤◌, ◌^◌, ◌+◌, ◌++◌, ℕ, [], length, map, replicate, slice_index};
-ghost use Rattle.std.specs.Prelude.{All, IfOk};
+ghost use Rattle.std.specs.Prelude.{All, IfOk, flat_map};
 ghost use Rattle.fol_sig.specs.Symbols.{symbols};
 ghost use Rattle.fol_sig.specs.Strata.{IsStrata};
 ghost use Rattle.fol_sig.specs.Tables.{InRange, tuple_count, place_of, numbers};
 ghost use Rattle.fol_sig.specs.Tuples.{tuples};
 ghost use Rattle.ground_terms.specs.Terms.{AreClosed, StandOnce, term_counts, terms_into, terms_at, term_at};
-ghost use Rattle.ground_terms.specs.Terms.{constants_into, applications_into, constant_of, applications_of};
 ghost use Rattle.ground_terms.specs.Terms.{application};
 ghost use Rattle.ground_terms.specs.TermCounts.{AreCounts, HasFewTerms};
-ghost use Rattle.ground_terms.specs.Numberings.{numbering, first_place, place_where, is_of, AreFirsts, IsPlaced};
+ghost use Rattle.ground_terms.specs.FunctionRows.{functions_into, own_constant, own_applications};
+ghost use Rattle.ground_terms.specs.FunctionRows.{IsOfFirst, noted, noted_at};
+ghost use Rattle.ground_terms.specs.Numberings.{numbering, AreFirsts, IsPlaced};
 ghost use Rattle.ground_terms.specs.TermViews.{plain_term};
 
+use crate::functions_into::FunctionsInto;
 use base::Mem;
 use fol_sig::{
     FunId, Signature, Sort, Strata, Tuple, count_tuples, number_of_tuple, tuple_laws,
@@ -135,10 +137,11 @@ fn closed_lists(
         (λ made. made.1.items ≡ term_counts (map (λ v. map plain_term v.items) made.0.items)) }
 {
     tuple_laws();
+    let functions = FunctionsInto::new(alloc, signature)?;
     let mut lists = empty_lists(alloc, signature.sorts())?;
     let mut counts = vec![in alloc; 0u32; signature.sorts() as usize]?;
     for sort in strata.order() {
-        let list = terms_of(alloc, signature, &counts, *sort)?;
+        let list = terms_of(alloc, signature, &counts, *sort, functions.of_sort(*sort))?;
         counts[sort.0 as usize] = list.len() as u32;
         lists[sort.0 as usize] = list;
     }
@@ -156,20 +159,24 @@ fn empty_lists(alloc: Global, sorts: u32) -> Mem<Vec<Vec<GroundTerm>>>
     Ok(lists)
 }
 
-// The terms of a sort, where each sort has so many.
+// The terms of a sort, where each sort has so many, and these are the functions into it.
 fn terms_of(
     alloc: Global,
     signature: &Signature,
     counts: &[u32],
     sort: Sort,
+    functions: &[FunId],
 ) -> Mem<Vec<GroundTerm>>
     requires each { length counts.now ≡ signature.now.sorts }
+    requires into { map (λ f. f.0) functions.now
+        ≡ functions_into (symbols signature.now) (length signature.now.functions) sort.0 }
     requires few { length (terms_into (symbols signature.now) counts.now sort.0) < 2 ^ 32 }
     ensures { IfOk result (λ ts. map plain_term ts.items ≡ terms_into (symbols signature.now) counts.now sort.0) }
 {
+    tuple_laws();
     let mut all = Vec::new(alloc);
-    push_constants(alloc, signature, sort, &mut all)?;
-    push_applications(alloc, signature, counts, sort, &mut all)?;
+    push_constants(alloc, signature, functions, &mut all)?;
+    push_applications(alloc, signature, counts, functions, &mut all)?;
     if all.is_empty() {
         all.push(GroundTerm::Default)?;
     }
@@ -179,14 +186,15 @@ fn terms_of(
 fn push_constants(
     alloc: Global,
     signature: &Signature,
-    sort: Sort,
+    functions: &[FunId],
     all: &mut Vec<GroundTerm>,
 ) -> Mem<()>
+    requires { All (λ f. f < length signature.now.functions) (map (λ f. f.0) functions.now) }
     ensures { IfOk result (λ _. map plain_term all.new.items ≡ map plain_term all.old.items
-        ++ constants_into (symbols signature.now) sort.0) }
+        ++ flat_map (own_constant (symbols signature.now)) (map (λ f. f.0) functions.now)) }
 {
-    for f in 0..signature.function_count() {
-        push_constant(alloc, signature, sort, FunId(f), all)?;
+    for function in functions {
+        push_constant(alloc, signature, *function, all)?;
     }
     Ok(())
 }
@@ -194,15 +202,14 @@ fn push_constants(
 fn push_constant(
     alloc: Global,
     signature: &Signature,
-    sort: Sort,
     function: FunId,
     all: &mut Vec<GroundTerm>,
 ) -> Mem<()>
     requires { function.0 < length signature.now.functions }
     ensures { IfOk result (λ _. map plain_term all.new.items ≡ map plain_term all.old.items
-        ++ constant_of (symbols signature.now) sort.0 function.0) }
+        ++ own_constant (symbols signature.now) function.0) }
 {
-    if signature.into_of(function).0 == sort.0 && signature.from_of(function).is_empty() {
+    if signature.from_of(function).is_empty() {
         all.push(GroundTerm::App(function, Tuple::new(alloc)))?;
     }
     Ok(())
@@ -212,16 +219,18 @@ fn push_applications(
     alloc: Global,
     signature: &Signature,
     counts: &[u32],
-    sort: Sort,
+    functions: &[FunId],
     all: &mut Vec<GroundTerm>,
 ) -> Mem<()>
     requires each { length counts.now ≡ signature.now.sorts }
-    requires few { length (terms_into (symbols signature.now) counts.now sort.0) < 2 ^ 32 }
+    requires known { All (λ f. f < length signature.now.functions) (map (λ f. f.0) functions.now) }
+    requires few { All (λ f. tuple_count counts.now ((symbols signature.now).from_of f) < 2 ^ 32)
+        (map (λ f. f.0) functions.now) }
     ensures { IfOk result (λ _. map plain_term all.new.items ≡ map plain_term all.old.items
-        ++ applications_into (symbols signature.now) counts.now sort.0) }
+        ++ flat_map (own_applications (symbols signature.now) counts.now) (map (λ f. f.0) functions.now)) }
 {
-    for f in 0..signature.function_count() {
-        push_applications_of(alloc, signature, counts, sort, FunId(f), all)?;
+    for function in functions {
+        push_applications_of(alloc, signature, counts, *function, all)?;
     }
     Ok(())
 }
@@ -230,20 +239,18 @@ fn push_applications_of(
     alloc: Global,
     signature: &Signature,
     counts: &[u32],
-    sort: Sort,
     function: FunId,
     all: &mut Vec<GroundTerm>,
 ) -> Mem<()>
     requires each { length counts.now ≡ signature.now.sorts }
     requires known { function.0 < length signature.now.functions }
-    requires few { length (terms_into (symbols signature.now) counts.now sort.0) < 2 ^ 32 }
+    requires few { tuple_count counts.now ((symbols signature.now).from_of function.0) < 2 ^ 32 }
     ensures { IfOk result (λ _. map plain_term all.new.items ≡ map plain_term all.old.items
-        ++ applications_of (symbols signature.now) counts.now sort.0 function.0) }
+        ++ own_applications (symbols signature.now) counts.now function.0) }
 {
-    tuple_laws();
     let _sorts = signature.sorts();
     let from = signature.from_of(function);
-    if signature.into_of(function).0 == sort.0 && !from.is_empty() {
+    if !from.is_empty() {
         push_each(alloc, counts, from, function, all)?;
     }
     Ok(())
@@ -282,42 +289,31 @@ fn first_places(
     requires counted { counts.now ≡ term_counts (map (λ v. map plain_term v.items) lists.now) }
     ensures { IfOk result (λ firsts. AreFirsts (map (λ v. map plain_term v.items) lists.now) firsts.items) }
 {
-    let _sorts = signature.sorts();
-    let mut firsts = Vec::new(alloc);
-    for f in 0..signature.function_count() {
-        firsts.push(first_in(lists, counts, signature.into_of(FunId(f)), FunId(f)))?;
+    let mut firsts = vec![in alloc; 0u32; signature.function_count() as usize]?;
+    for k in 0..signature.sorts() as usize {
+        note_firsts(&lists[k], counts[k], &mut firsts);
     }
     Ok(firsts)
 }
 
-fn first_in(lists: &[Vec<GroundTerm>], counts: &[u32], sort: Sort, function: FunId) -> u32
-    requires counted { counts.now ≡ term_counts (map (λ v. map plain_term v.items) lists.now) }
-    requires known { sort.0 < length lists.now }
-    ensures { result ≡ first_place (map (λ v. map plain_term v.items) lists.now) sort.0 function.0 }
+// Writes down the place of each term for its function, from the last term to the first, so that the first one stays.
+fn note_firsts(terms: &[GroundTerm], count: u32, firsts: &mut Vec<u32>)
+    requires counted { count ≡ length terms.now }
+    requires known { All (IsOfFirst (length firsts.old.items)) (map plain_term terms.now) }
+    ensures { firsts.new.items ≡ noted 0 (map plain_term terms.now) firsts.old.items }
 {
-    let count = counts[sort.0 as usize];
-    first_of(&lists[sort.0 as usize], count, function)
-}
-
-fn first_of(terms: &[GroundTerm], count: u32, function: FunId) -> u32
-    requires { count ≡ length terms.now }
-    ensures { result ≡ place_where (is_of function.0) (map plain_term terms.now) }
-{
-    let mut place = 0u32;
-    for term in terms {
-        if is_application_of(term, function) {
-            return place;
-        }
-        place += 1;
+    let mut place = count;
+    while place > 0 {
+        place -= 1;
+        note_first(&terms[place as usize], place, firsts);
     }
-    place
 }
 
-fn is_application_of(term: &GroundTerm, function: FunId) -> bool
-    ensures { result ≡ is_of function.0 (plain_term term.now) }
+fn note_first(term: &GroundTerm, place: u32, firsts: &mut Vec<u32>)
+    requires { IsOfFirst (length firsts.old.items) (plain_term term.now) }
+    ensures { firsts.new.items ≡ noted_at place (plain_term term.now) firsts.old.items }
 {
-    match term {
-        GroundTerm::Default => false,
-        GroundTerm::App(f, _) => function == *f,
+    if let GroundTerm::App(function, _) = term {
+        firsts[function.0 as usize] = place;
     }
 }
