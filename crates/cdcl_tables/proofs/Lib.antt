@@ -1,3 +1,4 @@
 pub mod Spans
 pub mod Empty
 pub mod Rising
+pub mod Greatest

@@ -101,6 +101,10 @@ looked_up n ts v b p h k = at (cases_lt n v)
     at (inl q) = k q ∙ sym (beyond n ts v q)
     at (inr q) = h q ∙ sym (value_at n ts v p q)
 
+-- 0 is no variable
+pub none_at_zero : (most : ℕ) (ts : List ℕ) → AreRising most 0 ts → member 0 ts ≡ false
+none_at_zero most ts r = not_among ts 0 (λ k h e. let a = above_last most 0 ts k r h in omega arith)
+
 at_most : (most last : ℕ) (ts : List ℕ) (k : ℕ) → AreRising most last ts → k < length ts → get_or ts k 0 ≤ most
 at_most most last [] k r h = absurd (omega arith)
 at_most most last (t ∷ ts) zero r h = r.1

@@ -55,9 +55,10 @@ impl Values {
         self.variables as usize
     }
 
-    /// The value of a variable; one without a value is false.
+    /// The value of a variable; one without a value, as 0, is false.
     pub fn value(&self, variable: u32) -> bool
-        ensures { 0 < variable → result ≡ value_of self.now variable }
+        ensures value { 0 < variable → result ≡ value_of self.now variable }
+        ensures none { variable ≡ 0 → result ≡ false }
     {
         if variable > self.variables {
             return false;

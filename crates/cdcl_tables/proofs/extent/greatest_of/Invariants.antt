@@ -1,5 +1,6 @@
-use Rattle.std.proofs.Common.{◌≡◌, ◌≤◌, ◌<◌, ◌^◌, ℕ, true, length}
+use Rattle.std.proofs.Common.{◌≡◌, ◌⊎◌, ◌≤◌, ◌<◌, ◌^◌, ℕ, true, length}
 use Rattle.cnf_base.specs.Literals.{member, variable_of}
+use Rattle.cdcl_tables.specs.Extent.{StandsIn}
 use Rattle.cdcl_tables.proofs.extent.greatest_of.Given as goal
 
 abbrev pub invariant-loop-rest : goal.invariant-loop-rest
@@ -8,6 +9,8 @@ invariant-loop-rest l = record {
   range : l.greatest < 2 ^ 31;
   goes_on : (n : ℕ) → l.greatest ≤ n → ((x : ℕ) → member x l.rest ≡ true → variable_of x ≤ n) → (x : ℕ)
       → member x l.clause ≡ true → variable_of x ≤ n;
+  among : (x : ℕ) → member x l.rest ≡ true → member x l.clause ≡ true;
+  stands : (l.greatest ≡ l.least) ⊎ StandsIn l.greatest l.clause;
 }
 
 abbrev pub decreases-loop-rest : goal.decreases-loop-rest

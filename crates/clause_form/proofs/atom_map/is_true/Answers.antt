@@ -5,4 +5,4 @@ pub returns : goal.returns
 returns c =
     let some : 0 < c.max.result = omega arith in
     let same : c.max.result - 1 ≡ c.args.variable - 1 = omega arith in
-    c.value.ensures some ∙ ap (λ (k : ℕ). get_or c.args.values.now k false) same
+    c.value.ensures.value some ∙ ap (λ (k : ℕ). get_or c.args.values.now k false) same

@@ -25,6 +25,6 @@ pub loop-i-preserved : goal.loop-i-preserved
 loop-i-preserved c = record {
   len = c.in_ok-set.ensures.len ∙ c.loop-i.invariant.len;
   spread = spread_more c.args.variables c.args.names.now c.requires.rising c.args.values.now c.loop-i.spread c.loop-i.i
-      (omega arith) c.loop-i.invariant.spread c.set.new.self c.value.result (c.value.ensures (omega arith))
+      (omega arith) c.loop-i.invariant.spread c.set.new.self c.value.result (c.value.ensures.value (omega arith))
       c.in_ok-set.ensures.ok;
 }

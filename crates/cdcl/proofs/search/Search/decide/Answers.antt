@@ -9,7 +9,7 @@ returns-clause-solver c =
     let b : State = record { clauses = a.clauses; trail = c.push-2.new.self; watches = a.watches } in
     let starts = c.args.self.now.starts.items in
     let l = c.literal-literal.result in
-    let u = unset_literal a.trail c.args.variable l c.literal-literal.ensures c.requires.unset in
+    let u = unset_literal a.trail c.args.variable l c.literal-literal.ensures.either c.requires.unset in
     let k = search_at a starts starts c.args.self.now.head (length a.trail.steps) refl c.requires.drawn
     c.requires.solver.search in
     let s = decided_search a b starts l k refl refl c.in_ok-push-2.ensures.size c.in_ok-push-2.ensures.steps u.0 u.1 in
@@ -26,5 +26,5 @@ pub returns-clause-fewer : goal.returns-clause-fewer
 returns-clause-fewer c =
     let a = c.args.self.now.state in
     let l = c.literal-literal.result in
-    let u = unset_literal a.trail c.args.variable l c.literal-literal.ensures c.requires.unset in
+    let u = unset_literal a.trail c.args.variable l c.literal-literal.ensures.either c.requires.unset in
     decided_free a.trail c.push-2.new.self (record { literal = l; reason = 0 }) c.in_ok-push-2.ensures.steps u.0 u.2
