@@ -8,14 +8,16 @@ use Rattle.base.specs.Because.{Because}
 use Rattle.base.specs.declared.refused.Refused.{Refused}
 use Rattle.base.specs.declared.refused.Refused.TheVariants.{For, NoMemory}
 use Rattle.fol_sig.specs.Symbols.{Symbols}
-use Rattle.fol_formula.specs.Syntax.{FormTree}
+use Rattle.fol_formula.specs.Syntax.{FormTree, implication}
 use Rattle.fol_formula.specs.Fits.{FitsForm}
 use Rattle.fol_formula.specs.Closed.{FitsUnderMore}
-use Rattle.fol_subst.specs.Replace.{Change, change_const, CanChange}
+use Rattle.fol_subst.specs.Replace.{Change, change_const, CanChange, changed_form}
 use Rattle.fol_subst.specs.Limits.{is_too_large}
 use Rattle.fol_subst.specs.Outcome.{CanReplace, ShortListsSuffice}
+use Rattle.fol_subst.specs.Unchanged.{is_own_value, OwnValueChangesNothing}
 use Rattle.fol_subst.specs.declared.FormulaLimit.{FormulaLimit}
 use Rattle.rml_command.specs.Trees.{PrimitiveTree, havoc}
+use Rattle.rml_command.specs.Outcomes.{all_of}
 use Rattle.rml_command.specs.Models.{FitsPrimitive, FitsPath}
 use Rattle.rml_wp.specs.Preconditions.{where_lawful, back_of, precondition_of, passes_limit}
 use Rattle.rml_wp.proofs.StepTruth.{Replaces, lawful-fits, precondition-fits, one_change}
@@ -34,6 +36,15 @@ module _ (conditions : ShortListsSuffice) (sig : Symbols) (given axioms : List F
   ready_one under v f =
       conditions sig (sig.into_of v ∷ []) w (change_const v 0) (under sig w [] (sig.into_of v ∷ []) within_fits)
       (one_change sig v f) (omega arith)
+
+-- where a symbol is set to itself
+pub unchanged : OwnValueChangesNothing → (sig : Symbols) (given axioms : List FormTree) (lawful rest : FormTree)
+    → AllByRecursion (FitsForm sig []) axioms → FitsForm sig [] rest → given ≡ axioms → lawful ≡ all_of given
+    → (c : Change) → CanChange sig [] c → (own : Bool) → own ≡ is_own_value c → own ≡ true
+    → implication lawful rest ≡ changed_form c 0 (where_lawful axioms rest)
+unchanged law sig given axioms lawful rest fit h same all c can own is yes_own =
+    ap (λ p. implication p rest) (all ∙ ap all_of same)
+    ∙ sym (law sig [] (where_lawful axioms rest) c (lawful-fits sig axioms rest fit h) can (sym is ∙ yes_own))
 
 -- the limit, from a rest to the whole
 later : (a b : Bool) → b ≡ true → (a || b) ≡ true

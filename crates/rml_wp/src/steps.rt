@@ -19,7 +19,9 @@ ghost use Rattle.rml_wp.specs.Laws.{HasTarget};
 use base::{Mem, Refused};
 use fol_formula::{Formula, Sentence, Term};
 use fol_sig::{FunId, RelId, Sort};
-use fol_subst::{Counted, FormulaLimit, replace_const, replace_fun, replace_rel};
+use fol_subst::{
+    Counted, FormulaLimit, is_own_fun, is_own_rel, replace_const, replace_fun, replace_rel,
+};
 use rml_command::{About, Model, Path, Primitive};
 use std::alloc::Global;
 
@@ -89,77 +91,89 @@ fn step_back(
         (back_of (symbols model.now.signature) model.now.axioms (primitive_view primitive.now) (form rest.formula))))) }
 {
     match primitive {
-        Primitive::Assume(sentence) => before_assumption(alloc, sentence, rest),
-        Primitive::SetRel(rel, by) => before_set_rel(alloc, model, *rel, by, rest.formula),
-        Primitive::SetFun(fun, by) => before_set_fun(alloc, model, *fun, by, rest.formula),
+        Primitive::Assume(sentence) => {
+            let assumed = sentence.formula().copy(alloc)?;
+            let counted = under(alloc, assumed, rest)?;
+            Ok(counted)
+        }
+        Primitive::SetRel(rel, by) => before_set_rel(alloc, model, *rel, by, rest),
+        Primitive::SetFun(fun, by) => before_set_fun(alloc, model, *fun, by, rest),
         Primitive::Havoc(variable) => before_havoc(alloc, model, *variable, rest.formula),
         Primitive::Abort => Counted::of(Formula::False),
     }
 }
 
-// The rest is not counted again.
-fn before_assumption(
-    alloc: Global,
-    sentence: &Sentence,
-    rest: Counted,
-) -> Result<Counted, Refused<FormulaLimit>>
-    ensures back { IfOk result (λ c. form c.formula ≡ implication sentence.now (form rest.formula)) }
-    ensures limit { IfErr result (Because (λ _. IsTrue (is_too_large (implication sentence.now (form rest.formula))))) }
+// The rest under one more premise. It is not counted again.
+fn under(alloc: Global, premise: Formula, rest: Counted) -> Result<Counted, Refused<FormulaLimit>>
+    ensures back { IfOk result (λ c. form c.formula ≡ implication (form premise) (form rest.formula)) }
+    ensures limit { IfErr result
+        (Because (λ _. IsTrue (is_too_large (implication (form premise) (form rest.formula))))) }
 {
-    let nodes = sentence
-        .nodes()
-        .saturating_add(rest.nodes)
-        .saturating_add(1);
-    let depth = sentence.depth().max(rest.depth).saturating_add(1);
-    let implication = implies(alloc, sentence.formula().copy(alloc)?, rest.formula)?;
+    let nodes = premise.nodes().saturating_add(rest.nodes).saturating_add(1);
+    let depth = premise.depth().max(rest.depth).saturating_add(1);
+    let implication = implies(alloc, premise, rest.formula)?;
     let counted = Counted::new(implication, nodes, depth)?;
     Ok(counted)
 }
 
+// Where the relation is set to itself, the rest is not walked.
 fn before_set_rel(
     alloc: Global,
     model: &Model,
     rel: RelId,
     by: &Formula,
-    rest: Formula,
+    rest: Counted,
 ) -> Result<Counted, Refused<FormulaLimit>>
     requires primitive { FitsPrimitive (symbols model.now.signature) (set_rel rel.0 (form by.now)) }
-    requires rest { FitsForm (symbols model.now.signature) [] (form rest) }
+    requires rest { FitsForm (symbols model.now.signature) [] (form rest.formula) }
     ensures back { IfOk result
         (λ c. form c.formula
-        ≡ changed_form (change_rel rel.0 (form by.now)) 0 (where_lawful_of model.now.axioms (form rest))) }
+        ≡ changed_form (change_rel rel.0 (form by.now)) 0 (where_lawful_of model.now.axioms (form rest.formula))) }
     ensures limit { IfErr result
         (Because (λ _. IsTrue
         (is_too_large
-        (changed_form (change_rel rel.0 (form by.now)) 0 (where_lawful_of model.now.axioms (form rest)))))) }
+        (changed_form (change_rel rel.0 (form by.now)) 0 (where_lawful_of model.now.axioms (form rest.formula)))))) }
 {
     fol_subst::conditions();
+    fol_subst::own_values();
     let axioms = model.axioms();
-    let within = where_lawful(alloc, axioms, rest)?;
+    if is_own_rel(rel, by) {
+        let lawful = all_of(alloc, axioms)?;
+        let unchanged = under(alloc, lawful, rest)?;
+        return Ok(unchanged);
+    }
+    let within = where_lawful(alloc, axioms, rest.formula)?;
     let replaced = replace_rel(alloc, &within, rel, by)?;
     Ok(replaced)
 }
 
+// Where the function is set to itself, the rest is not walked.
 fn before_set_fun(
     alloc: Global,
     model: &Model,
     fun: FunId,
     by: &Term,
-    rest: Formula,
+    rest: Counted,
 ) -> Result<Counted, Refused<FormulaLimit>>
     requires primitive { FitsPrimitive (symbols model.now.signature) (set_fun fun.0 (term by.now)) }
-    requires rest { FitsForm (symbols model.now.signature) [] (form rest) }
+    requires rest { FitsForm (symbols model.now.signature) [] (form rest.formula) }
     ensures back { IfOk result
         (λ c. form c.formula
-        ≡ changed_form (change_fun fun.0 (term by.now)) 0 (where_lawful_of model.now.axioms (form rest))) }
+        ≡ changed_form (change_fun fun.0 (term by.now)) 0 (where_lawful_of model.now.axioms (form rest.formula))) }
     ensures limit { IfErr result
         (Because (λ _. IsTrue
         (is_too_large
-        (changed_form (change_fun fun.0 (term by.now)) 0 (where_lawful_of model.now.axioms (form rest)))))) }
+        (changed_form (change_fun fun.0 (term by.now)) 0 (where_lawful_of model.now.axioms (form rest.formula)))))) }
 {
     fol_subst::conditions();
+    fol_subst::own_values();
     let axioms = model.axioms();
-    let within = where_lawful(alloc, axioms, rest)?;
+    if is_own_fun(fun, by) {
+        let lawful = all_of(alloc, axioms)?;
+        let unchanged = under(alloc, lawful, rest)?;
+        return Ok(unchanged);
+    }
+    let within = where_lawful(alloc, axioms, rest.formula)?;
     let replaced = replace_fun(alloc, &within, fun, by)?;
     Ok(replaced)
 }
