@@ -1,5 +1,5 @@
 // The truth value that a variable had last.
-ghost use Rattle.std.specs.Prelude.{◌≡◌, ◌⊎◌, ◌+◌, ◌*◌, ◌^◌, ◌<◌, ℕ, false, get_or, set, IfOk};
+ghost use Rattle.std.specs.Prelude.{◌≡◌, ◌⊎◌, ◌+◌, ◌*◌, ◌^◌, ◌<◌, ℕ, false, get_or, length, set, IfOk};
 ghost use Rattle.cnf_base.specs.Literals.{variable_of, is_positive, literal_of};
 
 use base::Mem;
@@ -24,7 +24,8 @@ impl Model for Phases {
 impl Phases {
     /// No variable was true so far. Variables are numbered from 1 to below `slots`.
     pub fn new(alloc: Global, slots: u32) -> Mem<Phases>
-        ensures { IfOk result (λ p. (v : ℕ) → get_or p v false ≡ false) }
+        ensures len { IfOk result (λ p. length p ≡ slots) }
+        ensures none { IfOk result (λ p. (v : ℕ) → get_or p v false ≡ false) }
     {
         Ok(Phases {
             were_true: vec![in alloc; false; slots as usize]?,

@@ -1,6 +1,6 @@
 -- The words of a text. Its bytes are cut into lines at each line feed. A line whose first byte is `c` is a comment; the
 -- others are cut into words at each blank.
-use Rattle.std.specs.Prelude.{ℕ, ◌+◌, Bool, false, ◌||◌, ◌==◌, List, [], ◌∷◌, ◌++◌, map, if◌then◌else◌}
+use Rattle.std.specs.Prelude.{ℕ, ◌+◌, Bool, false, ◌==◌, List, [], ◌∷◌, ◌++◌, map, if◌then◌else◌}
 use Rattle.base.specs.Bytes.{is_blank}
 
 -- a byte and its place

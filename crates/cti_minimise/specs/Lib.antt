@@ -3,3 +3,4 @@ pub mod Saying
 pub mod Minimal
 pub mod Steps
 pub mod Laws
+pub mod Within

@@ -6,7 +6,7 @@ ghost use Rattle.cti_minimise.specs.SizeBounds.{equations, for_some_times, size_
 ghost use Rattle.cti_minimise.specs.SizeBounds.{equations_with, pair_equations, for_all_times, pair_bound};
 ghost use Rattle.cti_minimise.specs.SizeBounds.{most_paired, short_bound, bounds_by};
 ghost use Rattle.cti_minimise.specs.Saying.{said_by};
-ghost use Rattle.cti_minimise.specs.Minimal.{sizes_up_to};
+ghost use Rattle.cti_minimise.specs.Within.{sizes_within};
 
 use crate::laws::bound_law;
 use base::Mem;
@@ -29,23 +29,26 @@ pub enum Saying {
 
 /// Bounds: the sorts before this one have at most their sizes in the structure, and this one has at most so many
 /// elements.
-pub fn size_bounds(
-    alloc: Global,
-    structure: &Structure,
-    sort: u32,
-    most: u32,
-    saying: Saying,
-) -> Mem<Vec<Sentence>>
-    requires { sort < length structure.now.sizes }
-    ensures { IfOk result (λ v. v.items ≡ bounds_by (said_by saying) 0 (sizes_up_to structure.now sort most)) }
+#[derive(Clone, Copy)]
+pub struct Bounds<'a> {
+    pub structure: &'a Structure,
+    pub sort: u32,
+    pub most: u32,
+}
+
+/// The sentences that say bounds.
+pub fn size_bounds(alloc: Global, bounds: &Bounds, saying: Saying) -> Mem<Vec<Sentence>>
+    requires { bounds.now.sort < length bounds.now.structure.now.sizes }
+    ensures { IfOk result (λ v. v.items ≡ bounds_by (said_by saying) 0 (sizes_within bounds.now)) }
 {
-    let mut bounds = Vec::new(alloc);
-    for k in 0..sort {
+    let structure = bounds.structure;
+    let mut sentences = Vec::new(alloc);
+    for k in 0..bounds.sort {
         let size = structure.size(Sort(k));
-        bounds.push(bound(alloc, Sort(k), size, saying)?)?;
+        sentences.push(bound(alloc, Sort(k), size, saying)?)?;
     }
-    bounds.push(bound(alloc, Sort(sort), most, saying)?)?;
-    Ok(bounds)
+    sentences.push(bound(alloc, Sort(bounds.sort), bounds.most, saying)?)?;
+    Ok(sentences)
 }
 
 // The sentence that a sort has at most so many elements.

@@ -6,7 +6,7 @@ ghost use Rattle.obligation_decide.specs.GoalDecisions.{IsFailing};
 ghost use Rattle.cti_minimise.specs.Minimal.{HasNoSmaller, IsLeast};
 ghost use Rattle.cti_minimise.specs.Steps.{IsStep, IsDescent};
 
-use crate::bounds::MOST_PAIRED;
+use crate::bounds::{Bounds, MOST_PAIRED};
 use crate::laws::bound_law;
 use crate::trials::{Attempt, Trial, try_bound, try_short};
 use base::Mem;
@@ -116,15 +116,12 @@ fn from_above(
         if size == 1 {
             return Ok(Descent::Settled(found));
         }
-        match try_short(
-            alloc,
-            checked,
-            goal,
-            &found.structure,
+        let bounds = Bounds {
+            structure: &found.structure,
             sort,
-            size - 1,
-            limits,
-        )? {
+            most: size - 1,
+        };
+        match try_short(alloc, checked, goal, &bounds, limits)? {
             Attempt::Refuted => return Ok(Descent::Settled(found)),
             Attempt::Found(smaller) => found = smaller,
             Attempt::Open => return Ok(Descent::Open(found)),
@@ -151,7 +148,13 @@ fn from_below(
     bound_law();
     let size = shown.structure.size(Sort(sort));
     for most in 1..size {
-        match try_bound(alloc, checked, goal, &shown.structure, sort, most, limits)? {
+        let structure = &shown.structure;
+        let bounds = Bounds {
+            structure,
+            sort,
+            most,
+        };
+        match try_bound(alloc, checked, goal, &bounds, limits)? {
             Trial::Refuted => {}
             Trial::Found(smaller) => return Ok(Step::Settled(smaller)),
             Trial::Open(cause) => {

@@ -1,18 +1,17 @@
 // Trials: whether a goal has a counterexample within bounds on the sizes of sorts.
-ghost use Rattle.std.specs.Prelude.{◌≡◌, ◌≤◌, ◌<◌, length, IfOk};
+ghost use Rattle.std.specs.Prelude.{◌≡◌, ◌≤◌, IfOk};
 ghost use Rattle.rml_command.specs.Goals.{IsGoal};
 ghost use Rattle.ea_decide.specs.Passing.{ceilings};
 ghost use Rattle.obligation_decide.specs.Restricted.{IsRestrictedDecision};
 ghost use Rattle.obligation_decide.specs.Costs.{IsRestrictedMeasured};
 ghost use Rattle.cti_minimise.specs.SizeBounds.{size_bounds, bounds_by};
 ghost use Rattle.cti_minimise.specs.Saying.{said_by};
-ghost use Rattle.cti_minimise.specs.Minimal.{sizes_up_to};
+ghost use Rattle.cti_minimise.specs.Within.{sizes_within, AreBoundsFor};
 ghost use Rattle.cti_minimise.specs.Steps.{IsAttempt, IsTrial};
 
-use crate::bounds::{MOST_PAIRED, Saying, size_bounds};
+use crate::bounds::{Bounds, MOST_PAIRED, Saying, size_bounds};
 use crate::laws::bound_law;
 use base::Mem;
-use fol_sig::Structure;
 use lrat_log::Limits;
 use obligation_decide::{Decision, Measured, decide_where, measure_where};
 use rml_command::{Checked, Goal};
@@ -41,37 +40,25 @@ pub enum Attempt {
     Open,
 }
 
-/// Whether the goal has a counterexample with at most these sizes.
+/// Whether the goal has a counterexample within the bounds.
 pub fn try_bound(
     alloc: Global,
     checked: &Checked,
     goal: &Goal,
-    structure: &Structure,
-    sort: u32,
-    most: u32,
+    bounds: &Bounds,
     limits: &Limits,
 ) -> Mem<Trial>
     requires goal { IsGoal checked.now goal.now }
-    requires sorts { length structure.now.sizes ≡ checked.now.signature.sorts }
-    requires sort { sort < checked.now.signature.sorts }
+    requires bounds { AreBoundsFor checked.now bounds.now }
     ensures { IfOk result (IsTrial (ceilings limits.now) checked.now
-        (size_bounds 0 (sizes_up_to structure.now sort most)) goal.now) }
+        (size_bounds 0 (sizes_within bounds.now)) goal.now) }
 {
-    match try_short(alloc, checked, goal, structure, sort, most, limits)? {
+    match try_short(alloc, checked, goal, bounds, limits)? {
         Attempt::Refuted => return Ok(Trial::Refuted),
         Attempt::Found(smaller) => return Ok(Trial::Found(smaller)),
         Attempt::Open => {}
     }
-    match decide_by(
-        alloc,
-        checked,
-        goal,
-        structure,
-        sort,
-        most,
-        Saying::Named,
-        limits,
-    )? {
+    match decide_by(alloc, checked, goal, bounds, Saying::Named, limits)? {
         Decision::Holds(_) => Ok(Trial::Refuted),
         Decision::Fails(smaller) => Ok(Trial::Found(smaller)),
         Decision::Undecided(cause) => Ok(Trial::Open(cause)),
@@ -83,36 +70,24 @@ pub fn try_short(
     alloc: Global,
     checked: &Checked,
     goal: &Goal,
-    structure: &Structure,
-    sort: u32,
-    most: u32,
+    bounds: &Bounds,
     limits: &Limits,
 ) -> Mem<Attempt>
     requires goal { IsGoal checked.now goal.now }
-    requires sorts { length structure.now.sizes ≡ checked.now.signature.sorts }
-    requires sort { sort < checked.now.signature.sorts }
+    requires bounds { AreBoundsFor checked.now bounds.now }
     ensures { IfOk result (IsAttempt (ceilings limits.now) checked.now
-        (size_bounds 0 (sizes_up_to structure.now sort most)) goal.now) }
+        (size_bounds 0 (sizes_within bounds.now)) goal.now) }
 {
-    if most > MOST_PAIRED {
+    if bounds.most > MOST_PAIRED {
         return Ok(Attempt::Open);
     }
-    let size = match measure(alloc, checked, goal, structure, sort, most, limits)? {
+    let size = match measure(alloc, checked, goal, bounds, limits)? {
         Measured::Within(size) => size,
         Measured::Over(_) => return Ok(Attempt::Open),
     };
     bound_law();
     let narrowed = narrowed(limits, size);
-    match decide_by(
-        alloc,
-        checked,
-        goal,
-        structure,
-        sort,
-        most,
-        Saying::Short,
-        &narrowed,
-    )? {
+    match decide_by(alloc, checked, goal, bounds, Saying::Short, &narrowed)? {
         Decision::Holds(_) => Ok(Attempt::Refuted),
         Decision::Fails(smaller) => Ok(Attempt::Found(smaller)),
         Decision::Undecided(_) => Ok(Attempt::Open),
@@ -136,20 +111,17 @@ fn measure(
     alloc: Global,
     checked: &Checked,
     goal: &Goal,
-    structure: &Structure,
-    sort: u32,
-    most: u32,
+    bounds: &Bounds,
     limits: &Limits,
 ) -> Mem<Measured>
     requires goal { IsGoal checked.now goal.now }
-    requires sorts { length structure.now.sizes ≡ checked.now.signature.sorts }
-    requires sort { sort < checked.now.signature.sorts }
+    requires bounds { AreBoundsFor checked.now bounds.now }
     ensures { IfOk result (IsRestrictedMeasured (ceilings limits.now) checked.now
-        (size_bounds 0 (sizes_up_to structure.now sort most)) goal.now) }
+        (size_bounds 0 (sizes_within bounds.now)) goal.now) }
 {
     bound_law();
-    let bounds = size_bounds(alloc, structure, sort, most, Saying::Named)?;
-    let measured = measure_where(alloc, checked, goal, &bounds, limits)?;
+    let sentences = size_bounds(alloc, bounds, Saying::Named)?;
+    let measured = measure_where(alloc, checked, goal, &sentences, limits)?;
     Ok(measured)
 }
 
@@ -158,20 +130,17 @@ fn decide_by(
     alloc: Global,
     checked: &Checked,
     goal: &Goal,
-    structure: &Structure,
-    sort: u32,
-    most: u32,
+    bounds: &Bounds,
     saying: Saying,
     limits: &Limits,
 ) -> Mem<Decision>
     requires goal { IsGoal checked.now goal.now }
-    requires sorts { length structure.now.sizes ≡ checked.now.signature.sorts }
-    requires sort { sort < checked.now.signature.sorts }
+    requires bounds { AreBoundsFor checked.now bounds.now }
     ensures { IfOk result (IsRestrictedDecision (ceilings limits.now) checked.now
-        (bounds_by (said_by saying) 0 (sizes_up_to structure.now sort most)) goal.now) }
+        (bounds_by (said_by saying) 0 (sizes_within bounds.now)) goal.now) }
 {
     bound_law();
-    let bounds = size_bounds(alloc, structure, sort, most, saying)?;
-    let decision = decide_where(alloc, checked, goal, &bounds, limits)?;
+    let sentences = size_bounds(alloc, bounds, saying)?;
+    let decision = decide_where(alloc, checked, goal, &sentences, limits)?;
     Ok(decision)
 }

@@ -2,9 +2,8 @@
 ghost use Rattle.std.specs.Prelude.{◌≡◌, IfOk};
 ghost use Rattle.ivy_run.specs.Emit.{fails_text, undecided_text, no_goal_text};
 
-use crate::pieces::push_cause;
 use base::{Mem, push_number, push_text};
-use rml_report::Cause;
+use rml_report::{Cause, push_cause};
 use std::alloc::Global;
 
 /// The line of a goal that fails.
@@ -28,7 +27,7 @@ pub fn undecided_line(alloc: Global, number: u64, cause: Cause) -> Mem<Vec<u8>>
     push_text(&mut out, "goal ")?;
     push_number(&mut out, number)?;
     push_text(&mut out, " undecided ")?;
-    push_cause(&mut out, cause)?;
+    push_cause(&mut out, &cause)?;
     push_text(&mut out, "\n")?;
     Ok(out)
 }

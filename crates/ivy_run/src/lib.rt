@@ -10,7 +10,6 @@ mod limits;
 mod lrat;
 mod model_text;
 mod perform;
-mod pieces;
 mod sample;
 mod saying;
 mod top;

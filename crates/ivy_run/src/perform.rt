@@ -1,10 +1,11 @@
 // From the words to the answer with its text.
-ghost use Rattle.std.specs.Prelude.{◌≡◌, ℕ, List, [], Some, None, map, string_bytes};
-ghost use Rattle.command_line.specs.Lines.{line_of, request_line};
+ghost use Rattle.std.specs.Prelude.{◌≡◌, ◌≤◌, ℕ, List, [], Some, None, map, string_bytes};
+ghost use Rattle.command_line.specs.Lines.{check, lrat, emit, sample, line_of, request_line};
 ghost use Rattle.command_line.specs.Asking.{IsInRange, HasRanges};
 ghost use Rattle.commands.specs.Ends.{EndsNone};
 ghost use Rattle.commands.specs.Done.{due_in, outcome_in};
-ghost use Rattle.ivy_run.specs.Run.{Does, IsUsage, due_of};
+ghost use Rattle.ivy_run.specs.Sample.{IsSampleAnswer};
+ghost use Rattle.ivy_run.specs.Run.{Does, IsUsage, OfSample, due_of};
 
 use crate::check::Check;
 use crate::emit::Emit;
@@ -12,7 +13,7 @@ use crate::ended::Answer;
 use crate::lrat::Lrat;
 use crate::sample::Sample;
 use crate::usage::Usage;
-use command_line::{Request, read_words};
+use command_line::{Asked, Emission, Request, read_words};
 use commands::{Done, no_file, one_file, two_files};
 use rml_bytes::{Files, LoadError};
 use std::alloc::Global;
@@ -20,6 +21,106 @@ use std::alloc::Global;
 const MODEL_LIMIT: u64 = 1048576;
 
 const CLAUSE_LIMIT: u64 = 268435456;
+
+// `check FILE`.
+fn perform_check<F: Files>(
+    alloc: Global,
+    file: &str,
+    asked: Asked,
+    files: &mut F,
+    first: &mut Vec<u8>,
+) -> Result<Done<Answer>, LoadError>
+    requires ranges { IsInRange asked }
+    requires first { first.old.items ≡ [] }
+    ensures same { (n : List ℕ) → F.told files.new n ≡ F.told files.old n }
+    ensures due { due_in result ≡ due_of (Some (check file.now asked)) first.new.items [] (outcome_in result) }
+    ensures does { Does (Some (check file.now asked)) (F.told files.old) (F.faults files.old) (F.faults files.new)
+        first.new.items [] (outcome_in result) }
+{
+    match one_file(&Check { asked }, alloc, files, file, MODEL_LIMIT, first) {
+        Ok(done) => Ok(Done {
+            answer: Answer::Check(done.answer),
+            said: done.said,
+        }),
+        Err(why) => Err(why),
+    }
+}
+
+// `lrat CNF LOG`.
+fn perform_lrat<F: Files>(
+    alloc: Global,
+    formula: &str,
+    log: &str,
+    files: &mut F,
+    first: &mut Vec<u8>,
+    second: &mut Vec<u8>,
+) -> Result<Done<Answer>, LoadError>
+    requires first { first.old.items ≡ [] }
+    requires second { second.old.items ≡ [] }
+    ensures same { (n : List ℕ) → F.told files.new n ≡ F.told files.old n }
+    ensures due { due_in result ≡ due_of (Some (lrat formula.now log.now)) first.new.items second.new.items
+        (outcome_in result) }
+    ensures does { Does (Some (lrat formula.now log.now)) (F.told files.old) (F.faults files.old) (F.faults files.new)
+        first.new.items second.new.items (outcome_in result) }
+{
+    match two_files(
+        &Lrat,
+        alloc,
+        files,
+        formula,
+        CLAUSE_LIMIT,
+        first,
+        log,
+        CLAUSE_LIMIT,
+        second,
+    ) {
+        Ok(done) => Ok(Done {
+            answer: Answer::Lrat(done.answer),
+            said: done.said,
+        }),
+        Err(why) => Err(why),
+    }
+}
+
+// `emit FILE GOAL WHAT`.
+fn perform_emit<F: Files>(
+    alloc: Global,
+    file: &str,
+    emission: Emission,
+    files: &mut F,
+    first: &mut Vec<u8>,
+) -> Result<Done<Answer>, LoadError>
+    requires goal { 1 ≤ emission.goal }
+    requires ranges { IsInRange emission.limits }
+    requires first { first.old.items ≡ [] }
+    ensures same { (n : List ℕ) → F.told files.new n ≡ F.told files.old n }
+    ensures due { due_in result ≡ due_of (Some (emit file.now emission)) first.new.items [] (outcome_in result) }
+    ensures does { Does (Some (emit file.now emission)) (F.told files.old) (F.faults files.old) (F.faults files.new)
+        first.new.items [] (outcome_in result) }
+{
+    match one_file(&Emit { emission }, alloc, files, file, MODEL_LIMIT, first) {
+        Ok(done) => Ok(Done {
+            answer: Answer::Emit(done.answer),
+            said: done.said,
+        }),
+        Err(why) => Err(why),
+    }
+}
+
+// `sample N`.
+fn perform_sample(alloc: Global, number: u64) -> Result<Done<Answer>, LoadError>
+    requires { number ≤ 40 }
+    ensures due { due_in result ≡ due_of (Some (sample number)) [] [] (outcome_in result) }
+    ensures ends { EndsNone 0 0 [] [] (λ text other a. OfSample (IsSampleAnswer number) a) (outcome_in result) }
+{
+    match no_file(&Sample { number }, alloc) {
+        Ok(done) => Ok(Done {
+            answer: Answer::Sample(done.answer),
+            said: done.said,
+        }),
+        Err(why) => Err(why),
+    }
+}
 
 // Does what a command line asks for.
 fn perform<F: Files>(
@@ -39,48 +140,10 @@ fn perform<F: Files>(
         first.new.items second.new.items (outcome_in result) }
 {
     match request {
-        Request::Check(file, asked) => {
-            match one_file(&Check { asked }, alloc, files, file, MODEL_LIMIT, first) {
-                Ok(done) => Ok(Done {
-                    answer: Answer::Check(done.answer),
-                    said: done.said,
-                }),
-                Err(why) => Err(why),
-            }
-        }
-        Request::Lrat(formula, log) => match two_files(
-            &Lrat,
-            alloc,
-            files,
-            formula,
-            CLAUSE_LIMIT,
-            first,
-            log,
-            CLAUSE_LIMIT,
-            second,
-        ) {
-            Ok(done) => Ok(Done {
-                answer: Answer::Lrat(done.answer),
-                said: done.said,
-            }),
-            Err(why) => Err(why),
-        },
-        Request::Emit(file, emission) => {
-            match one_file(&Emit { emission }, alloc, files, file, MODEL_LIMIT, first) {
-                Ok(done) => Ok(Done {
-                    answer: Answer::Emit(done.answer),
-                    said: done.said,
-                }),
-                Err(why) => Err(why),
-            }
-        }
-        Request::Sample(number) => match no_file(&Sample { number }, alloc) {
-            Ok(done) => Ok(Done {
-                answer: Answer::Sample(done.answer),
-                said: done.said,
-            }),
-            Err(why) => Err(why),
-        },
+        Request::Check(file, asked) => perform_check(alloc, file, asked, files, first),
+        Request::Lrat(formula, log) => perform_lrat(alloc, formula, log, files, first, second),
+        Request::Emit(file, emission) => perform_emit(alloc, file, emission, files, first),
+        Request::Sample(number) => perform_sample(alloc, number),
     }
 }
 

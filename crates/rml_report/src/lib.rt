@@ -13,3 +13,4 @@ pub use cause::{Cause, Least};
 pub use laws::{rendering_law, report_law};
 pub use rendering::render;
 pub use report::{Answer, Axioms, Group, Report, Verdict};
+pub use words::push_cause;

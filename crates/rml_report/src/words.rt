@@ -54,6 +54,7 @@ fn push_counted(out: &mut Vec<u8>, word: &str, n: u64) -> Mem<()>
     Ok(())
 }
 
+/// Adds the words of a cause behind what is there. After want of memory there may be some of them.
 pub fn push_cause(out: &mut Vec<u8>, cause: &Cause) -> Mem<()>
     ensures { OnOk result (out.new.items ≡ out.old.items ++ cause_text cause.now) }
 {
