@@ -6,7 +6,7 @@ use Rattle.ground_terms.specs.Trees.{Tree, Trees, literal, node, none, part, tre
 use Rattle.clause_form.specs.Numbers.{Numbers, start, with_place, after, lit_of, lits_of, place_lit}
 use Rattle.clause_form.specs.Clauses.{implies, clauses_of, clauses_of_all, formula_clauses, clause_form}
 use Rattle.clause_form.specs.Meaning.{places, places_all}
-use Rattle.clause_form.specs.Flat.{AreLiterals, IsFlat, AreFlat}
+use Rattle.ground_terms.specs.Literals.{AreLiterals, IsFlat, AreFlat}
 use Rattle.clause_form.proofs.Counting.{few, implied}
 
 no_clauses : (n : Numbers) (ps : Trees) → AreLiterals ps → length (clauses_of_all n ps) ≡ 0

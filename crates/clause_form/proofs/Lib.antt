@@ -8,6 +8,7 @@ pub mod Tables
 pub mod Assigned
 pub mod Counting
 pub mod FlatCounting
+pub mod AtomCounting
 pub mod Range
 pub mod Runs
 pub mod Standing

@@ -1,7 +1,6 @@
 pub mod Numbers
 pub mod Clauses
 pub mod Meaning
-pub mod Flat
 pub mod Tables
 pub mod Machine
 pub mod Boards

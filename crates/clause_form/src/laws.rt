@@ -5,7 +5,7 @@ ghost use Rattle.ground_terms.specs.declared.atom.Atom.{Atom};
 ghost use Rattle.ground_terms.specs.Same.{holds_in};
 ghost use Rattle.ground_terms.specs.Trees.{Tree, Trees, trees_of, all_true, nodes_all};
 ghost use Rattle.clause_form.specs.Clauses.{clause_form};
-ghost use Rattle.clause_form.specs.Flat.{AreFlat};
+ghost use Rattle.ground_terms.specs.Literals.{AreFlat, AreOver};
 ghost use Rattle.clause_form.specs.Meaning.{Extends, ExtendsToModel, atoms_of, true_atoms, places_all};
 
 use cnf_base::{entry_laws, opposite_laws};
@@ -29,7 +29,8 @@ pub fn clause_laws()
 }
 
 /// There are at most two clauses and one variable for each node, and a variable is an atom's or that of an And or an
-/// Or. Behind other formulas, formulas that are clauses already have at most two clauses each, and one place.
+/// Or. Behind other formulas, formulas that are clauses already have at most two clauses each, and one place; and where
+/// their atoms are among some given ones, there are no more variables than nodes before, these formulas and these atoms.
 pub fn size_laws()
     ensures clauses { (ps : Trees) → length (clause_form ps).clauses ≤ 2 * nodes_all ps }
     ensures variables { (ps : Trees) → (clause_form ps).variables ≤ nodes_all ps }
@@ -38,4 +39,8 @@ pub fn size_laws()
         → length (clause_form (trees_of (ps ++ qs))).clauses ≤ 2 * (nodes_all (trees_of ps) + length qs) }
     ensures places_behind { (ps qs : List Tree) → AreFlat qs
         → places_all (trees_of (ps ++ qs)) ≤ places_all (trees_of ps) + length qs }
-{}
+    ensures variables_behind { (ps qs : List Tree) (atoms : List Atom) → AreFlat qs → AreOver atoms (trees_of qs)
+        → (clause_form (trees_of (ps ++ qs))).variables ≤ nodes_all (trees_of ps) + length qs + length atoms }
+{
+    atom_laws();
+}

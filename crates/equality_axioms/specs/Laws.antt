@@ -8,7 +8,8 @@ use Rattle.fol_sig.specs.Symbols.{Symbols, AreSorted, FitsStructure}
 use Rattle.fol_sig.specs.Strata.{IsStrata}
 use Rattle.ground_terms.specs.Terms.{Lists, AreClosed}
 use Rattle.ground_terms.specs.Numberings.{Numbering, numbering}
-use Rattle.ground_terms.specs.Trees.{all_true, trees_of}
+use Rattle.ground_terms.specs.Trees.{Tree, all_true, trees_of}
+use Rattle.ground_terms.specs.Literals.{AreFlat, AreOver, all_positives}
 use Rattle.ground_terms.specs.Values.{Elements, Realises, term_values, atoms_in}
 use Rattle.ground_terms.specs.declared.atom.Atom.{Atom}
 use Rattle.ground_terms.specs.declared.atom.Atom.TheVariants.{Rel, Eq}
@@ -50,3 +51,13 @@ pub record IsEquality (sig : Symbols) (names : Numbering) (a : Atom → Bool) : 
 abbrev pub AxiomsGiveEquality : Type 0
 AxiomsGiveEquality = (sig : Symbols) (lists : Lists) (a : Atom → Bool)
     → all_true a (trees_of (equality_axioms sig lists)) ≡ true → IsEquality sig (numbering sig lists) a
+
+-- each formula is a clause with one positive literal, and each atom stands positive in one of them
+pub record AreImplications (axioms : List Tree) : Type 0 where
+  pub flat : AreFlat axioms
+  pub single : length (all_positives (trees_of axioms)) ≡ length axioms
+  pub over : AreOver (all_positives (trees_of axioms)) (trees_of axioms)
+
+abbrev pub AxiomsAreImplications : Type 0
+AxiomsAreImplications = (sig : Symbols) (lists : Lists) → AreSorted sig → AreClosed sig lists
+    → AreImplications (equality_axioms sig lists)

@@ -6,11 +6,13 @@
 //! never kept: each is handed to a sink.
 #![tactic(auto)]
 
-mod axioms;
 mod clauses;
+mod handing;
 mod laws;
+mod listing;
 mod scheme;
 mod tuples;
 
-pub use axioms::axioms_into;
-pub use laws::{axiom_laws, equality_laws};
+pub use handing::axioms_into;
+pub use laws::{axiom_laws, equality_laws, implication_law};
+pub use listing::axioms;

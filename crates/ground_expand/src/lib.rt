@@ -6,8 +6,10 @@
 
 mod expanding;
 mod laws;
+mod listing;
 mod places;
 mod scope;
 
 pub use expanding::expand_into;
 pub use laws::instance_laws;
+pub use listing::expand;

@@ -1,6 +1,7 @@
 mod Saturated
 mod Raised
 mod Turns
+mod RowSums
 mod Along
 mod Counted
 mod LeafCounts

@@ -1,6 +1,7 @@
 -- What the walks over a sentence compute in 64 bits.
 use Rattle.std.specs.Prelude.{ℕ, ◌+◌, List, [], ◌∷◌, slice_index, slice_set}
 use Rattle.fol_sig.specs.Symbols.{Symbols}
+use Rattle.fol_sig.specs.Tables.{tuple_count}
 use Rattle.fol_formula.specs.Syntax.{
   FormTree,
   FormTrees,
@@ -46,6 +47,10 @@ abbrev mutual
   pub all_raised : ℕ → ℕ → FormTrees → List ℕ → List ℕ
   all_raised as_is negated no_forms counts = counts
   all_raised as_is negated (form_then p ps) counts = all_raised as_is negated ps (raised as_is negated p counts)
+
+-- the tuples of terms that a function is applied to
+abbrev pub own_count : Symbols → List ℕ → ℕ → ℕ
+own_count sig counts f = tuple_count counts (sig.from_of f)
 
 -- the terms of a sort with so many constants besides
 abbrev pub capped_count : Symbols → ℕ → List ℕ → ℕ → ℕ

@@ -1,18 +1,19 @@
 // How many ground terms each sort has once the existentials of a sentence are constants. No term is made.
-ghost use Rattle.std.specs.Prelude.{◌≡◌, ◌+◌, ◌<◌, [], length, replicate, IfOk};
+ghost use Rattle.std.specs.Prelude.{◌≡◌, ◌+◌, ◌<◌, [], length, map, replicate, sum_by, All, IfOk};
 ghost use Rattle.fol_sig.specs.Symbols.{symbols};
 ghost use Rattle.fol_sig.specs.Strata.{IsStrata};
 ghost use Rattle.fol_formula.specs.Counts.{saturated};
 ghost use Rattle.fol_formula.specs.Fits.{FitsForm};
-ghost use Rattle.ground_terms.specs.TermCounts.{sum_below, application_count};
+ghost use Rattle.ground_terms.specs.TermCounts.{or_one};
 ghost use Rattle.ground_size.specs.Counting.{AreCounted};
-ghost use Rattle.ground_size.specs.Walks.{raised, capped_count, capped_counts};
+ghost use Rattle.ground_size.specs.Walks.{raised, capped_counts, own_count};
 
 use crate::counts::{Counts, count_of, set_count, tuples};
 use crate::existentials::add_existentials;
 use base::Mem;
 use fol_formula::Ea;
-use fol_sig::{FunId, Signature, Sort, Strata};
+use fol_sig::{FunId, Signature, Strata};
+use ground_terms::FunctionsInto;
 use std::alloc::Global;
 
 /// Counts the ground terms of the signature with a constant for each existential of the sentence's normal form. An
@@ -39,37 +40,30 @@ fn counts_along(
     strata: &Strata,
     constants: &[u64],
 ) -> Mem<Vec<u64>>
+    requires { All (λ k. k < signature.now.sorts) strata.now }
     ensures { IfOk result (λ counts. counts.items
         ≡ capped_counts (symbols signature.now) constants.now strata.now (replicate signature.now.sorts 0)) }
 {
+    let functions = FunctionsInto::new(alloc, signature)?;
     let mut counts = vec![in alloc; 0u64; signature.sorts() as usize]?;
     for sort in strata.order() {
-        let count = terms_into(signature, &counts, count_of(constants, *sort), *sort);
+        let own = count_of(constants, *sort);
+        let count = terms_of(signature, &counts, own, functions.of_sort(*sort));
         set_count(&mut counts, *sort, count);
     }
     Ok(counts)
 }
 
-// The terms of a sort that has these constants besides: the functions applied to the terms that are counted, and the
-// default constant where there are none.
-fn terms_into(signature: &Signature, counts: &[u64], constants: u64, sort: Sort) -> u64
-    ensures { result ≡ capped_count (symbols signature.now) constants counts.now sort.0 }
+// The terms of a sort that has these constants besides, and these functions into it: the functions applied to the terms
+// that are counted, and the default constant where there are none.
+fn terms_of(signature: &Signature, counts: &[u64], constants: u64, functions: &[FunId]) -> u64
+    requires { All (λ f. f < length signature.now.functions) (map (λ f. f.0) functions.now) }
+    ensures { result ≡ saturated (or_one (constants
+        + sum_by (own_count (symbols signature.now) counts.now) (map (λ f. f.0) functions.now))) }
 {
     let mut terms = constants;
-    for f in 0..signature.function_count() {
-        terms = terms.saturating_add(applications(signature, counts, sort, FunId(f)));
+    for function in functions {
+        terms = terms.saturating_add(tuples(counts, signature.from_of(*function)));
     }
     if terms == 0 { 1 } else { terms }
-}
-
-// The applications of a function, if it is one into the sort.
-fn applications(signature: &Signature, counts: &[u64], sort: Sort, function: FunId) -> u64
-    requires { function.0 < length signature.now.functions }
-    ensures { result ≡ saturated (application_count (symbols signature.now) counts.now sort.0 function.0) }
-{
-    if signature.into_of(function).0 == sort.0 {
-        tuples(counts, signature.from_of(function))
-    } else {
-        0
-    }
 }

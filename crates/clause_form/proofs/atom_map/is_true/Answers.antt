@@ -1,4 +1,4 @@
-use Rattle.std.proofs.Common.{◌≡◌, ℕ, ◌-◌, ◌<◌, false, get_or, max, ap, arith, ◌∙◌}
+use Rattle.std.proofs.Common.{◌≡◌, ℕ, ◌-◌, ◌<◌, false, get_or, ap, arith, ◌∙◌}
 use Rattle.clause_form.proofs.atom_map.is_true.Goals as goal
 
 pub returns : goal.returns

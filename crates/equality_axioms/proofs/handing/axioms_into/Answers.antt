@@ -7,7 +7,7 @@ use Rattle.ground_terms.specs.Calls.{Call}
 use Rattle.ground_terms.specs.Taking.{TakesSome, Hands, calls_of_each, refused, begins, cut, step, stop, last}
 use Rattle.equality_axioms.specs.Axioms.{sort_axioms, relation_axioms, function_axioms}
 use Rattle.equality_axioms.proofs.Walks.{three_parts}
-use Rattle.equality_axioms.proofs.axioms.axioms_into.Goals as goal
+use Rattle.equality_axioms.proofs.handing.axioms_into.Goals as goal
 
 pub returns-in_err-hand_sorts : goal.returns-in_err-hand_sorts
 returns-in_err-hand_sorts g c =

@@ -8,7 +8,7 @@ use Rattle.ground_terms.specs.Calls.{Call}
 use Rattle.ground_terms.specs.Taking.{TakesAll, calls_of_each, refused, each_taken, some_taken}
 use Rattle.equality_axioms.specs.declared.scheme.Scheme.TheVariants.{Function}
 use Rattle.equality_axioms.specs.Axioms.{scheme_axioms}
-use Rattle.equality_axioms.proofs.axioms.hand_function.Goals as goal
+use Rattle.equality_axioms.proofs.handing.hand_function.Goals as goal
 
 pub loop-place-preserved : goal.loop-place-preserved
 loop-place-preserved g c =

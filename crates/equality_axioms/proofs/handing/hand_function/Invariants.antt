@@ -4,7 +4,7 @@ use Rattle.ground_terms.specs.Numberings.{numbering}
 use Rattle.ground_terms.specs.Taking.{TakesAll, calls_of_each}
 use Rattle.equality_axioms.specs.declared.scheme.Scheme.TheVariants.{Function}
 use Rattle.equality_axioms.specs.Axioms.{scheme_axioms}
-use Rattle.equality_axioms.proofs.axioms.hand_function.Given as goal
+use Rattle.equality_axioms.proofs.handing.hand_function.Given as goal
 
 abbrev pub invariant-loop-place : goal.invariant-loop-place
 invariant-loop-place g l =

@@ -6,7 +6,7 @@ use Rattle.ground_terms.specs.Trees.{Tree}
 use Rattle.ground_terms.specs.Calls.{Call}
 use Rattle.ground_terms.specs.Taking.{TakesAll, calls_of_each, refused, each_taken, some_taken}
 use Rattle.equality_axioms.specs.Axioms.{function_axioms}
-use Rattle.equality_axioms.proofs.axioms.hand_functions.Goals as goal
+use Rattle.equality_axioms.proofs.handing.hand_functions.Goals as goal
 
 pub loop-f-preserved : goal.loop-f-preserved
 loop-f-preserved g c =

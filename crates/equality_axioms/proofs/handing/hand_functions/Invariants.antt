@@ -3,7 +3,7 @@ use Rattle.fol_sig.specs.Tuples.{join_below}
 use Rattle.ground_terms.specs.Numberings.{numbering}
 use Rattle.ground_terms.specs.Taking.{TakesAll, calls_of_each}
 use Rattle.equality_axioms.specs.Axioms.{function_axioms}
-use Rattle.equality_axioms.proofs.axioms.hand_functions.Given as goal
+use Rattle.equality_axioms.proofs.handing.hand_functions.Given as goal
 
 abbrev pub invariant-loop-f : goal.invariant-loop-f
 invariant-loop-f g l =

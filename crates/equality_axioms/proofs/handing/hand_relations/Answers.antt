@@ -6,7 +6,7 @@ use Rattle.ground_terms.specs.Trees.{Tree}
 use Rattle.ground_terms.specs.Calls.{Call}
 use Rattle.ground_terms.specs.Taking.{TakesAll, calls_of_each, refused, each_taken, some_taken}
 use Rattle.equality_axioms.specs.Axioms.{relation_axioms}
-use Rattle.equality_axioms.proofs.axioms.hand_relations.Goals as goal
+use Rattle.equality_axioms.proofs.handing.hand_relations.Goals as goal
 
 pub loop-r-preserved : goal.loop-r-preserved
 loop-r-preserved g c =

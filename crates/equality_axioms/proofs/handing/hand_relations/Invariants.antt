@@ -3,7 +3,7 @@ use Rattle.fol_sig.specs.Tuples.{join_below}
 use Rattle.ground_terms.specs.Numberings.{numbering}
 use Rattle.ground_terms.specs.Taking.{TakesAll, calls_of_each}
 use Rattle.equality_axioms.specs.Axioms.{relation_axioms}
-use Rattle.equality_axioms.proofs.axioms.hand_relations.Given as goal
+use Rattle.equality_axioms.proofs.handing.hand_relations.Given as goal
 
 abbrev pub invariant-loop-r : goal.invariant-loop-r
 invariant-loop-r g l =

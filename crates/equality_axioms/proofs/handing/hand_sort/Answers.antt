@@ -7,7 +7,7 @@ use Rattle.ground_terms.specs.Taking.{TakesSome, Hands, calls_of_each, refused, 
 use Rattle.equality_axioms.specs.declared.scheme.Scheme.TheVariants.{Reflexive, Symmetric, Transitive}
 use Rattle.equality_axioms.specs.Axioms.{scheme_axioms}
 use Rattle.equality_axioms.proofs.Walks.{three_parts}
-use Rattle.equality_axioms.proofs.axioms.hand_sort.Goals as goal
+use Rattle.equality_axioms.proofs.handing.hand_sort.Goals as goal
 
 pub returns-in_err-hand_scheme : goal.returns-in_err-hand_scheme
 returns-in_err-hand_scheme g c =

@@ -6,7 +6,7 @@ use Rattle.ground_terms.specs.Trees.{Tree}
 use Rattle.ground_terms.specs.Calls.{Call}
 use Rattle.ground_terms.specs.Taking.{TakesAll, calls_of_each, refused, each_taken, some_taken}
 use Rattle.equality_axioms.specs.Axioms.{sort_axioms}
-use Rattle.equality_axioms.proofs.axioms.hand_sorts.Goals as goal
+use Rattle.equality_axioms.proofs.handing.hand_sorts.Goals as goal
 
 pub loop-k-preserved : goal.loop-k-preserved
 loop-k-preserved g c =

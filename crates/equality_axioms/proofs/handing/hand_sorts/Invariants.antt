@@ -3,7 +3,7 @@ use Rattle.fol_sig.specs.Tuples.{join_below}
 use Rattle.ground_terms.specs.Numberings.{numbering}
 use Rattle.ground_terms.specs.Taking.{TakesAll, calls_of_each}
 use Rattle.equality_axioms.specs.Axioms.{sort_axioms}
-use Rattle.equality_axioms.proofs.axioms.hand_sorts.Given as goal
+use Rattle.equality_axioms.proofs.handing.hand_sorts.Given as goal
 
 abbrev pub invariant-loop-k : goal.invariant-loop-k
 invariant-loop-k g l =

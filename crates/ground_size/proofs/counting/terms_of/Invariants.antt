@@ -1,9 +1,11 @@
-use Rattle.std.proofs.Common.{◌≡◌, ◌+◌}
+use Rattle.std.proofs.Common.{◌≡◌, ◌+◌, take, map, sum_by}
 use Rattle.fol_sig.specs.Symbols.{symbols}
 use Rattle.fol_formula.specs.Counts.{saturated}
-use Rattle.ground_terms.specs.TermCounts.{sum_below, application_count}
-use Rattle.ground_size.proofs.counting.terms_into.Given as goal
+use Rattle.ground_size.specs.Walks.{own_count}
+use Rattle.ground_size.proofs.RowSums.{number}
+use Rattle.ground_size.proofs.counting.terms_of.Given as goal
 
-abbrev pub invariant-loop-f : goal.invariant-loop-f
-invariant-loop-f l = l.terms
-    ≡ saturated (l.constants + sum_below l.f (application_count (symbols l.signature) l.counts l.sort.0))
+abbrev pub invariant-loop-function : goal.invariant-loop-function
+invariant-loop-function l = l.terms
+    ≡ saturated (l.constants + sum_by (own_count (symbols l.signature) l.counts)
+    (map number (take l.function-index l.functions)))

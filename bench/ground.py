@@ -1,0 +1,90 @@
+#!/usr/bin/env python3
+"""Times the way from sentences to clauses, on the goal of each file that has the most clauses.
+
+    bench/ground.py [--program P] FILE ..    the program is crates/ivycheck/out/ivycheck
+
+The ground size of the goal, that is the counted nodes and axioms, is the least `--ground G` with which `emit FILE GOAL
+cnf` gives clauses; with G - 1 the same run ends before any ground term is made. The difference of the two, the least
+user and system time of seven runs each and the peak of memory, is the way from the sentence to clauses in memory and,
+since `emit` does that too, to their text. Printed are nodes and axioms a second of that time, bytes of memory a clause,
+and the bytes of text, which are written at some 300 MB a second.
+"""
+import argparse
+import os
+import subprocess
+
+HERE = os.path.dirname(os.path.dirname(os.path.abspath(__file__)))
+
+
+def run(words):
+    """The status, the seconds and the peak in bytes of a run."""
+    with open(os.devnull, "w") as nothing:
+        child = subprocess.Popen(words, stdout=nothing, stderr=nothing)
+        _, status, used = os.wait4(child.pid, 0)
+    return os.waitstatus_to_exitcode(status), used.ru_utime + used.ru_stime, used.ru_maxrss * 1024
+
+
+def least(words):
+    """The least seconds and the least peak of seven runs."""
+    runs = [run(words) for _ in range(7)]
+    return min(seconds for _, seconds, _ in runs), min(peak for _, _, peak in runs)
+
+
+class Goal:
+    """A goal's clauses, as `emit` writes them."""
+
+    def __init__(self, program, file, number):
+        self.words = [program, "emit", file, str(number), "cnf"]
+        self.number = number
+
+    def clauses(self):
+        """How many clauses there are, and the bytes of their text; none where there is no such goal."""
+        made = subprocess.run(self.with_ground(50_000_000), capture_output=True)
+        line = next((line for line in made.stdout.split(b"\n", 20) if line.startswith(b"p cnf ")), None)
+        return (int(line.split()[3]), len(made.stdout)) if line else None
+
+    def with_ground(self, size):
+        """The command with this limit of the ground size."""
+        return self.words + ["--terms", "100000", "--ground", str(size)]
+
+    def ground_size(self):
+        """The least limit with which there are clauses."""
+        low, high = 1, 50_000_000
+        while low < high:
+            middle = (low + high) // 2
+            if run(self.with_ground(middle))[0] == 0:
+                high = middle
+            else:
+                low = middle + 1
+        return low
+
+
+def largest(program, file):
+    """The goal with the most clauses, with their number and the bytes of their text."""
+    best, number = None, 1
+    while (clauses := Goal(program, file, number).clauses()) is not None:
+        if best is None or clauses > best[1]:
+            best = (Goal(program, file, number), clauses)
+        number += 1
+    return best
+
+
+def main():
+    parser = argparse.ArgumentParser()
+    parser.add_argument("--program", default=f"{HERE}/crates/ivycheck/out/ivycheck")
+    parser.add_argument("files", nargs="+")
+    given = parser.parse_args()
+    print("| Goal | Ground size | Clauses | Text | Seconds | Million nodes a second | Bytes a clause |")
+    print("|---|---|---|---|---|---|---|")
+    for file in given.files:
+        goal, (clauses, text) = largest(given.program, file)
+        size = goal.ground_size()
+        seconds, peak = least(goal.with_ground(size))
+        before, without = least(goal.with_ground(size - 1))
+        took = max(seconds - before, 1e-6)
+        print(f"| `{os.path.basename(file)}` {goal.number} | {size:,} | {clauses:,} | {text / 1e6:.1f} MB | {took:.3f} | "
+              f"{size / took / 1e6:.1f} | {(peak - without) / clauses:.0f} |", flush=True)
+
+
+if __name__ == "__main__":
+    main()
