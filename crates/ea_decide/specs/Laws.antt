@@ -1,11 +1,19 @@
--- The limit that a sentence passes first is a function of the sentence.
-use Rattle.std.specs.Prelude.{◌≡◌, ℕ, List, [], Option}
+-- The limit that a sentence passes first is a function of the sentence, and its clauses are as few as counted.
+use Rattle.std.specs.Prelude.{◌≡◌, ◌≤◌, ◌*◌, ℕ, List, [], Option, length}
 use Rattle.fol_sig.specs.Tables.{Declared}
-use Rattle.fol_sig.specs.Symbols.{symbols}
+use Rattle.fol_sig.specs.Symbols.{AreSorted, symbols}
 use Rattle.fol_sig.specs.Strata.{IsStrata}
 use Rattle.fol_formula.specs.Syntax.{FormTree}
 use Rattle.fol_formula.specs.Fits.{FitsForm}
+use Rattle.fol_formula.specs.Fragments.{IsEa}
+use Rattle.cnf_base.specs.Formulas.{Formula}
+use Rattle.ground_terms.specs.Terms.{Lists, AreClosed, term_counts}
+use Rattle.ground_terms.specs.Trees.{trees_of}
+use Rattle.clause_form.specs.Clauses.{clause_form}
+use Rattle.ground_size.specs.Counting.{skolem_signature}
+use Rattle.ground_size.specs.Sizes.{size_of}
 use Rattle.ea_decide.specs.declared.decided.Passed.{Passed}
+use Rattle.ea_decide.specs.GroundForm.{ground_formulas}
 use Rattle.ea_decide.specs.Passing.{Ceilings, Passes}
 
 -- where the sorts have an order
@@ -13,3 +21,15 @@ abbrev pub FirstLimitIsOne : Type 0
 FirstLimitIsOne = (limits : Ceilings) (sig : Declared) (p : FormTree) (order : List ℕ) (a b : Option Passed)
     → IsStrata (symbols sig) order → FitsForm (symbols sig) [] p
     → Passes limits sig p a → Passes limits sig p b → a ≡ b
+
+-- how large clauses are, for a size
+pub record AreWithin (size : ℕ) (f : Formula) : Type 0 where
+  pub clauses : length f.clauses ≤ 2 * size
+  pub variables : f.variables ≤ 2 * size
+
+-- the clauses of a sentence are within its ground size, which is counted before any is made
+abbrev pub ClausesAreWithinSize : Type 0
+ClausesAreWithinSize = (sig : Declared) (p : FormTree) (lists : Lists)
+    → AreSorted (symbols sig) → IsEa p → FitsForm (symbols sig) [] p
+    → AreClosed (symbols (skolem_signature sig p)) lists
+    → AreWithin (size_of sig (term_counts lists) p) (clause_form (trees_of (ground_formulas sig p lists)))
