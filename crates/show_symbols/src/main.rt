@@ -1,7 +1,8 @@
-//! Prints what is answered to calls on symbols: signatures, structures, the order of sorts, and tuples. What `stdout`
-//! holds was written down from outside: by hand, from the definitions.
+//! Prints what is answered to calls on symbols: signatures, structures, the order of sorts, tuples, and the ground
+//! formulas of a sentence. What `stdout` holds was written down from outside: by hand, from the definitions.
 #![tactic(auto)]
 
+mod ground;
 mod structures;
 
 use std::io;
@@ -9,7 +10,8 @@ use std::process::ExitCode;
 
 fn tell_all(rt: HostRuntime) -> io::Result<()> {
     let alloc = rt.alloc();
-    structures::tell(&rt, alloc)
+    structures::tell(&rt, alloc)?;
+    ground::tell(&rt, alloc)
 }
 
 fn main(rt: HostRuntime) -> ExitCode {
