@@ -82,8 +82,10 @@ def main():
         seconds, peak = least(goal.with_ground(size))
         before, without = least(goal.with_ground(size - 1))
         took = max(seconds - before, 1e-6)
-        print(f"| `{os.path.basename(file)}` {goal.number} | {size:,} | {clauses:,} | {text / 1e6:.1f} MB | {took:.3f} | "
-              f"{size / took / 1e6:.1f} | {(peak - without) / clauses:.0f} |", flush=True)
+        name = f"`{os.path.basename(file)}` {goal.number}"
+        made = f"{size:,} | {clauses:,} | {text / 1e6:.1f} MB"
+        speed = f"{took:.3f} | {size / took / 1e6:.1f} | {(peak - without) / clauses:.0f}"
+        print(f"| {name} | {made} | {speed} |", flush=True)
 
 
 if __name__ == "__main__":

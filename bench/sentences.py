@@ -26,8 +26,8 @@ def seconds(words):
 
 
 def long_path():
-    """900 times `p := p`, and axioms of 1,091 nodes in all: ten, each of a conjunction of 36 equations. The precondition
-    then has 982,801 nodes, which is within the limit."""
+    """900 times `p := p`, and axioms of 1,091 nodes in all: ten, each of a conjunction of 36 equations. The
+    precondition then has 982,801 nodes, which is within the limit."""
     equations = " & ".join(["u = v"] * 36)
     axioms = "".join(f"axiom x{i}: {equations}\n" for i in range(10))
     return ("sort a\nrelation p\nvariable u : a\nvariable v : a\n" + axioms + "action t {" + "p := p; " * 900
