@@ -39,9 +39,15 @@ class Goal:
 
     def clauses(self):
         """How many clauses there are, and the bytes of their text; none where there is no such goal."""
-        made = subprocess.run(self.with_ground(50_000_000), capture_output=True)
-        line = next((line for line in made.stdout.split(b"\n", 20) if line.startswith(b"p cnf ")), None)
-        return (int(line.split()[3]), len(made.stdout)) if line else None
+        count, size = None, 0
+        made = subprocess.Popen(self.with_ground(50_000_000), stdout=subprocess.PIPE, stderr=subprocess.DEVNULL)
+        # Line by line, since a child's peak counts what this process had when it began.
+        for line in made.stdout:
+            size += len(line)
+            if count is None and line.startswith(b"p cnf "):
+                count = int(line.split()[3])
+        made.wait()
+        return None if count is None else (count, size)
 
     def with_ground(self, size):
         """The command with this limit of the ground size."""
