@@ -30,7 +30,7 @@ pub fn clause_laws()
 
 /// There are at most two clauses and one variable for each node, and a variable is an atom's or that of an And or an
 /// Or. Behind other formulas, formulas that are clauses already have at most two clauses each, and one place; and where
-/// their atoms are among some given ones, there are no more variables than nodes before, these formulas and these atoms.
+/// their atoms are among given ones, there are no more variables than nodes before, these formulas and these atoms.
 pub fn size_laws()
     ensures clauses { (ps : Trees) → length (clause_form ps).clauses ≤ 2 * nodes_all ps }
     ensures variables { (ps : Trees) → (clause_form ps).variables ≤ nodes_all ps }
