@@ -122,16 +122,16 @@ impl ModelDraft {
         ensures value { result ≡ meaning_from (model_in self.now) depth (bound_names scope.now) name.now }
         ensures declared { IsDeclared (model_in self.now) result }
     {
-        match scope {
-            Scope::Outside => self.symbol(name),
-            Scope::Inside(bound, outer) => {
-                if name == bound.name {
-                    Meaning::Bound(depth, bound.sort)
-                } else {
-                    self.meaning_from(depth + 1, outer, name)
-                }
+        let mut index = depth;
+        let mut around = scope;
+        while let Scope::Inside(bound, outer) = around {
+            if name == bound.name {
+                return Meaning::Bound(index, bound.sort);
             }
+            index += 1;
+            around = outer;
         }
+        self.symbol(name)
     }
 
     /// The sorts of the arguments of what is meant; a bound name has none.
