@@ -19,7 +19,7 @@ use std::alloc::Global;
 #[derive(Drop)]
 pub struct Learnt {
     pub literals: Vec<Lit>,
-    pub hints: Vec<u64>,
+    pub hints: Vec<u32>,
     pub tops: usize,
     pub second: usize,
 }
@@ -221,7 +221,7 @@ fn analyse(
     let mut found = Vec::new(alloc);
     let mut hints = Vec::new(alloc);
     let (mut tops, mut second) = (0, 0);
-    hints.push(analysis.conflict as u64)?;
+    hints.push(analysis.conflict)?;
     let clause = clauses.clause(analysis.conflict);
     let mut open = mark_clause(marks, clause, None, trail, levels.top);
     let mut t = trail.len();
@@ -243,7 +243,7 @@ fn analyse(
                 second = second_place(second, t, levels.top);
                 found.push(step.literal.opposite())?;
             } else {
-                hints.push(step.reason as u64)?;
+                hints.push(step.reason)?;
                 let reason = clauses.clause(step.reason);
                 let more = mark_clause(marks, reason, Some(step.literal), trail, levels.top);
                 open = open.wrapping_add(more);
@@ -308,7 +308,7 @@ pub fn refute(
     trail: &Trail,
     marks: &mut [bool],
     conflict: u32,
-) -> Mem<Vec<u64>>
+) -> Mem<Vec<u32>>
     requires tables { IsHolding clauses.now trail.now }
     requires size { length marks.old ≡ trail.now.size }
     requires clear { (l : ℕ) → is_marked marks.old l ≡ false }

@@ -21,7 +21,7 @@ use std::alloc::Global;
 #[derive(Drop)]
 pub enum Loaded {
     Ready(Solver),
-    Refuted(Vec<u64>),
+    Refuted(Vec<u32>),
 }
 
 impl Search {

@@ -226,7 +226,7 @@ impl Search {
     }
 
     /// The hints of the empty clause, from a conflict at level 0.
-    pub fn refute(&mut self, alloc: Global, conflict: u32) -> Mem<Vec<u64>>
+    pub fn refute(&mut self, alloc: Global, conflict: u32) -> Mem<Vec<u32>>
         requires state { IsState self.old.state }
         requires marked { length self.old.marks.items ≡ self.old.state.trail.size }
         requires clear { (l : ℕ) → is_marked self.old.marks.items l ≡ false }

@@ -48,7 +48,7 @@ pub enum Answer {
 #[derive(Drop)]
 pub enum Turn {
     Satisfied(Solver),
-    Refuted(Vec<u64>),
+    Refuted(Vec<u32>),
     Conflict(Solver, u32),
 }
 
@@ -130,7 +130,7 @@ fn learn_line<S: Sink>(
 }
 
 /// Hands the empty clause over, under the next id.
-fn refute<S: Sink>(alloc: Global, sink: &mut S, hints: Vec<u64>, id: u64) -> Mem<()>
+fn refute<S: Sink>(alloc: Global, sink: &mut S, hints: Vec<u32>, id: u64) -> Mem<()>
     requires logged { (held : List Entry) × IsLogged (S.formula sink.old) held (S.lines sink.old)
         × IsResolvent (held_by held) [] hints.items }
     requires id { id ≡ length (S.formula sink.old).clauses + length (S.lines sink.old) + 1 }

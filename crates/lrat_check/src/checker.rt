@@ -147,7 +147,7 @@ impl Checker {
         &mut self,
         id: u64,
         lits: Row<Lit>,
-        hints: Row<u64>,
+        hints: Row<u32>,
     ) -> Result<(), Refused<Refusal>>
         requires { MayStep self.old (Add id lits hints) }
         ensures accepted { OnOk result (outcome_of_addition (held_now self.old) lits hints ≡ Accepted) }
@@ -174,7 +174,7 @@ impl Checker {
         Ok(())
     }
 
-    fn step_deletion(&mut self, id: u64, ids: Row<u64>) -> Result<(), Refused<Refusal>>
+    fn step_deletion(&mut self, id: u64, ids: Row<u32>) -> Result<(), Refused<Refusal>>
         ensures accepted { OnOk result (outcome_of_deletion (held_now self.old) ids ≡ Accepted) }
         ensures kept { OnOk result (self.new
             ≡ record { formula = self.old.formula; lines = self.old.lines ++ Delete id ids ∷ [] }) }

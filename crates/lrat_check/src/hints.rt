@@ -64,13 +64,13 @@ fn effect_of_hint(set: &LitSet, spans: &[Span], literals: &[Lit], hint: u64) -> 
 }
 
 /// The hints, each in turn. What they set stays in the set.
-pub fn run_hints(set: &mut LitSet, spans: &[Span], literals: &[Lit], hints: &[u64]) -> Mem<Outcome>
+pub fn run_hints(set: &mut LitSet, spans: &[Span], literals: &[Lit], hints: &[u32]) -> Mem<Outcome>
     requires sorted { AreSorted spans.now }
     requires within { AreWithin spans.now (length literals.now) }
     ensures { IfOk result (λ r. r ≡ outcome_of_hints (held_in literals.now spans.now) hints.now (set_of set.old)) }
 {
     for hint in hints {
-        match effect_of_hint(set, spans, literals, *hint) {
+        match effect_of_hint(set, spans, literals, *hint as u64) {
             Effect::Unknown => return Ok(Outcome::Refused(RefusalCode::UnknownId)),
             Effect::Falsified => return Ok(Outcome::Accepted),
             Effect::Sets(l) => set.insert(l)?,

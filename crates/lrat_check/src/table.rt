@@ -43,7 +43,7 @@ ghost use Rattle.lrat_check.specs.TableValue.{held_by_table};
 ghost use Rattle.lrat_check.specs.declared.spans.Span.{Span};
 
 // Marks the span of each id, until it meets one that is not held or marked already.
-fn check_ids(spans: &[Span], marks: &mut [u32], epoch: u32, ids: &[u64]) -> Outcome
+fn check_ids(spans: &[Span], marks: &mut [u32], epoch: u32, ids: &[u32]) -> Outcome
     requires sorted { AreSorted spans.now }
     requires marks_size { length marks.old ≡ length spans.now }
     requires past { AreUpTo epoch marks.old }
@@ -52,7 +52,7 @@ fn check_ids(spans: &[Span], marks: &mut [u32], epoch: u32, ids: &[u64]) -> Outc
     ensures past { AreUpTo epoch marks.new }
 {
     for id in ids {
-        match find(spans, *id) {
+        match find(spans, *id as u64) {
             None => return Outcome::Refused(RefusalCode::UnknownId),
             Some(place) => {
                 if !spans[place].is_held || marks[place] == epoch {
@@ -94,7 +94,7 @@ fn delete_id(spans: &mut [Span], id: u64)
     }
 }
 
-fn delete_ids(spans: &mut [Span], ids: &[u64])
+fn delete_ids(spans: &mut [Span], ids: &[u32])
     requires sorted { AreSorted spans.old }
     ensures held { (literals : List ℕ) (k : ℕ) → held_in literals spans.new k
         ≡ without (held_in literals spans.old) ids.now k }
@@ -103,7 +103,7 @@ fn delete_ids(spans: &mut [Span], ids: &[u64])
     ensures ids { (k : ℕ) (d : Span) → (get_or spans.new k d).id ≡ (get_or spans.old k d).id }
 {
     for id in ids {
-        delete_id(spans, *id);
+        delete_id(spans, *id as u64);
     }
 }
 
@@ -113,7 +113,7 @@ fn check_clause(
     spans: &[Span],
     literals: &[Lit],
     clause: &[Lit],
-    hints: &[u64],
+    hints: &[u32],
 ) -> Mem<(Outcome, bool)>
     requires sorted { AreSorted spans.now }
     requires within { AreWithin spans.now (length literals.now) }
@@ -145,7 +145,7 @@ impl Table {
     }
 
     /// Whether an addition is accepted, and whether it has opposite literals.
-    pub fn check_addition(&mut self, clause: &[Lit], hints: &[u64]) -> Mem<(Outcome, bool)>
+    pub fn check_addition(&mut self, clause: &[Lit], hints: &[u32]) -> Mem<(Outcome, bool)>
         ensures outcome { IfOk result (λ r. r.0 ≡ outcome_of_addition (held_by_table self.old) clause.now hints.now) }
         ensures opposites { IfOk result (λ r. r.1 ≡ has_opposites clause.now) }
         ensures same { self.new ≡ self.old }
@@ -162,7 +162,7 @@ impl Table {
     }
 
     /// Whether a deletion is accepted: each id in turn is still held.
-    pub fn check_deletion(&mut self, ids: &[u64]) -> Outcome
+    pub fn check_deletion(&mut self, ids: &[u32]) -> Outcome
         ensures outcome { result ≡ outcome_of_deletion (held_by_table self.old) ids.now }
         ensures same { self.new ≡ self.old }
     {
@@ -176,7 +176,7 @@ impl Table {
     }
 
     /// The clauses of these ids are no longer held.
-    pub fn delete(&mut self, ids: &[u64])
+    pub fn delete(&mut self, ids: &[u32])
         ensures held { (k : ℕ) → held_by_table self.new k ≡ without (held_by_table self.old) ids.now k }
         ensures ids { (k : ℕ) (d : Span) → (get_or self.new.spans k d).id ≡ (get_or self.old.spans k d).id }
         ensures len { length self.new.spans ≡ length self.old.spans }

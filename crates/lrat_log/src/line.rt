@@ -13,11 +13,11 @@ pub enum Line {
     Add {
         id: u64,
         lits: Row<Lit>,
-        hints: Row<u64>,
+        hints: Row<u32>,
     },
     Delete {
         id: u64,
-        ids: Row<u64>,
+        ids: Row<u32>,
     },
 }
 

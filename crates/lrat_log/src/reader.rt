@@ -33,7 +33,7 @@ struct Reading {
     id: u64,
     place: u64,
     lits: Vec<Lit>,
-    ids: Vec<u64>,
+    ids: Vec<u32>,
 }
 
 fn fault(code: LogFaultCode, at: u64) -> Refused<LogFault>
@@ -133,7 +133,7 @@ impl Reading {
                 Err(_) => return Err(Refused::NoMemory),
             }
         }
-        self.push_id(number.value as u64)
+        self.push_id(number.value)
     }
 
     fn take_deleted(
@@ -156,10 +156,10 @@ impl Reading {
                 Err(_) => return Err(Refused::NoMemory),
             }
         }
-        self.push_id(number.value as u64)
+        self.push_id(number.value)
     }
 
-    fn push_id(&mut self, id: u64) -> Result<(), Refused<LogFault>>
+    fn push_id(&mut self, id: u32) -> Result<(), Refused<LogFault>>
         ensures { StepsTo (Ok (record (state_of self.old) { ids = self.old.ids.items ++ id ∷ [] }))
             (state_of self.new) result }
     {
@@ -240,7 +240,7 @@ impl Reading {
             if id == 0 {
                 return Ok(());
             }
-            if self.ids.push(id as u64).is_err() {
+            if self.ids.push(id).is_err() {
                 return Err(AllocError);
             }
         }

@@ -8,12 +8,12 @@ use cnf_base::push_literals;
 use std::alloc::Global;
 
 #[tactic(auto, using(std::proofs::Common::append_assoc))]
-fn push_ids(out: &mut Vec<u8>, ids: &[u64]) -> Mem<()>
+fn push_ids(out: &mut Vec<u8>, ids: &[u32]) -> Mem<()>
     ensures { OnOk result (out.new.items ≡ out.old.items ++ ids_text ids.now) }
 {
     let mut rest = ids;
     while let [id, after @ ..] = rest {
-        push_number(out, *id)?;
+        push_number(out, *id as u64)?;
         out.push(b' ')?;
         rest = after;
     }
