@@ -1,5 +1,7 @@
 #!/usr/bin/env python3
-"""Writes a formula in DIMACS CNF: `pigeons HOLES`, `random SEED VARIABLES RATIO`, or `chain CLAUSES`."""
+"""Writes a formula in DIMACS CNF: `pigeons HOLES`, `random SEED VARIABLES RATIO`, `chain CLAUSES`, or `copies FILE N`
+of a formula that unit propagation refutes."""
+import collections
 import random
 import sys
 
@@ -30,12 +32,60 @@ def chain(count):
     return count - 1, clauses
 
 
+def read(file):
+    """The variables and the clauses of a file without comments."""
+    with open(file) as text:
+        variables = int(next(text).split()[2])
+        return variables, [[int(word) for word in line.split()[:-1]] for line in text]
+
+
+def false_clause(clauses):
+    """The number of a clause that unit propagation makes false, if there is one."""
+    meets = collections.defaultdict(list)
+    for number, clause in enumerate(clauses):
+        for literal in clause:
+            meets[-literal].append(number)
+    left, true = [len(clause) for clause in clauses], set()
+    todo = [clause[0] for clause in clauses if len(clause) == 1]
+    while todo:
+        literal = todo.pop()
+        if literal in true:
+            continue
+        true.add(literal)
+        for number in meets[literal]:
+            left[number] -= 1
+            open_ones = [x for x in clauses[number] if -x not in true] if left[number] <= 1 else None
+            if open_ones == []:
+                return number
+            if open_ones and len(open_ones) == 1 and open_ones[0] not in true:
+                todo.append(open_ones[0])
+    return None
+
+
+def copies(file, count):
+    """Copies of a formula that propagation refutes, each over variables of its own. All but the last lack the clauses
+    that propagation makes false, so it goes through all of them before it ends in the last one."""
+    variables, clauses = read(file)
+    quiet = clauses
+    while (number := false_clause(quiet)) is not None:
+        quiet = quiet[:number] + quiet[number + 1 :]
+    moved = lambda literal, by: literal + by if literal > 0 else literal - by
+    made = [
+        [moved(literal, copy * variables) for literal in clause]
+        for copy in range(count)
+        for clause in (clauses if copy == count - 1 else quiet)
+    ]
+    return count * variables, made
+
+
 def main():
     kind, *words = sys.argv[1:]
     if kind == "pigeons":
         variables, clauses = pigeons(int(words[0]))
     elif kind == "random":
         variables, clauses = random_3sat(int(words[0]), int(words[1]), float(words[2]))
+    elif kind == "copies":
+        variables, clauses = copies(words[0], int(words[1]))
     else:
         variables, clauses = chain(int(words[0]))
     print("p cnf", variables, len(clauses))
