@@ -3,6 +3,7 @@ pub mod View
 pub mod Truth
 pub mod Fits
 pub mod Counts
+pub mod Indices
 pub mod Code
 pub mod Fragments
 pub mod NormalForms

@@ -1,19 +1,22 @@
 // How many nodes a formula has, and how deep it is.
-ghost use Rattle.std.specs.Prelude.{◌≡◌};
+ghost use Rattle.std.specs.Prelude.{◌≡◌, ◌<◌, ◌^◌};
 ghost use Rattle.fol_formula.specs.View.{form, term, forms, terms as terms_view};
 ghost use Rattle.fol_formula.specs.Counts.{form_nodes, term_nodes, forms_nodes, terms_nodes, form_depth, term_depth};
 ghost use Rattle.fol_formula.specs.Counts.{forms_depth, terms_depth, saturated};
+ghost use Rattle.fol_formula.specs.Indices.{IndicesFit, IndicesFitAll, IndicesFitTerm, IndicesFitTerms};
 
 use crate::{Formula, Term};
 
 impl Term {
-    /// How many term and formula constructors it has, or the greatest number where it has more.
+    /// How many term and formula constructors it has, or the greatest number where it has more. Since it
+    /// meets each index, it tells too that each is a number of four bytes.
     #[cycle(nodes)]
     pub fn nodes(&self) -> u64
-        ensures { result ≡ saturated (term_nodes (term self.now)) }
+        ensures count { result ≡ saturated (term_nodes (term self.now)) }
+        ensures indices { IndicesFitTerm (term self.now) }
     {
         match self {
-            Term::Bound(_) => 1,
+            Term::Bound(i) => node_of_index(*i),
             Term::App(_, args) => nodes_of_terms(args).saturating_add(1),
             Term::Ite(p, a, b) => p
                 .nodes()
@@ -37,10 +40,12 @@ impl Term {
 }
 
 impl Formula {
-    /// How many formula and term constructors it has, or the greatest number where it has more.
+    /// How many formula and term constructors it has, or the greatest number where it has more. Since it
+    /// meets each index, it tells too that each is a number of four bytes.
     #[cycle(nodes)]
     pub fn nodes(&self) -> u64
-        ensures { result ≡ saturated (form_nodes (form self.now)) }
+        ensures count { result ≡ saturated (form_nodes (form self.now)) }
+        ensures indices { IndicesFit (form self.now) }
     {
         match self {
             Formula::True => 1,
@@ -78,9 +83,18 @@ impl Formula {
     }
 }
 
+// An index is one node, and a number of four bytes.
+fn node_of_index(index: u32) -> u64
+    ensures count { result ≡ 1 }
+    ensures index { index < 2 ^ 32 }
+{
+    1
+}
+
 #[cycle(nodes)]
 fn nodes_of_terms(terms: &[Term]) -> u64
-    ensures { result ≡ saturated (terms_nodes (terms_view terms.now)) }
+    ensures count { result ≡ saturated (terms_nodes (terms_view terms.now)) }
+    ensures indices { IndicesFitTerms (terms_view terms.now) }
 {
     let mut sum = 0u64;
     for t in terms {
@@ -91,7 +105,8 @@ fn nodes_of_terms(terms: &[Term]) -> u64
 
 #[cycle(nodes)]
 fn nodes_of_formulas(formulas: &[Formula]) -> u64
-    ensures { result ≡ saturated (forms_nodes (forms formulas.now)) }
+    ensures count { result ≡ saturated (forms_nodes (forms formulas.now)) }
+    ensures indices { IndicesFitAll (forms formulas.now) }
 {
     let mut sum = 0u64;
     for p in formulas {

@@ -13,7 +13,8 @@ use Rattle.fol_formula.specs.Counts.{form_nodes, forms_nodes, term_nodes, terms_
 use Rattle.fol_formula.specs.Counts.{term_depth, terms_depth}
 use Rattle.fol_subst.specs.Replace.{put_form, put_term, Change, change_rel, change_fun, change_const, rel_instance}
 use Rattle.fol_subst.specs.Replace.{app_instance, changing, changed_form, changed_forms, changed_term, changed_terms}
-use Rattle.fol_subst.specs.Limits.{is_too_large, IndicesFit, IndicesFitAll, IndicesFitTerm, IndicesFitTerms}
+use Rattle.fol_formula.specs.Indices.{IndicesFit, IndicesFitAll, IndicesFitTerm, IndicesFitTerms}
+use Rattle.fol_subst.specs.Limits.{is_too_large}
 use Rattle.fol_subst.specs.Room.{AppTakes, ReadyForm, ReadyForms, ReadyTerm, ReadyTerms}
 use Rattle.fol_subst.specs.Extents.{capped, extent, none, one, beside, over, under, put_in, places_form, places_forms}
 use Rattle.fol_subst.specs.Extents.{places_term, places_terms, places_of, extent_form, extent_forms, extent_term}

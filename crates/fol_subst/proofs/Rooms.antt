@@ -17,7 +17,8 @@ use Rattle.fol_formula.specs.Lists.{TermLists, RowsAreLists}
 use Rattle.fol_subst.specs.Shift.{raised, shift_form, shift_forms, shift_term, shift_terms}
 use Rattle.fol_subst.specs.Replace.{picked, put_form, put_forms, put_term, put_terms, Change, change_rel, change_fun}
 use Rattle.fol_subst.specs.Replace.{rel_instance, app_instance, changing, changed_form, changed_terms, changed_term}
-use Rattle.fol_subst.specs.Limits.{is_too_large, IndicesFit, IndicesFitAll, IndicesFitTerm, IndicesFitTerms}
+use Rattle.fol_formula.specs.Indices.{IndicesFit, IndicesFitAll, IndicesFitTerm, IndicesFitTerms}
+use Rattle.fol_subst.specs.Limits.{is_too_large}
 use Rattle.fol_subst.specs.Room.{RoomForm, RoomForms, RoomTerm, RoomTerms, ReadyTerm, ReadyTerms, RelTakes, AppTakes}
 use Rattle.fol_subst.specs.Extents.{places_of, put_in, extent_term, extent_instance}
 use Rattle.fol_subst.specs.declared.extent.Extent.{Extent}

@@ -9,7 +9,8 @@ use Rattle.fol_subst.specs.Shift.{shift_form}
 use Rattle.fol_subst.specs.Replace.{Change, CanChange, changed_form, IsReplaced}
 use Rattle.fol_subst.specs.Structures.{IsReplacedInStructures}
 use Rattle.fol_subst.specs.KeptFragments.{HasNoQuantifier, KeepsFragments}
-use Rattle.fol_subst.specs.Limits.{is_too_large, IndicesFit}
+use Rattle.fol_formula.specs.Indices.{IndicesFit}
+use Rattle.fol_subst.specs.Limits.{is_too_large}
 
 -- what a replacement is asked of: the formula and what replaces the symbol fit a signature, and no index of the result
 -- is above 4294967295, unless the result is too large

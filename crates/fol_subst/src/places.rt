@@ -1,7 +1,7 @@
 // The places of an index that a formula does not bind.
 ghost use Rattle.std.specs.Prelude.{◌≡◌, suc};
 ghost use Rattle.fol_formula.specs.View.{form, forms, term as term_view, terms as terms_view};
-ghost use Rattle.fol_subst.specs.Limits.{IndicesFit, IndicesFitAll, IndicesFitTerm, IndicesFitTerms};
+ghost use Rattle.fol_formula.specs.Indices.{IndicesFit, IndicesFitAll, IndicesFitTerm, IndicesFitTerms};
 ghost use Rattle.fol_subst.specs.Extents.{places_form, places_forms, places_term, places_terms};
 
 use crate::extent::Extent;

@@ -5,7 +5,7 @@ use Rattle.fol_formula.specs.Syntax.{FormTree, TermTree, equal, bound}
 use Rattle.fol_formula.specs.Fits.{FitsForm}
 use Rattle.fol_subst.specs.Replace.{change_rel, change_fun, change_const}
 use Rattle.fol_subst.specs.Shift.{shift_form}
-use Rattle.fol_subst.specs.Limits.{IndicesFit}
+use Rattle.fol_formula.specs.Indices.{IndicesFit}
 use Rattle.fol_subst.specs.Outcome.{CanReplace}
 use Rattle.show_replacing.specs.Samples.{grown, shadowed, image, image_twice, fixed_point}
 

@@ -21,7 +21,7 @@ returns-then-is_over-clause-limit c =
     ap (λ n. extent n (form_depth within)) (sym (size-shifted within c.args.from c.args.by).nodes)
     ∙ ap (extent (form_nodes new)) (sym (size-shifted within c.args.from c.args.by).depth) in
     sym (over-is-too-large new c.new-extent.result
-    (c.new-extent.ensures ∙ ap (λ n. extent n c.depth.result) c.nodes.ensures ∙ ap (extent _) c.depth.ensures
+    (c.new-extent.ensures ∙ ap (λ n. extent n c.depth.result) c.nodes.ensures.count ∙ ap (extent _) c.depth.ensures
     ∙ extent-saturated (form_nodes within) (form_depth within) ∙ same))
     ∙ sym c.is_over.ensures
     ∙ c.if-is_over.true
@@ -35,7 +35,7 @@ copy_formula-requires c =
     ∙ ap (extent (form_nodes new)) (sym (size-shifted within c.args.from c.args.by).depth) in
     let small : is_too_large new ≡ false =
     sym (over-is-too-large new c.new-extent.result
-    (c.new-extent.ensures ∙ ap (λ n. extent n c.depth.result) c.nodes.ensures ∙ ap (extent _) c.depth.ensures
+    (c.new-extent.ensures ∙ ap (λ n. extent n c.depth.result) c.nodes.ensures.count ∙ ap (extent _) c.depth.ensures
     ∙ extent-saturated (form_nodes within) (form_depth within) ∙ same))
     ∙ sym c.is_over.ensures
     ∙ c.if-is_over.false in
@@ -50,7 +50,7 @@ returns-clause-shifted c =
     ∙ ap (extent (form_nodes new)) (sym (size-shifted within c.args.from c.args.by).depth) in
     let small : is_too_large new ≡ false =
     sym (over-is-too-large new c.new-extent.result
-    (c.new-extent.ensures ∙ ap (λ n. extent n c.depth.result) c.nodes.ensures ∙ ap (extent _) c.depth.ensures
+    (c.new-extent.ensures ∙ ap (λ n. extent n c.depth.result) c.nodes.ensures.count ∙ ap (extent _) c.depth.ensures
     ∙ extent-saturated (form_nodes within) (form_depth within) ∙ same))
     ∙ sym c.is_over.ensures
     ∙ c.if-is_over.false in

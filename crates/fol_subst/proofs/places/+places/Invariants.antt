@@ -1,6 +1,6 @@
 use Rattle.std.proofs.Common.{◌≡◌, ◌≤◌, drop}
 use Rattle.fol_formula.specs.View.{forms, terms}
-use Rattle.fol_subst.specs.Limits.{IndicesFitAll, IndicesFitTerms}
+use Rattle.fol_formula.specs.Indices.{IndicesFitAll, IndicesFitTerms}
 use Rattle.fol_subst.specs.Extents.{beside, places_forms, places_terms}
 use Rattle.fol_subst.proofs.places.+places.Given as goal
 
