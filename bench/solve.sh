@@ -59,7 +59,9 @@ fn main(rt: HostRuntime) -> io::Result<()> {
         Some(name) => read_whole(&mut fs::open(&rt, name.as_str())?, &mut text)?,
         None => read_whole(&mut rt.stdin(), &mut text)?,
     }
-    let Ok(cnf) = read_cnf(rt.alloc(), text.as_slice()) else {
+    let read = read_cnf(rt.alloc(), text.as_slice());
+    drop(text);
+    let Ok(cnf) = read else {
         return println!(rt; "no formula");
     };
     if cnf.clauses().len() > 1_000_000_000 || cnf.variables() > 2_147_483_647 {

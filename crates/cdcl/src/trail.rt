@@ -23,7 +23,7 @@ pub struct Step {
 pub struct Trail {
     steps: Vec<Step>,
     values: Vec<bool>,
-    places: Vec<usize>,
+    places: Vec<u32>,
 }
 
 impl Model for Trail {
@@ -77,7 +77,7 @@ impl Trail {
     pub fn was_set_from(&self, literal: Lit, place: usize) -> bool
         requires { literal < self.now.size }
     {
-        self.places[literal.variable() as usize] >= place
+        self.places[literal.variable() as usize] as usize >= place
     }
 
     pub fn push(&mut self, literal: Lit, reason: u32) -> Mem<()>
@@ -90,7 +90,7 @@ impl Trail {
         let place = self.steps.len();
         self.steps.push(Step { literal, reason })?;
         self.values[literal.code() as usize] = true;
-        self.places[literal.variable() as usize] = place;
+        self.places[literal.variable() as usize] = u32::try_from(place).unwrap_or(u32::MAX);
         Ok(())
     }
 

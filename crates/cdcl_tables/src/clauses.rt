@@ -2,20 +2,20 @@
 // each stands a position, at which the next search for another literal to watch begins: begun at the front each time,
 // it would read the same false literals again and again (Gent, "Optimal Implementation of Watched Literals in
 // Conflict-Driven Clause Learning", 2013). A position carries no facts.
-ghost use Rattle.std.specs.Prelude.{List, ◌≡◌, ℕ, ◌+◌, ◌<◌, ◌≤◌, [], ◌∷◌, ◌++◌, length, OnOk, Some};
+ghost use Rattle.std.specs.Prelude.{List, ◌≡◌, ℕ, ◌+◌, ◌<◌, ◌≤◌, [], ◌∷◌, ◌++◌, length, IfOk, OnOk, Some};
 ghost use Rattle.cnf_base.specs.declared.cnf.Entry.TheVariants.{Clause, True};
 ghost use Rattle.lrat_log.specs.Held.{held_by};
 
 use base::Mem;
 use cnf_base::Lit;
-use std::alloc::Global;
+use std::alloc::{AllocError, Global};
 use std::marker::Model;
 
-/// Where the literals of a clause stand, or that it is always true.
+/// Where the literals of a clause stand, or that it is always true. Places have four bytes each.
 #[derive(Clone, Copy)]
 pub struct Span {
-    pub start: usize,
-    pub end: usize,
+    pub start: u32,
+    pub end: u32,
     pub is_true: bool,
 }
 
@@ -24,7 +24,7 @@ pub struct Span {
 pub struct Clauses {
     spans: Vec<Span>,
     literals: Vec<Lit>,
-    positions: Vec<usize>,
+    positions: Vec<u32>,
 }
 
 impl Model for Clauses {
@@ -38,6 +38,15 @@ impl Model for Clauses {
     ghost view = { entries_of };
 
     ghost invariant = { AreSpans };
+}
+
+fn place_of(len: usize) -> Mem<u32>
+    ensures { IfOk result (λ place. place ≡ len) }
+{
+    match u32::try_from(len) {
+        Ok(place) => Ok(place),
+        Err(_) => Err(AllocError),
+    }
 }
 
 impl Clauses {
@@ -65,13 +74,13 @@ impl Clauses {
         ensures { held_by self.now id ≡ Some (Clause result.now) }
     {
         let span = self.spans[id as usize - 1];
-        &self.literals[span.start..span.end]
+        &self.literals[span.start as usize..span.end as usize]
     }
 
     /// The position in the clause at a place at which a search for a literal begins.
     pub fn position(&self, place: u32) -> usize {
         match self.positions.get(place as usize) {
-            Some(position) => *position,
+            Some(position) => *position as usize,
             None => 0,
         }
     }
@@ -81,17 +90,17 @@ impl Clauses {
         ensures { self.new ≡ self.old }
     {
         if (place as usize) < self.positions.len() {
-            self.positions[place as usize] = position;
+            self.positions[place as usize] = u32::try_from(position).unwrap_or(0);
         }
     }
 
-    /// Holds a clause, under the next id.
+    /// Holds a clause, under the next id. A list of 2^32 literals is taken for want of memory.
     pub fn push(&mut self, clause: &[Lit]) -> Mem<()>
         ensures { OnOk result (self.new ≡ self.old ++ Clause clause.now ∷ []) }
     {
-        let start = self.literals.len();
+        let start = place_of(self.literals.len())?;
         self.literals.extend_from_slice(clause)?;
-        let end = self.literals.len();
+        let end = place_of(self.literals.len())?;
         self.spans.push(Span {
             start,
             end,

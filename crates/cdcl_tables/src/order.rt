@@ -3,7 +3,7 @@ use base::Mem;
 use cnf_base::Lit;
 use std::alloc::Global;
 
-const ABSENT: usize = usize::MAX;
+const ABSENT: u32 = u32::MAX;
 
 const FIRST_STEP: u64 = 1 << 10;
 
@@ -15,7 +15,7 @@ const LIMIT: u64 = 1 << 60;
 #[derive(Drop)]
 pub struct Order {
     heap: Vec<u32>,
-    places: Vec<usize>,
+    places: Vec<u32>,
     activities: Vec<u64>,
     step: u64,
 }
@@ -52,14 +52,14 @@ impl Order {
         *activity
     }
 
-    fn place_of(&self, variable: u32) -> usize {
+    fn place_of(&self, variable: u32) -> u32 {
         let Some(place) = self.places.get(variable as usize) else {
             return ABSENT;
         };
         *place
     }
 
-    fn set_place(&mut self, variable: u32, place: usize) {
+    fn set_place(&mut self, variable: u32, place: u32) {
         if (variable as usize) < self.places.len() {
             self.places[variable as usize] = place;
         }
@@ -68,7 +68,7 @@ impl Order {
     fn seat(&mut self, variable: u32, place: usize) {
         if place < self.heap.len() {
             self.heap[place] = variable;
-            self.set_place(variable, place);
+            self.set_place(variable, u32::try_from(place).unwrap_or(ABSENT));
         }
     }
 
@@ -165,7 +165,7 @@ impl Order {
         }
         let place = self.place_of(variable);
         if place != ABSENT {
-            self.rise(variable, place);
+            self.rise(variable, place as usize);
         }
     }
 
