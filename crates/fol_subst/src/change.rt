@@ -1,4 +1,5 @@
-// The symbol is replaced.
+// The symbol is replaced, in the boxes and lists of the formula itself: what does not mention it is neither
+// copied nor allocated anew. While a part is changed, `True` or the index 0 lies in its place.
 ghost use Rattle.std.specs.Prelude.{◌≡◌, ◌+◌, ◌<◌, ◌≤◌, ◌^◌, suc, IfOk, length};
 ghost use Rattle.fol_formula.specs.View.{form, forms, term as term_view, terms as terms_view};
 ghost use Rattle.fol_formula.specs.Syntax.{rel as rel_tree, app as app_tree, size_of};
@@ -16,24 +17,25 @@ use base::Mem;
 use fol_formula::{Formula, Term};
 use fol_sig::{FunId, RelId};
 use std::alloc::Global;
+use std::mem::replace;
 
 #[cycle(change)]
 pub fn change_formula(
     alloc: Global,
-    p: &Formula,
+    p: Formula,
     c: &Replacement,
     m: &Measure,
     depth: u64,
 ) -> Mem<Formula>
     requires measures { Measures m.now (change_of c.now) }
-    requires ready { ReadyForm (change_of c.now) (form p.now) }
-    requires room { RoomForm depth (changed_form (change_of c.now) depth (form p.now)) }
-    ensures { IfOk result (λ f. form f ≡ changed_form (change_of c.now) depth (form p.now)) }
+    requires ready { ReadyForm (change_of c.now) (form p) }
+    requires room { RoomForm depth (changed_form (change_of c.now) depth (form p)) }
+    ensures { IfOk result (λ f. form f ≡ changed_form (change_of c.now) depth (form p)) }
 {
     match p {
         Formula::True => Ok(Formula::True),
         Formula::False => Ok(Formula::False),
-        Formula::Rel(q, args) => change_atom(alloc, *q, args, c, m, depth),
+        Formula::Rel(q, args) => change_atom(alloc, q, args, c, m, depth),
         Formula::Eq(a, b) => {
             let a = change_term(alloc, a, c, m, depth)?;
             Ok(Formula::Eq(a, change_term(alloc, b, c, m, depth)?))
@@ -49,12 +51,8 @@ pub fn change_formula(
             let p = change_boxed(alloc, p, c, m, depth)?;
             Ok(Formula::Iff(p, change_boxed(alloc, q, c, m, depth)?))
         }
-        Formula::Forall(k, p) => {
-            Ok(Formula::Forall(*k, change_boxed(alloc, p, c, m, depth + 1)?))
-        }
-        Formula::Exists(k, p) => {
-            Ok(Formula::Exists(*k, change_boxed(alloc, p, c, m, depth + 1)?))
-        }
+        Formula::Forall(k, p) => Ok(Formula::Forall(k, change_boxed(alloc, p, c, m, depth + 1)?)),
+        Formula::Exists(k, p) => Ok(Formula::Exists(k, change_boxed(alloc, p, c, m, depth + 1)?)),
     }
 }
 
@@ -62,15 +60,15 @@ pub fn change_formula(
 fn change_atom(
     alloc: Global,
     q: RelId,
-    args: &[Term],
+    args: Vec<Term>,
     c: &Replacement,
     m: &Measure,
     depth: u64,
 ) -> Mem<Formula>
     requires measures { Measures m.now (change_of c.now) }
-    requires ready { ReadyForm (change_of c.now) (rel_tree q.0 (terms_view args.now)) }
-    requires room { RoomForm depth (changed_form (change_of c.now) depth (rel_tree q.0 (terms_view args.now))) }
-    ensures { IfOk result (λ f. form f ≡ changed_form (change_of c.now) depth (rel_tree q.0 (terms_view args.now))) }
+    requires ready { ReadyForm (change_of c.now) (rel_tree q.0 (terms_view args.items)) }
+    requires room { RoomForm depth (changed_form (change_of c.now) depth (rel_tree q.0 (terms_view args.items))) }
+    ensures { IfOk result (λ f. form f ≡ changed_form (change_of c.now) depth (rel_tree q.0 (terms_view args.items))) }
 {
     fol_formula::lists();
     match c {
@@ -93,16 +91,16 @@ fn change_atom(
 fn change_application(
     alloc: Global,
     f: FunId,
-    args: &[Term],
+    args: Vec<Term>,
     c: &Replacement,
     m: &Measure,
     depth: u64,
 ) -> Mem<Term>
     requires measures { Measures m.now (change_of c.now) }
-    requires ready { ReadyTerm (change_of c.now) (app_tree f.0 (terms_view args.now)) }
-    requires room { RoomTerm depth (changed_term (change_of c.now) depth (app_tree f.0 (terms_view args.now))) }
+    requires ready { ReadyTerm (change_of c.now) (app_tree f.0 (terms_view args.items)) }
+    requires room { RoomTerm depth (changed_term (change_of c.now) depth (app_tree f.0 (terms_view args.items))) }
     ensures { IfOk result
-        (λ t. term_view t ≡ changed_term (change_of c.now) depth (app_tree f.0 (terms_view args.now))) }
+        (λ t. term_view t ≡ changed_term (change_of c.now) depth (app_tree f.0 (terms_view args.items))) }
 {
     fol_formula::lists();
     match c {
@@ -130,51 +128,52 @@ fn change_application(
 #[cycle(change)]
 fn change_boxed(
     alloc: Global,
-    p: &Formula,
+    mut p: Box<Formula>,
     c: &Replacement,
     m: &Measure,
     depth: u64,
 ) -> Mem<Box<Formula>>
     requires measures { Measures m.now (change_of c.now) }
-    requires ready { ReadyForm (change_of c.now) (form p.now) }
-    requires room { RoomForm depth (changed_form (change_of c.now) depth (form p.now)) }
-    ensures { IfOk result (λ f. form f.value ≡ changed_form (change_of c.now) depth (form p.now)) }
+    requires ready { ReadyForm (change_of c.now) (form p.value) }
+    requires room { RoomForm depth (changed_form (change_of c.now) depth (form p.value)) }
+    ensures { IfOk result (λ f. form f.value ≡ changed_form (change_of c.now) depth (form p.value)) }
 {
-    let p = change_formula(alloc, p, c, m, depth)?;
-    Ok(Box::new(alloc, p)?)
+    let inside = replace(&mut *p, Formula::True);
+    *p = change_formula(alloc, inside, c, m, depth)?;
+    Ok(p)
 }
 
 #[cycle(change)]
 fn change_formulas(
     alloc: Global,
-    ps: &[Formula],
+    mut ps: Vec<Formula>,
     c: &Replacement,
     m: &Measure,
     depth: u64,
 ) -> Mem<Vec<Formula>>
     requires measures { Measures m.now (change_of c.now) }
-    requires ready { ReadyForms (change_of c.now) (forms ps.now) }
-    requires room { RoomForms depth (changed_forms (change_of c.now) depth (forms ps.now)) }
-    ensures { IfOk result (λ fs. forms fs.items ≡ changed_forms (change_of c.now) depth (forms ps.now)) }
+    requires ready { ReadyForms (change_of c.now) (forms ps.items) }
+    requires room { RoomForms depth (changed_forms (change_of c.now) depth (forms ps.items)) }
+    ensures { IfOk result (λ fs. forms fs.items ≡ changed_forms (change_of c.now) depth (forms ps.items)) }
 {
     fol_formula::lists();
-    let mut all = Vec::with_capacity(alloc, ps.len())?;
-    for p in ps {
-        all.push(change_formula(alloc, p, c, m, depth)?)?;
+    for i in 0..ps.len() {
+        let part = replace(&mut ps[i], Formula::True);
+        ps[i] = change_formula(alloc, part, c, m, depth)?;
     }
-    Ok(all)
+    Ok(ps)
 }
 
 #[cycle(change)]
-fn change_term(alloc: Global, t: &Term, c: &Replacement, m: &Measure, depth: u64) -> Mem<Term>
+fn change_term(alloc: Global, t: Term, c: &Replacement, m: &Measure, depth: u64) -> Mem<Term>
     requires measures { Measures m.now (change_of c.now) }
-    requires ready { ReadyTerm (change_of c.now) (term_view t.now) }
-    requires room { RoomTerm depth (changed_term (change_of c.now) depth (term_view t.now)) }
-    ensures { IfOk result (λ f. term_view f ≡ changed_term (change_of c.now) depth (term_view t.now)) }
+    requires ready { ReadyTerm (change_of c.now) (term_view t) }
+    requires room { RoomTerm depth (changed_term (change_of c.now) depth (term_view t)) }
+    ensures { IfOk result (λ f. term_view f ≡ changed_term (change_of c.now) depth (term_view t)) }
 {
     match t {
-        Term::Bound(i) => Ok(Term::Bound(*i)),
-        Term::App(f, args) => change_application(alloc, *f, args, c, m, depth),
+        Term::Bound(i) => Ok(Term::Bound(i)),
+        Term::App(f, args) => change_application(alloc, f, args, c, m, depth),
         Term::Ite(p, a, b) => {
             let p = change_boxed(alloc, p, c, m, depth)?;
             let a = change_boxed_term(alloc, a, c, m, depth)?;
@@ -186,74 +185,75 @@ fn change_term(alloc: Global, t: &Term, c: &Replacement, m: &Measure, depth: u64
 #[cycle(change)]
 fn change_boxed_term(
     alloc: Global,
-    t: &Term,
+    mut t: Box<Term>,
     c: &Replacement,
     m: &Measure,
     depth: u64,
 ) -> Mem<Box<Term>>
     requires measures { Measures m.now (change_of c.now) }
-    requires ready { ReadyTerm (change_of c.now) (term_view t.now) }
-    requires room { RoomTerm depth (changed_term (change_of c.now) depth (term_view t.now)) }
-    ensures { IfOk result (λ f. term_view f.value ≡ changed_term (change_of c.now) depth (term_view t.now)) }
+    requires ready { ReadyTerm (change_of c.now) (term_view t.value) }
+    requires room { RoomTerm depth (changed_term (change_of c.now) depth (term_view t.value)) }
+    ensures { IfOk result (λ f. term_view f.value ≡ changed_term (change_of c.now) depth (term_view t.value)) }
 {
-    let t = change_term(alloc, t, c, m, depth)?;
-    Ok(Box::new(alloc, t)?)
+    let inside = replace(&mut *t, Term::Bound(0));
+    *t = change_term(alloc, inside, c, m, depth)?;
+    Ok(t)
 }
 
 #[cycle(change)]
 fn change_terms(
     alloc: Global,
-    ts: &[Term],
+    mut ts: Vec<Term>,
     c: &Replacement,
     m: &Measure,
     depth: u64,
 ) -> Mem<Vec<Term>>
     requires measures { Measures m.now (change_of c.now) }
-    requires ready { ReadyTerms (change_of c.now) (terms_view ts.now) }
-    requires room { RoomTerms depth (changed_terms (change_of c.now) depth (terms_view ts.now)) }
-    ensures { IfOk result (λ fs. terms_view fs.items ≡ changed_terms (change_of c.now) depth (terms_view ts.now)) }
+    requires ready { ReadyTerms (change_of c.now) (terms_view ts.items) }
+    requires room { RoomTerms depth (changed_terms (change_of c.now) depth (terms_view ts.items)) }
+    ensures { IfOk result (λ fs. terms_view fs.items ≡ changed_terms (change_of c.now) depth (terms_view ts.items)) }
 {
     fol_formula::lists();
-    let mut all = Vec::with_capacity(alloc, ts.len())?;
-    for t in ts {
-        all.push(change_term(alloc, t, c, m, depth)?)?;
+    for i in 0..ts.len() {
+        let part = replace(&mut ts[i], Term::Bound(0));
+        ts[i] = change_term(alloc, part, c, m, depth)?;
     }
-    Ok(all)
+    Ok(ts)
 }
 
-// The arguments that stand in what replaces the symbol. One that does not stand there is not built.
+// The arguments that stand in what replaces the symbol. One that does not stand there is not changed.
 #[cycle(change)]
 fn change_kept(
     alloc: Global,
-    ts: &[Term],
+    mut ts: Vec<Term>,
     c: &Replacement,
     m: &Measure,
     depth: u64,
 ) -> Mem<Vec<Term>>
     requires measures { Measures m.now (change_of c.now) }
-    requires few { size_of (terms_view ts.now) ≤ 8 }
-    requires ready { ReadyTerms (change_of c.now) (terms_view ts.now) }
+    requires few { size_of (terms_view ts.items) ≤ 8 }
+    requires ready { ReadyTerms (change_of c.now) (terms_view ts.items) }
     requires room { RoomTerms depth
-        (kept (change_of c.now) (changed_terms (change_of c.now) depth (terms_view ts.now))) }
+        (kept (change_of c.now) (changed_terms (change_of c.now) depth (terms_view ts.items))) }
     ensures { IfOk result
         (λ fs. terms_view fs.items
-        ≡ kept (change_of c.now) (changed_terms (change_of c.now) depth (terms_view ts.now))) }
+        ≡ kept (change_of c.now) (changed_terms (change_of c.now) depth (terms_view ts.items))) }
 {
     fol_formula::lists();
-    let mut all = Vec::with_capacity(alloc, ts.len())?;
     let mut index = ts.len();
-    for t in ts {
+    for i in 0..ts.len() {
         index -= 1;
-        all.push(change_one(alloc, t, c, m, depth, index)?)?;
+        let part = replace(&mut ts[i], Term::Bound(0));
+        ts[i] = change_one(alloc, part, c, m, depth, index)?;
     }
-    Ok(all)
+    Ok(ts)
 }
 
 // The argument of the parameter with this index, if it stands in what replaces the symbol.
 #[cycle(change)]
 fn change_one(
     alloc: Global,
-    t: &Term,
+    t: Term,
     c: &Replacement,
     m: &Measure,
     depth: u64,
@@ -261,11 +261,11 @@ fn change_one(
 ) -> Mem<Term>
     requires measures { Measures m.now (change_of c.now) }
     requires few { index < 8 }
-    requires ready { ReadyTerm (change_of c.now) (term_view t.now) }
+    requires ready { ReadyTerm (change_of c.now) (term_view t) }
     requires room { RoomTerm depth
-        (kept_one (change_of c.now) index (changed_term (change_of c.now) depth (term_view t.now))) }
+        (kept_one (change_of c.now) index (changed_term (change_of c.now) depth (term_view t))) }
     ensures { IfOk result
-        (λ f. term_view f ≡ kept_one (change_of c.now) index (changed_term (change_of c.now) depth (term_view t.now))) }
+        (λ f. term_view f ≡ kept_one (change_of c.now) index (changed_term (change_of c.now) depth (term_view t))) }
 {
     if m.places[index].depth == 0 {
         Ok(Term::Bound(0))

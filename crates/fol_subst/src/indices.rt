@@ -1,7 +1,7 @@
 // A formula is copied, and its indices are changed on the way: they are shifted, or arguments stand in
 // their places. What an index becomes is all in which the two differ, so they share one walk. The walk of
-// a replacement (`change`) is another one: it begins with arguments and not with indices, and passes its
-// measure along.
+// a replacement (`change`) is another one: it changes its formula in place, begins with arguments and not
+// with indices, and passes its measure along.
 ghost use Rattle.std.specs.Prelude.{◌≡◌, ◌<◌, ◌^◌, ℕ, IfOk, map};
 ghost use Rattle.fol_formula.specs.View.{form, forms, term as term_view, terms as terms_view};
 ghost use Rattle.fol_formula.specs.Syntax.{TermTree, bound};

@@ -1,5 +1,6 @@
 //! Replacement of a symbol in a formula by what it is set to, and shifting of indices. Bound variables
-//! are never captured. How large the result is, is counted before anything is built.
+//! are never captured. How large the result is, is counted before anything is built. A replacement takes
+//! the formula and changes it in place, so what does not mention the symbol is not copied.
 #![tactic(auto)]
 
 mod change;
@@ -43,15 +44,15 @@ pub struct FormulaLimit;
 /// are the relation's parameters, the last one 0.
 pub fn replace_rel(
     alloc: Global,
-    within: &Formula,
+    within: Formula,
     rel: RelId,
     by: &Formula,
 ) -> Result<Counted, Refused<FormulaLimit>>
-    requires { CanReplace (form within.now) (change_rel rel.0 (form by.now)) }
+    requires { CanReplace (form within) (change_rel rel.0 (form by.now)) }
     ensures replaced { IfOk result
-        (λ c. IsReplacement (form within.now) (change_rel rel.0 (form by.now)) (form c.formula)) }
+        (λ c. IsReplacement (form within) (change_rel rel.0 (form by.now)) (form c.formula)) }
     ensures limit { IfErr result
-        (Because (λ _. IsTrue (is_too_large (changed_form (change_rel rel.0 (form by.now)) 0 (form within.now))))) }
+        (Because (λ _. IsTrue (is_too_large (changed_form (change_rel rel.0 (form by.now)) 0 (form within))))) }
 {
     let counted = replace(alloc, within, &Replacement::Rel(rel, &*by))?;
     Ok(counted)
@@ -61,16 +62,16 @@ pub fn replace_rel(
 /// are the function's parameters, the last one 0.
 pub fn replace_fun(
     alloc: Global,
-    within: &Formula,
+    within: Formula,
     fun: FunId,
     by: &Term,
 ) -> Result<Counted, Refused<FormulaLimit>>
-    requires { CanReplace (form within.now) (change_fun fun.0 (term_view by.now)) }
+    requires { CanReplace (form within) (change_fun fun.0 (term_view by.now)) }
     ensures replaced { IfOk result
-        (λ c. IsReplacement (form within.now) (change_fun fun.0 (term_view by.now)) (form c.formula)) }
+        (λ c. IsReplacement (form within) (change_fun fun.0 (term_view by.now)) (form c.formula)) }
     ensures limit { IfErr result
         (Because (λ _. IsTrue
-        (is_too_large (changed_form (change_fun fun.0 (term_view by.now)) 0 (form within.now))))) }
+        (is_too_large (changed_form (change_fun fun.0 (term_view by.now)) 0 (form within))))) }
 {
     let counted = replace(alloc, within, &Replacement::Fun(fun, &*by))?;
     Ok(counted)
@@ -80,14 +81,14 @@ pub fn replace_fun(
 /// variable `fun`, with its size.
 pub fn replace_const(
     alloc: Global,
-    within: &Formula,
+    within: Formula,
     fun: FunId,
     index: u32,
 ) -> Result<Counted, Refused<FormulaLimit>>
-    requires { CanReplace (form within.now) (change_const fun.0 index) }
-    ensures replaced { IfOk result (λ c. IsReplacement (form within.now) (change_const fun.0 index) (form c.formula)) }
+    requires { CanReplace (form within) (change_const fun.0 index) }
+    ensures replaced { IfOk result (λ c. IsReplacement (form within) (change_const fun.0 index) (form c.formula)) }
     ensures limit { IfErr result
-        (Because (λ _. IsTrue (is_too_large (changed_form (change_const fun.0 index) 0 (form within.now))))) }
+        (Because (λ _. IsTrue (is_too_large (changed_form (change_const fun.0 index) 0 (form within))))) }
 {
     let counted = replace(alloc, within, &Replacement::Const(fun, index))?;
     Ok(counted)
@@ -115,18 +116,18 @@ pub fn shift(
 
 fn replace(
     alloc: Global,
-    within: &Formula,
+    within: Formula,
     change: &Replacement,
 ) -> Result<Counted, Refused<FormulaLimit>>
-    requires { CanReplace (form within.now) (change_of change.now) }
-    ensures replaced { IfOk result (λ c. IsReplacement (form within.now) (change_of change.now) (form c.formula)) }
+    requires { CanReplace (form within) (change_of change.now) }
+    ensures replaced { IfOk result (λ c. IsReplacement (form within) (change_of change.now) (form c.formula)) }
     ensures limit { IfErr result
-        (Because (λ _. IsTrue (is_too_large (changed_form (change_of change.now) 0 (form within.now))))) }
+        (Because (λ _. IsTrue (is_too_large (changed_form (change_of change.now) 0 (form within))))) }
 {
     exactness();
     fol_formula::indices();
     let measure = Measure::of(change);
-    let extent = measure.formula(within, change);
+    let extent = measure.formula(&within, change);
     if extent.is_over() {
         return Err(Refused::For(FormulaLimit));
     }

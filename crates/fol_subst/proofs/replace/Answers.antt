@@ -37,23 +37,23 @@ module _ (bound : FitsIsBound) (bound_term : FitsIsBoundTerm) (within : FormTree
 
 pub formula-extent-requires-clause-ready : goal.formula-extent-requires-clause-ready
 formula-extent-requires-clause-ready c =
-    can_ready c.indices.ensures.bound c.indices.ensures.bound_terms (form c.args.within.now)
+    can_ready c.indices.ensures.bound c.indices.ensures.bound_terms (form c.args.within)
     (change_of c.args.change.now) c.requires
 
 pub returns-then-is_over-clause-limit : goal.returns-then-is_over-clause-limit
 returns-then-is_over-clause-limit c =
-    too_large c.indices.ensures.bound c.indices.ensures.bound_terms (form c.args.within.now)
+    too_large c.indices.ensures.bound c.indices.ensures.bound_terms (form c.args.within)
     (change_of c.args.change.now) c.requires c.formula-extent.result c.formula-extent.ensures true c.is_over.result
     c.is_over.ensures c.if-is_over.true
 
 pub change_formula-requires-clause-ready : goal.change_formula-requires-clause-ready
 change_formula-requires-clause-ready c =
-    can_ready c.indices.ensures.bound c.indices.ensures.bound_terms (form c.args.within.now)
+    can_ready c.indices.ensures.bound c.indices.ensures.bound_terms (form c.args.within)
     (change_of c.args.change.now) c.requires
 
 pub change_formula-requires-clause-room : goal.change_formula-requires-clause-room
 change_formula-requires-clause-room c =
-    let within = form c.args.within.now in
+    let within = form c.args.within in
     let change = change_of c.args.change.now in
     let small =
     too_large c.indices.ensures.bound c.indices.ensures.bound_terms within change c.requires c.formula-extent.result
@@ -62,7 +62,7 @@ change_formula-requires-clause-room c =
 
 pub invariant_of-result : goal.invariant_of-result
 invariant_of-result c =
-    let within = form c.args.within.now in
+    let within = form c.args.within in
     let change = change_of c.args.change.now in
     let small =
     too_large c.indices.ensures.bound c.indices.ensures.bound_terms within change c.requires c.formula-extent.result
@@ -73,7 +73,7 @@ invariant_of-result c =
 
 pub returns-clause-replaced : goal.returns-clause-replaced
 returns-clause-replaced c =
-    let within = form c.args.within.now in
+    let within = form c.args.within in
     let change = change_of c.args.change.now in
     let small =
     too_large c.indices.ensures.bound c.indices.ensures.bound_terms within change c.requires c.formula-extent.result
