@@ -143,7 +143,7 @@ fn before_set_rel(
         return Ok(unchanged);
     }
     let within = where_lawful(alloc, axioms, rest.formula)?;
-    let replaced = replace_rel(alloc, &within, rel, by)?;
+    let replaced = replace_rel(alloc, within, rel, by)?;
     Ok(replaced)
 }
 
@@ -174,7 +174,7 @@ fn before_set_fun(
         return Ok(unchanged);
     }
     let within = where_lawful(alloc, axioms, rest.formula)?;
-    let replaced = replace_fun(alloc, &within, fun, by)?;
+    let replaced = replace_fun(alloc, within, fun, by)?;
     Ok(replaced)
 }
 
@@ -197,7 +197,7 @@ fn before_havoc(
     fol_formula::indices();
     let axioms = model.axioms();
     let within = where_lawful(alloc, axioms, rest)?;
-    let replaced = replace_const(alloc, &within, variable, 0)?;
+    let replaced = replace_const(alloc, within, variable, 0)?;
     let nodes = replaced.nodes.saturating_add(1);
     let depth = replaced.depth.saturating_add(1);
     let all = for_each(alloc, model.signature().into_of(variable), replaced.formula)?;
