@@ -84,7 +84,7 @@ impl Solver {
 }
 
 /// The line of a learnt clause.
-pub fn line_of(id: u64, learnt: Learnt) -> Line
+pub fn line_of(id: u32, learnt: Learnt) -> Line
     ensures { result ≡ Add id learnt.literals.items (reverse learnt.hints.items) }
 {
     let Learnt {
@@ -107,7 +107,7 @@ fn learn_line<S: Sink>(
     solver: Solver,
     sink: &mut S,
     conflict: u32,
-    id: u64,
+    id: u32,
 ) -> Mem<Solver>
     requires some { 0 < length solver.starts.items }
     requires conflict { IsConflict (held_in solver.state) solver.state.trail.steps conflict }
@@ -130,7 +130,7 @@ fn learn_line<S: Sink>(
 }
 
 /// Hands the empty clause over, under the next id.
-fn refute<S: Sink>(alloc: Global, sink: &mut S, hints: Vec<u32>, id: u64) -> Mem<()>
+fn refute<S: Sink>(alloc: Global, sink: &mut S, hints: Vec<u32>, id: u32) -> Mem<()>
     requires logged { (held : List Entry) × IsLogged (S.formula sink.old) held (S.lines sink.old)
         × IsResolvent (held_by held) [] hints.items }
     requires id { id ≡ length (S.formula sink.old).clauses + length (S.lines sink.old) + 1 }
@@ -163,7 +163,7 @@ pub fn search_into<S: Sink>(alloc: Global, sink: &mut S, budget: u64) -> Mem<Ans
     ensures range { IsLogOver (S.formula sink.old).variables (length (S.formula sink.old).clauses) (S.lines sink.new) }
 {
     learnt_laws();
-    let clauses = sink.formula().clauses().len() as u64;
+    let clauses = sink.formula().clauses().len() as u32;
     let mut solver = match load(alloc, sink.formula())? {
         Loaded::Ready(solver) => solver,
         Loaded::Refuted(hints) => {
@@ -178,14 +178,14 @@ pub fn search_into<S: Sink>(alloc: Global, sink: &mut S, budget: u64) -> Mem<Ans
                 return Ok(Answer::Sat(values));
             }
             Turn::Refuted(hints) => {
-                refute(alloc, sink, hints, clauses + spent + 1)?;
+                refute(alloc, sink, hints, clauses + spent as u32 + 1)?;
                 return Ok(Answer::Unsat);
             }
             Turn::Conflict(stopped, id) => {
                 if spent == budget {
                     return Ok(Answer::Spent);
                 }
-                solver = learn_line(alloc, stopped, sink, id, clauses + spent + 1)?;
+                solver = learn_line(alloc, stopped, sink, id, clauses + spent as u32 + 1)?;
             }
         }
     }

@@ -11,7 +11,7 @@ use std::marker::Model;
 #[derive(Clone, Copy, PartialEq, Eq, Debug)]
 pub struct Refusal {
     pub code: RefusalCode,
-    pub id: u64,
+    pub id: u32,
 }
 
 /// A checker of logs: a formula, and the lines that were accepted one after another.
@@ -145,7 +145,7 @@ impl Checker {
 
     fn step_addition(
         &mut self,
-        id: u64,
+        id: u32,
         lits: Row<Lit>,
         hints: Row<u32>,
     ) -> Result<(), Refused<Refusal>>
@@ -174,7 +174,7 @@ impl Checker {
         Ok(())
     }
 
-    fn step_deletion(&mut self, id: u64, ids: Row<u32>) -> Result<(), Refused<Refusal>>
+    fn step_deletion(&mut self, id: u32, ids: Row<u32>) -> Result<(), Refused<Refusal>>
         ensures accepted { OnOk result (outcome_of_deletion (held_now self.old) ids ≡ Accepted) }
         ensures kept { OnOk result (self.new
             ≡ record { formula = self.old.formula; lines = self.old.lines ++ Delete id ids ∷ [] }) }
@@ -215,20 +215,25 @@ impl Sink for Checker {
     }
 }
 
-// A table that holds the clauses of a formula, under the ids 1, 2, ..
+// A table that holds the clauses of a formula, under the ids 1, 2, .. An id has four bytes, and a formula of 2^32
+// clauses is taken for want of memory.
 fn table_of(alloc: Global, cnf: &Cnf) -> Mem<Table>
     ensures held { IfOk result (λ t. (k : ℕ) → held_by_table t k ≡ held_of cnf.now k) }
     ensures last { IfOk result (λ t. All (λ s. s.id ≤ length cnf.now.clauses) t.spans) }
 {
-    let mut table = Table::new(alloc, cnf.clauses().len())?;
+    let count = cnf.clauses().len();
+    if count > u32::MAX as usize {
+        return Err(AllocError);
+    }
+    let mut table = Table::new(alloc, count)?;
     for (i, entry) in cnf.clauses().iter().enumerate() {
-        let id = i as u64 + 1;
+        let id = i as u32 + 1;
         add_entry(&mut table, id, entry)?;
     }
     Ok(table)
 }
 
-fn add_entry(table: &mut Table, id: u64, entry: &Entry) -> Mem<()>
+fn add_entry(table: &mut Table, id: u32, entry: &Entry) -> Mem<()>
     requires { All (λ s. s.id < id) table.old.spans }
     ensures held { OnOk result ((k : ℕ) → held_by_table table.new k
         ≡ with_entry (held_by_table table.old) id entry.now k) }

@@ -43,7 +43,7 @@ fn effect_of(set: &LitSet, clause: &[Lit]) -> Effect
 }
 
 // What a hint does.
-fn effect_of_hint(set: &LitSet, spans: &[Span], literals: &[Lit], hint: u64) -> Effect
+fn effect_of_hint(set: &LitSet, spans: &[Span], literals: &[Lit], hint: u32) -> Effect
     requires sorted { AreSorted spans.now }
     requires within { AreWithin spans.now (length literals.now) }
     ensures { result ≡ effect_of_entry (set_of set.now) (held_in literals.now spans.now hint) }
@@ -57,7 +57,7 @@ fn effect_of_hint(set: &LitSet, spans: &[Span], literals: &[Lit], hint: u64) -> 
             } else if span.is_true {
                 Effect::Useless
             } else {
-                effect_of(set, &literals[span.start..span.end])
+                effect_of(set, &literals[span.start as usize..span.end as usize])
             }
         }
     }
@@ -70,7 +70,7 @@ pub fn run_hints(set: &mut LitSet, spans: &[Span], literals: &[Lit], hints: &[u3
     ensures { IfOk result (λ r. r ≡ outcome_of_hints (held_in literals.now spans.now) hints.now (set_of set.old)) }
 {
     for hint in hints {
-        match effect_of_hint(set, spans, literals, *hint as u64) {
+        match effect_of_hint(set, spans, literals, *hint) {
             Effect::Unknown => return Ok(Outcome::Refused(RefusalCode::UnknownId)),
             Effect::Falsified => return Ok(Outcome::Accepted),
             Effect::Sets(l) => set.insert(l)?,

@@ -6,20 +6,20 @@ ghost use Rattle.lrat_check.specs.declared.spans.Span.{Span};
 /// A clause: its id, and its place among the literals.
 #[derive(Clone, Copy)]
 pub struct Span {
-    pub id: u64,
-    pub start: usize,
-    pub end: usize,
+    pub id: u32,
+    pub start: u32,
+    pub end: u32,
     pub is_true: bool,
     pub is_held: bool,
 }
 
 /// The place of an id's span: directly where no id below it is missing, else by halving.
-pub fn find(spans: &[Span], id: u64) -> Option<usize>
+pub fn find(spans: &[Span], id: u32) -> Option<usize>
     requires { AreSorted spans.now }
     ensures some { IfSome result (λ i. (i < length spans.now) × ((d : Span) → (slice_index_or spans.now i d).id ≡ id)) }
     ensures none { IfNone result ((k : ℕ) (d : Span) → k < length spans.now → (slice_index_or spans.now k d).id ≢ id) }
 {
-    if id > 0 && id <= spans.len() as u64 {
+    if id > 0 && id as usize <= spans.len() {
         let k = (id - 1) as usize;
         if spans[k].id == id {
             return Some(k);

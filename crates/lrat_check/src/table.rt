@@ -5,7 +5,7 @@ use crate::spans::{Span, find};
 use base::Mem;
 use cnf_base::{Lit, LitSet};
 use lrat_log::{Outcome, RefusalCode};
-use std::alloc::Global;
+use std::alloc::{AllocError, Global};
 use std::marker::Model;
 
 /// Clauses under increasing ids. A deleted clause keeps its span, which is no longer held.
@@ -30,7 +30,7 @@ impl Model for Table {
     ghost invariant = { IsTable };
 }
 
-ghost use Rattle.std.specs.Prelude.{◌≡◌, ℕ, ◌<◌, ◌≤◌, false, List, [], ◌∷◌, length, All, IfOk, OnOk, OnErr, get_or};
+ghost use Rattle.std.specs.Prelude.{◌≡◌, ℕ, ◌+◌, ◌<◌, ◌≤◌, false, List, [], ◌∷◌, length, All, IfOk, OnOk, OnErr, get_or};
 ghost use Rattle.std.specs.Prelude.{slice_set, if◌then◌else◌};
 ghost use Rattle.cnf_base.specs.declared.cnf.Entry.{Entry};
 ghost use Rattle.cnf_base.specs.declared.cnf.Entry.TheVariants.{Clause, True};
@@ -52,7 +52,7 @@ fn check_ids(spans: &[Span], marks: &mut [u32], epoch: u32, ids: &[u32]) -> Outc
     ensures past { AreUpTo epoch marks.new }
 {
     for id in ids {
-        match find(spans, *id as u64) {
+        match find(spans, *id) {
             None => return Outcome::Refused(RefusalCode::UnknownId),
             Some(place) => {
                 if !spans[place].is_held || marks[place] == epoch {
@@ -81,7 +81,7 @@ fn release(spans: &mut [Span], place: usize)
     };
 }
 
-fn delete_id(spans: &mut [Span], id: u64)
+fn delete_id(spans: &mut [Span], id: u32)
     requires sorted { AreSorted spans.old }
     ensures held { (literals : List ℕ) (k : ℕ) → held_in literals spans.new k
         ≡ without (held_in literals spans.old) (id ∷ []) k }
@@ -103,7 +103,7 @@ fn delete_ids(spans: &mut [Span], ids: &[u32])
     ensures ids { (k : ℕ) (d : Span) → (get_or spans.new k d).id ≡ (get_or spans.old k d).id }
 {
     for id in ids {
-        delete_id(spans, *id as u64);
+        delete_id(spans, *id);
     }
 }
 
@@ -128,6 +128,18 @@ fn check_clause(
     }
     let outcome = run_hints(set, spans, literals, hints)?;
     Ok((outcome, false))
+}
+
+// Where a clause ends that stands behind so many literals. A place has four bytes, and a table of 2^32 literals is taken
+// for want of memory.
+fn end_of(literals: usize, clause: usize) -> Mem<u32>
+    ensures { IfOk result (λ end. end ≡ literals + clause) }
+{
+    let end = literals.saturating_add(clause);
+    if end > u32::MAX as usize {
+        return Err(AllocError);
+    }
+    Ok(end as u32)
 }
 
 impl Table {
@@ -185,7 +197,7 @@ impl Table {
     }
 
     /// Holds a clause under a new id, which is above all others.
-    pub fn add(&mut self, id: u64, clause: &[Lit], is_true: bool) -> Mem<()>
+    pub fn add(&mut self, id: u32, clause: &[Lit], is_true: bool) -> Mem<()>
         requires { All (λ s. s.id < id) self.old.spans }
         ensures ok { OnOk result ((k : ℕ) → held_by_table self.new k
             ≡ with_entry (held_by_table self.old) id (if is_true then True else Clause clause.now) k) }
@@ -193,15 +205,15 @@ impl Table {
         ensures spans_ok { OnOk result (All (λ s. s.id ≤ id) self.new.spans) }
         ensures spans_err { OnErr result (self.new.spans ≡ self.old.spans) }
     {
-        self.set.allow(clause.len());
         let start = self.literals.len();
+        let end = end_of(start, clause.len())?;
+        self.set.allow(clause.len());
         self.literals.extend_from_slice(clause)?;
-        let end = self.literals.len();
         self.spans.reserve(1)?;
         self.marks.push(0)?;
         self.spans.push(Span {
             id,
-            start,
+            start: start as u32,
             end,
             is_true,
             is_held: true,

@@ -11,12 +11,12 @@ use std::marker::Model;
 #[derive(Drop)]
 pub enum Line {
     Add {
-        id: u64,
+        id: u32,
         lits: Row<Lit>,
         hints: Row<u32>,
     },
     Delete {
-        id: u64,
+        id: u32,
         ids: Row<u32>,
     },
 }

@@ -30,7 +30,7 @@ struct Reading {
     variables: u64,
     last: u64,
     lines: Row<Line>,
-    id: u64,
+    id: u32,
     place: u64,
     lits: Vec<Lit>,
     ids: Vec<u32>,
@@ -71,7 +71,7 @@ impl Reading {
             return Err(fault(LogFaultCode::BadNumber, at));
         }
         self.stage = Stage::Second;
-        self.id = number.value as u64;
+        self.id = number.value;
         self.place = at;
         Ok(())
     }
@@ -107,7 +107,7 @@ impl Reading {
             self.stage = Stage::Deleted;
             return Ok(());
         }
-        if self.id <= self.last {
+        if self.id as u64 <= self.last {
             return Err(fault(LogFaultCode::IdNotAbove, self.place));
         }
         self.take_literal(number_of(word), at)
@@ -180,7 +180,7 @@ impl Reading {
             hints: Row::from_vec(hints),
         })?;
         self.stage = Stage::Id;
-        self.last = self.id;
+        self.last = self.id as u64;
         self.lits.clear();
         self.ids.clear();
         Ok(())
@@ -212,7 +212,7 @@ impl Reading {
     {
         match self.stage {
             Stage::Id => self.take_id(Some(number), at),
-            Stage::Second => if self.id <= self.last {
+            Stage::Second => if self.id as u64 <= self.last {
                 Err(fault(LogFaultCode::IdNotAbove, self.place))
             } else {
                 self.take_literal(Some(number), at)
@@ -335,7 +335,7 @@ fn finish(reading: Reading, at: u64) -> Result<Log, Refused<LogFault>>
 {
     match reading.stage {
         Stage::Id => Ok(Log::new(reading.lines)),
-        Stage::Second => if reading.id <= reading.last {
+        Stage::Second => if reading.id as u64 <= reading.last {
             Err(fault(LogFaultCode::IdNotAbove, reading.place))
         } else {
             Err(fault(LogFaultCode::Unended, at))

@@ -26,7 +26,7 @@ fn push_line(out: &mut Vec<u8>, line: &Line) -> Mem<()>
 {
     match line {
         Line::Add { id, lits, hints } => {
-            push_number(out, *id)?;
+            push_number(out, *id as u64)?;
             out.push(b' ')?;
             push_literals(out, lits.as_slice())?;
             out.extend_from_slice(b"0 ")?;
@@ -35,7 +35,7 @@ fn push_line(out: &mut Vec<u8>, line: &Line) -> Mem<()>
             Ok(())
         }
         Line::Delete { id, ids } => {
-            push_number(out, *id)?;
+            push_number(out, *id as u64)?;
             out.extend_from_slice(b" d ")?;
             push_ids(out, ids.as_slice())?;
             out.extend_from_slice(b"0\n")?;

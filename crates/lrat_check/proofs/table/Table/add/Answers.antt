@@ -38,9 +38,8 @@ invariant_of-self-2 c =
     let ab = rw (← c.self.view_is) at c.requires in
     let start_is : c.len-start.result ≡ length c.self.inside.literals.items = c.len-start.ensures
     ∙ c.self.inside.literals.ok.0 in
-    let end_is : c.len-end.result ≡ length c.self.inside.literals.items + length c.args.clause.now =
-    c.len-end.ensures ∙ c.extend_from_slice.new.self.ok.0 ∙ ap length lits
-    ∙ length-append c.self.inside.literals.items c.args.clause.now in
+    let end_is : c.in_ok-end.end ≡ length c.self.inside.literals.items + length c.args.clause.now =
+    (let e = c.in_ok-end.ensures in omega arith) in
     let longer : length (c.self.inside.literals.items ++ c.args.clause.now)
     ≡ length c.self.inside.literals.items + length c.args.clause.now =
     length-append c.self.inside.literals.items c.args.clause.now in
@@ -60,9 +59,8 @@ returns-clause-ok c k =
     let ab = rw (← c.self.view_is) at c.requires in
     let start_is : c.len-start.result ≡ length c.self.inside.literals.items = c.len-start.ensures
     ∙ c.self.inside.literals.ok.0 in
-    let end_is : c.len-end.result ≡ length c.self.inside.literals.items + length c.args.clause.now =
-    c.len-end.ensures ∙ c.extend_from_slice.new.self.ok.0 ∙ ap length lits
-    ∙ length-append c.self.inside.literals.items c.args.clause.now in
+    let end_is : c.in_ok-end.end ≡ length c.self.inside.literals.items + length c.args.clause.now =
+    (let e = c.in_ok-end.ensures in omega arith) in
     rw (spans, same, lits, ← c.self.view_is)
     (add_row c.self.inside.literals.items c.args.clause.now c.self.inside.spans.items c.args.id c.len-start.result
-    c.len-end.result c.args.is_true c.self.invariant.within start_is end_is (λ i d h. ab i d h) k)
+    c.in_ok-end.end c.args.is_true c.self.invariant.within start_is end_is (λ i d h. ab i d h) k)
