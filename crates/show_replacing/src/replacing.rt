@@ -65,21 +65,21 @@ fn twice(alloc: Global) -> Mem<Term>
 }
 
 fn tell_variable<P: Print>(rt: &P, alloc: Global) -> io::Result<()> {
-    match replace_const(alloc, &shadowed(alloc)?, V, 0) {
+    match replace_const(alloc, shadowed(alloc)?, V, 0) {
         Ok(counted) => println!(rt; "replace_const: {:?}", counted.formula),
         Err(refused) => println!(rt; "replace_const: {refused:?}"),
     }
 }
 
 fn tell_relation<P: Print>(rt: &P, alloc: Global) -> io::Result<()> {
-    match replace_rel(alloc, &grown(alloc)?, R, &grown(alloc)?) {
+    match replace_rel(alloc, grown(alloc)?, R, &grown(alloc)?) {
         Ok(counted) => println!(rt; "replace_rel: {:?}", counted.formula),
         Err(refused) => println!(rt; "replace_rel: {refused:?}"),
     }
 }
 
 fn tell_function<P: Print>(rt: &P, alloc: Global) -> io::Result<()> {
-    match replace_fun(alloc, &fixed_point(alloc)?, F, &twice(alloc)?) {
+    match replace_fun(alloc, fixed_point(alloc)?, F, &twice(alloc)?) {
         Ok(counted) => println!(rt; "replace_fun: {:?}", counted.formula),
         Err(refused) => println!(rt; "replace_fun: {refused:?}"),
     }
