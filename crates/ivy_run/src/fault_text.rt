@@ -79,14 +79,14 @@ pub fn fault_line(alloc: Global, code: ReportCode, text: &[u8], at: u64) -> Mem<
 
 /// The line of a refusal: its number, the id of the line that is not accepted, and why.
 #[tactic(auto, using(std::proofs::Common::append_assoc), unfolding(crate::specs::Faults::refusal_line))]
-pub fn refusal_line(alloc: Global, code: ReportCode, id: u64) -> Mem<Vec<u8>>
+pub fn refusal_line(alloc: Global, code: ReportCode, id: u32) -> Mem<Vec<u8>>
     ensures { IfOk result (λ line. line.items ≡ refusal_line code id) }
 {
     let mut out = Vec::new(alloc);
     push_text(&mut out, code.letter())?;
     push_number(&mut out, code.number() as u64)?;
     push_text(&mut out, " at id ")?;
-    push_number(&mut out, id)?;
+    push_number(&mut out, id as u64)?;
     push_text(&mut out, ": ")?;
     push_text(&mut out, code.text())?;
     push_text(&mut out, "\n")?;
