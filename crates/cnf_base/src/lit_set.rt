@@ -1,6 +1,7 @@
 // Sets of literals that are emptied at once, in memory that goes by how many literals there are and not by their
 // numbers: a checker fills and empties one for each line of a log.
 ghost use Rattle.std.specs.Prelude.{◌≡◌, ℕ, ◌==◌, ◌||◌, ◌≤◌, false, length, get_or, OnOk, OnErr};
+ghost use Rattle.cnf_base.specs.Literals.{member};
 ghost use Rattle.cnf_base.specs.LitSetValue.{set_of};
 
 use crate::Lit;
@@ -55,6 +56,7 @@ fn grow(stamps: &mut Vec<u32>, len: usize) -> Mem<()>
 }
 
 impl LitSet {
+    ghost use Rattle.cnf_base.specs.Literals.{member};
     ghost use Rattle.cnf_base.specs.LitSetValue.{set_of};
 
     /// The empty set.
@@ -87,11 +89,36 @@ impl LitSet {
         if self.far.is_empty() {
             return false;
         }
+        self.has_far(lit)
+    }
+
+    // Nearly all sets have no such literal: out of line, so that the walk of a clause keeps its registers.
+    #[cold]
+    #[inline(never)]
+    fn has_far(&self, lit: Lit) -> bool
+        ensures { result ≡ member lit self.now.far }
+    {
         holds(&self.far, &lit)
     }
 
     /// Puts a literal into the set. After want of memory the set is as before.
     pub fn insert(&mut self, lit: Lit) -> Mem<()>
+        ensures ok { OnOk result ((x : ℕ) → set_of self.new x ≡ (x == lit || set_of self.old x)) }
+        ensures kept { OnErr result ((x : ℕ) → set_of self.new x ≡ set_of self.old x) }
+    {
+        let code = lit.code() as usize;
+        if code < self.stamps.len() {
+            self.stamps[code] = self.epoch;
+            return Ok(());
+        }
+        self.insert_beyond(lit)?;
+        Ok(())
+    }
+
+    // A literal beyond the stamps: there are more stamps from now on, or it goes into the table.
+    #[cold]
+    #[inline(never)]
+    fn insert_beyond(&mut self, lit: Lit) -> Mem<()>
         ensures ok { OnOk result ((x : ℕ) → set_of self.new x ≡ (x == lit || set_of self.old x)) }
         ensures kept { OnErr result ((x : ℕ) → set_of self.new x ≡ set_of self.old x) }
     {

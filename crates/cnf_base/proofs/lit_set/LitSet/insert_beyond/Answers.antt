@@ -1,5 +1,5 @@
 use Rattle.cnf_base.proofs.Stamped.{kept_far}
-use Rattle.cnf_base.proofs.lit_set.LitSet.insert.Goals as goal
+use Rattle.cnf_base.proofs.lit_set.LitSet.insert_beyond.Goals as goal
 
 pub returns-then-code-len-clause-ok : goal.returns-then-code-len-clause-ok
 returns-then-code-len-clause-ok c x =
