@@ -19,11 +19,9 @@ pub fn find(spans: &[Span], id: u32) -> Option<usize>
     ensures some { IfSome result (λ i. (i < length spans.now) × ((d : Span) → (slice_index_or spans.now i d).id ≡ id)) }
     ensures none { IfNone result ((k : ℕ) (d : Span) → k < length spans.now → (slice_index_or spans.now k d).id ≢ id) }
 {
-    if id > 0 && id as usize <= spans.len() {
-        let k = (id - 1) as usize;
-        if spans[k].id == id {
-            return Some(k);
-        }
+    let own = (id as usize).wrapping_sub(1);
+    if own < spans.len() && spans[own].id == id {
+        return Some(own);
     }
     let mut low = 0;
     let mut high = spans.len();
