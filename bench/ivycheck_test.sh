@@ -117,7 +117,7 @@ begin
 run check model
 expect 'the first call builds and runs' ended 0
 expect 'the first call builds and runs' wrote 'one more main <check> <model> '
-expect 'a build is announced with what it costs' said 'an hour on 4 processors, 4 GB of memory, 5 GB of disk'
+expect 'a build is announced with what it costs' said 'an hour or more on 4 processors, 6 GB of memory, 11 GB of disk'
 expect 'a build names its log' said "$repo/.ivycheck/build.log"
 expect 'a build says how far it is' said '1 of 2: low'
 expect 'a build says how far it is' said '2 of 2: ivycheck'
