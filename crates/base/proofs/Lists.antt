@@ -1,11 +1,13 @@
 -- What std lacks on lists. It is the one file of lemmas that other crates name: what ranges over predicates is no
 -- clause.
-use Rattle.std.proofs.Common.{◌≡◌, ℕ, zero, suc, ◌+◌, ◌-◌, ◌<◌, ◌≤◌, Some, List, [], ◌∷◌, ◌++◌, length, get_or, drop}
-use Rattle.std.proofs.Common.{map, refl, sym, ap, ◌∙◌, subst, arith, append_assoc}
+use Rattle.std.proofs.Common.{◌≡◌, ◌≢◌, ℕ, zero, suc, ◌+◌, ◌-◌, ◌<◌, ◌≤◌, Some, List, [], ◌∷◌, ◌++◌, length, get_or}
+use Rattle.std.proofs.Common.{take, drop, set, map, inl, inr, refl, sym, ap, ◌∙◌, subst, arith, append_assoc}
 use Rattle.std.proofs.lemmas.Grind.{common_steps}
 use Rattle.std.proofs.lemmas.List.{append-nil, drop_all, drop_more, drop-append-le, take-append-le}
+use Rattle.std.proofs.lemmas.List.{length-set, take_more_set, take-set, drop-set-lt, get_or-set_other}
 use Rattle.std.proofs.Math.Seq.{drop-append_seam}
 use Rattle.std.specs.List.{AllByRecursion, flat_map, slice_get, slice_range}
+use Rattle.base.specs.Lists.{SomeOf}
 
 -- what holds of each element, by recursion on the list
 pub all_more : {A : Type 0} (P Q : A → Type 0) → ((x : A) → P x → Q x) → (xs : List A) → AllByRecursion P xs
@@ -40,6 +42,15 @@ pub all_at : {A : Type 0} (P : A → Type 0) (xs : List A) (k : ℕ) (x : A) →
 all_at P [] k x is all = absurd (cc is)
 all_at P (y ∷ ys) zero x is all = let e : y ≡ x = cc is in subst P e all.0
 all_at P (y ∷ ys) (suc k) x is all = all_at P ys k x is all.1
+
+-- one of two joined lists is one of either
+pub some_left : {A : Type 0} (P : A → Type 0) (xs ys : List A) → SomeOf P xs → SomeOf P (xs ++ ys)
+some_left P [] ys h = absurd h
+some_left P (x ∷ xs) ys h = elim h [ inl p ↦ inl p | inr r ↦ inr (some_left P xs ys r) ]
+
+pub some_right : {A : Type 0} (P : A → Type 0) (xs ys : List A) → SomeOf P ys → SomeOf P (xs ++ ys)
+some_right P [] ys h = h
+some_right P (x ∷ xs) ys h = inr (some_right P xs ys h)
 
 -- an element that is there stands below the length
 pub at-below : {A : Type 0} (xs : List A) (k : ℕ) (x : A) → slice_get xs k ≡ Some x → k < length xs
@@ -87,3 +98,23 @@ slice_range-append xs ys i j h g =
 
 pub slice_range-seam : (xs ys : List ℕ) (n : ℕ) → n ≡ length xs + length ys → slice_range (xs ++ ys) (length xs) n ≡ ys
 slice_range-seam xs ys n e = rw (drop-append_seam xs ys) (grind (arith, common_steps, e))
+
+-- A list that is changed in place: at a turn an element is taken out, something lies in its place meanwhile, and what
+-- is made of it is set there.
+pub record Turned {X : Type 0} (xs ys : List X) (i : ℕ) (new : X) : Type 0 where
+  pub count : length ys ≡ length xs
+  pub unvisited : (k : ℕ) (d : X) → i + 1 ≤ k → get_or ys k d ≡ get_or xs k d
+  pub made : take (i + 1) ys ≡ take i xs ++ new ∷ []
+  pub left : drop (i + 1) ys ≡ drop (i + 1) xs
+
+pub turned : {X : Type 0} (xs : List X) (i : ℕ) (out new : X) → i < length xs
+    → Turned xs (set (set xs i out) i new) i new
+turned xs i out new lt = record {
+  count = length-set (set xs i out) i new ∙ length-set xs i out;
+  unvisited = λ k d h.
+      let other : k ≢ i = omega arith in
+      get_or-set_other (set xs i out) i k new d other ∙ get_or-set_other xs i k out d other;
+  made = take_more_set (set xs i out) i new (omega (arith, length-set xs i out))
+      ∙ ap (λ z. z ++ new ∷ []) (take-set xs i out);
+  left = drop-set-lt (i + 1) (set xs i out) i new (omega arith) ∙ drop-set-lt (i + 1) xs i out (omega arith);
+}

@@ -1,2 +1,3 @@
 pub mod Because
 pub mod Bytes
+pub mod Lists

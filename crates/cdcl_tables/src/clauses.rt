@@ -6,9 +6,9 @@ ghost use Rattle.std.specs.Prelude.{List, ◌≡◌, ℕ, ◌+◌, ◌<◌, ◌�
 ghost use Rattle.cnf_base.specs.declared.cnf.Entry.TheVariants.{Clause, True};
 ghost use Rattle.lrat_log.specs.Held.{held_by};
 
-use base::Mem;
+use base::{Mem, place_of};
 use cnf_base::Lit;
-use std::alloc::{AllocError, Global};
+use std::alloc::Global;
 use std::marker::Model;
 
 /// Where the literals of a clause stand, or that it is always true. Places have four bytes each.
@@ -38,15 +38,6 @@ impl Model for Clauses {
     ghost view = { entries_of };
 
     ghost invariant = { AreSpans };
-}
-
-fn place_of(len: usize) -> Mem<u32>
-    ensures { IfOk result (λ place. place ≡ len) }
-{
-    match u32::try_from(len) {
-        Ok(place) => Ok(place),
-        Err(_) => Err(AllocError),
-    }
 }
 
 impl Clauses {

@@ -12,7 +12,7 @@ default_asked = record { terms = 400; ground_size = 2000000; conflicts = 100000 
 pub record IsInRange (asked : Asked) : Type 0 where
   pub terms : (1 ≤ asked.terms) × (asked.terms ≤ 100000)
   pub ground_size : (1 ≤ asked.ground_size) × (asked.ground_size ≤ 50000000)
-  pub conflicts : (1 ≤ asked.conflicts) × (asked.conflicts ≤ 10000000)
+  pub conflicts : (1 ≤ asked.conflicts) × (asked.conflicts ≤ 100000000)
 
 -- each number of a command line is one of those that may stand there
 abbrev pub HasRanges : Request → Type 0

@@ -35,7 +35,7 @@ abbrev pub with_limits : App → App
 with_limits app =
     with_rule (with_rule (with_rule app (number_option (codes "terms") 1 100000))
     (number_option (codes "ground") 1 50000000))
-    (number_option (codes "conflicts") 1 10000000)
+    (number_option (codes "conflicts") 1 100000000)
 
 -- the commands as `clap` knows them
 abbrev pub check_app : App
@@ -61,7 +61,7 @@ asked_by rows =
     option_and_then
     (λ terms. option_and_then
     (λ size. option_map (λ conflicts. record { terms = terms; ground_size = size; conflicts = conflicts })
-    (number_of 1 10000000 default_asked.conflicts (first_of (codes "conflicts") rows)))
+    (number_of 1 100000000 default_asked.conflicts (first_of (codes "conflicts") rows)))
     (number_of 1 50000000 default_asked.ground_size (first_of (codes "ground") rows)))
     (number_of 1 100000 default_asked.terms (first_of (codes "terms") rows))
 

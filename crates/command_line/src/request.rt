@@ -94,7 +94,7 @@ pub fn with_limits<'a>(alloc: Global, command: Command<'a>) -> Mem<Command<'a>>
 {
     let terms = command.arg(number_option(alloc, "terms", 1, 100000))?;
     let ground = terms.arg(number_option(alloc, "ground", 1, 50000000))?;
-    let command = ground.arg(number_option(alloc, "conflicts", 1, 10000000))?;
+    let command = ground.arg(number_option(alloc, "conflicts", 1, 100000000))?;
     Ok(command)
 }
 
@@ -121,7 +121,7 @@ pub fn limits(matches: &ArgMatches) -> Option<Asked>
 {
     let terms = number_of(1, 100000, 400, value(matches, "terms"))?;
     let ground_size = number_of(1, 50000000, 2000000, value(matches, "ground"))?;
-    let conflicts = number_of(1, 10000000, 100000, value(matches, "conflicts"))?;
+    let conflicts = number_of(1, 100000000, 100000, value(matches, "conflicts"))?;
     Some(Asked {
         terms,
         ground_size,

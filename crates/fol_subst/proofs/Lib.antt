@@ -8,4 +8,3 @@ mod Rooms
 mod InStructures
 mod Fragments
 mod Meaning
-mod InPlace

@@ -5,7 +5,7 @@ use Rattle.std.proofs.lemmas.List.{drop_all}
 use Rattle.std.specs.Prelude.{slice_get}
 use Rattle.std.specs.List.{flat_map}
 use Rattle.rml_command.specs.Trees.{PrimitiveTree}
-use Rattle.rml_command.specs.Lists.{count_from}
+use Rattle.base.specs.Lists.{count_from}
 use Rattle.rml_command.specs.Goals.{Group, goals_among, is_for}
 use Rattle.rml_command.specs.declared.goal.Goal.{Goal}
 use Rattle.goal_number.specs.Seeking.{seek, seek_on, IsPlace}

@@ -1,6 +1,6 @@
 -- Which goal has which number.
 use Rattle.std.specs.Prelude.{◌≡◌, ℕ, length, Some, None}
-use Rattle.rml_command.specs.Lists.{numbered}
+use Rattle.base.specs.Lists.{numbered}
 use Rattle.rml_command.specs.Models.{ModelTree}
 use Rattle.rml_command.specs.Goals.{IsGoal, goals_of}
 use Rattle.goal_number.specs.declared.GoalAt.{GoalAt}

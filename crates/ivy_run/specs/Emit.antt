@@ -5,7 +5,7 @@ use Rattle.cnf_base.specs.Writing as formulas
 use Rattle.lrat_log.specs.declared.line.Line.{Line}
 use Rattle.lrat_log.specs.Accepted.{IsAccepted, adds_empty}
 use Rattle.lrat_log.specs.Writing as logs
-use Rattle.rml_command.specs.Lists.{numbered}
+use Rattle.base.specs.Lists.{numbered}
 use Rattle.rml_command.specs.Models.{ModelTree}
 use Rattle.rml_command.specs.Goals.{goals_of, HasNone}
 use Rattle.rml_command.specs.declared.goal.Goal.{Goal}

@@ -54,8 +54,13 @@ fn judge_model(alloc: Global, text: &[u8], asked: Asked) -> Mem<CheckAnswer>
 {
     match read_model(alloc, text) {
         Ok(model) => {
-            let report = report_on(alloc, &model, asked)?;
-            Ok(CheckAnswer::Checked { model, report })
+            match report_on(alloc, &model, asked) {
+                Ok(report) => Ok(CheckAnswer::Checked { model, report }),
+                Err(wanting) => {
+                    drop(model);
+                    Err(wanting)
+                }
+            }
         }
         Err(Refused::For(fault)) => Ok(CheckAnswer::Fault(fault)),
         Err(Refused::NoMemory) => Err(AllocError),

@@ -1,6 +1,6 @@
 // `emit FILE GOAL WHAT`: the clauses of a goal, or the log that refutes them.
 ghost use Rattle.std.specs.Prelude.{◌≡◌, ◌≤◌, IfOk};
-ghost use Rattle.rml_command.specs.Lists.{numbered};
+ghost use Rattle.base.specs.Lists.{numbered};
 ghost use Rattle.rml_command.specs.Goals.{IsGoal, goals_of};
 ghost use Rattle.ea_decide.specs.Passing.{ceilings};
 ghost use Rattle.command_line.specs.Asking.{IsInRange};
@@ -117,8 +117,9 @@ fn judge_emission(alloc: Global, text: &[u8], emission: Emission) -> Mem<EmitAns
 {
     match read_model(alloc, text) {
         Ok(model) => {
-            let emitted = emit_of(alloc, &model, emission)?;
-            Ok(EmitAnswer::Emitted(emitted))
+            let emitted = emit_of(alloc, &model, emission);
+            drop(model);
+            Ok(EmitAnswer::Emitted(emitted?))
         }
         Err(Refused::For(fault)) => Ok(EmitAnswer::Fault(fault)),
         Err(Refused::NoMemory) => Err(AllocError),

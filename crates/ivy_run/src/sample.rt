@@ -52,8 +52,9 @@ fn judge_text(alloc: Global, number: u64, text: &[u8]) -> Mem<SampleAnswer>
     let bytes = text.len() as u64;
     match read_model(alloc, text) {
         Ok(model) => {
-            let sampled = measured(alloc, number, &model, bytes)?;
-            Ok(SampleAnswer::Sampled(sampled))
+            let sampled = measured(alloc, number, &model, bytes);
+            drop(model);
+            Ok(SampleAnswer::Sampled(sampled?))
         }
         Err(Refused::For(fault)) => Ok(SampleAnswer::Fault(fault)),
         Err(Refused::NoMemory) => Err(AllocError),

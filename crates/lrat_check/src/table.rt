@@ -2,10 +2,10 @@
 use crate::hints::{mark_false, run_hints};
 use crate::marks::next_epoch;
 use crate::spans::{Span, find};
-use base::Mem;
+use base::{Mem, place_of};
 use cnf_base::{Lit, LitSet};
 use lrat_log::{Outcome, RefusalCode};
-use std::alloc::{AllocError, Global};
+use std::alloc::Global;
 use std::marker::Model;
 
 /// Clauses under increasing ids. A deleted clause keeps its span, which is no longer held.
@@ -30,8 +30,8 @@ impl Model for Table {
     ghost invariant = { IsTable };
 }
 
-ghost use Rattle.std.specs.Prelude.{◌≡◌, ℕ, ◌+◌, ◌<◌, ◌≤◌, false, List, [], ◌∷◌, length, All, IfOk, OnOk, OnErr, get_or};
-ghost use Rattle.std.specs.Prelude.{slice_set, if◌then◌else◌};
+ghost use Rattle.std.specs.Prelude.{◌≡◌, ℕ, ◌+◌, ◌<◌, ◌≤◌, false, List, [], ◌∷◌, length, All, IfOk, OnOk, OnErr};
+ghost use Rattle.std.specs.Prelude.{get_or, slice_set, if◌then◌else◌};
 ghost use Rattle.cnf_base.specs.declared.cnf.Entry.{Entry};
 ghost use Rattle.cnf_base.specs.declared.cnf.Entry.TheVariants.{Clause, True};
 ghost use Rattle.cnf_base.specs.Clauses.{has_opposites};
@@ -130,16 +130,12 @@ fn check_clause(
     Ok((outcome, false))
 }
 
-// Where a clause ends that stands behind so many literals. A place has four bytes, and a table of 2^32 literals is taken
-// for want of memory.
+// Where a clause ends that stands behind so many literals.
 fn end_of(literals: usize, clause: usize) -> Mem<u32>
     ensures { IfOk result (λ end. end ≡ literals + clause) }
 {
-    let end = literals.saturating_add(clause);
-    if end > u32::MAX as usize {
-        return Err(AllocError);
-    }
-    Ok(end as u32)
+    let end = place_of(literals.saturating_add(clause))?;
+    Ok(end)
 }
 
 impl Table {

@@ -13,7 +13,7 @@ pub struct Limits {
     pub conflicts: u64,
     ghost terms_in_range: { (0 < terms) × (terms ≤ 100000) },
     ghost ground_size_in_range: { (0 < ground_size) × (ground_size ≤ 50000000) },
-    ghost conflicts_in_range: { (0 < conflicts) × (conflicts ≤ 10000000) },
+    ghost conflicts_in_range: { (0 < conflicts) × (conflicts ≤ 100000000) },
 }
 
 /// A budget of learnt clauses that was spent, with the clauses and the log that show it.

@@ -5,7 +5,7 @@ use Rattle.std.specs.Prelude.{slice_get}
 use Rattle.std.specs.List.{AllByRecursion, flat_map}
 use Rattle.rml_command.specs.Trees.{PrimitiveTree, CommandTree, CommandTrees, prim, seq, choose, no_commands}
 use Rattle.rml_command.specs.Trees.{command_then}
-use Rattle.rml_command.specs.Lists.{numbered}
+use Rattle.base.specs.Lists.{numbered}
 use Rattle.rml_command.specs.Paths.{is_abort, has_abort, EndsAtAbort, continued, paths_of, paths_in_turn, paths_of_each}
 use Rattle.rml_command.specs.Models.{ModelTree}
 use Rattle.rml_command.specs.Goals.{paths_of_block, stage_paths}

@@ -10,7 +10,7 @@ use Rattle.rml_command.specs.Trees.{PrimitiveTree}
 use Rattle.rml_command.specs.Models.{ModelTree}
 use Rattle.rml_command.specs.Goals.{Group, stage_groups, groups_of, paths_of_block, stage_paths, is_for, goals_among}
 use Rattle.rml_command.specs.Goals.{group_goals, goals_of, HasAbout, IsGoal}
-use Rattle.rml_command.specs.Lists.{SomeOf, count_from, numbered}
+use Rattle.base.specs.Lists.{SomeOf, count_from, numbered}
 use Rattle.rml_command.specs.Laws.{GoalsAreListed}
 use Rattle.rml_command.specs.declared.goal.Stage.{Stage}
 use Rattle.rml_command.specs.declared.goal.Stage.TheVariants as stage

@@ -12,7 +12,7 @@ use Rattle.fol_formula.specs.Truth.{all_true}
 use Rattle.rml_command.specs.Trees.{PrimitiveTree, CommandTree}
 use Rattle.rml_command.specs.Outcomes.{Outcome, ended, aborted, HasOutcome, PathHasOutcome, is_true, satisfies}
 use Rattle.rml_command.specs.Outcomes.{follow_path}
-use Rattle.rml_command.specs.Lists.{count_from}
+use Rattle.base.specs.Lists.{count_from}
 use Rattle.rml_command.specs.Paths.{paths_of}
 use Rattle.rml_command.specs.Models.{ModelTree, FitsCommand, FitsModel}
 use Rattle.rml_command.specs.Runs.{Step, Run, From, Leads, Closes, IsRun, SomeAborts, Aborts, BreaksAt, SomeBreaks}

@@ -8,7 +8,7 @@ use Rattle.rml_command.specs.Trees.{prim, seq, choose, no_commands, command_then
 use Rattle.rml_command.specs.Outcomes.{Outcome, ended, aborted, PrimitiveHasOutcome, HasOutcome, SequenceHasOutcome}
 use Rattle.rml_command.specs.Outcomes.{ChoiceHasOutcome, PathHasOutcome}
 use Rattle.rml_command.specs.Paths.{is_abort, has_abort, continued, paths_of, paths_in_turn, paths_of_each}
-use Rattle.rml_command.specs.Lists.{SomeOf}
+use Rattle.base.specs.Lists.{SomeOf}
 use Rattle.rml_command.specs.Laws.{BlockHasPathOutcomes}
 use Rattle.rml_command.proofs.Some.{some_then, some_front, some_back, some_parts, some_joined, some_split, some_mapped}
 use Rattle.rml_command.proofs.Some.{some_unmapped}

@@ -9,7 +9,7 @@ use Rattle.base.proofs.Lists.{all_append, all_front, all_back, all_more, flat_ma
 use Rattle.rml_command.specs.Trees.{PrimitiveTree, abort}
 use Rattle.rml_command.specs.View.{primitive}
 use Rattle.rml_command.specs.Paths.{has_abort, continued}
-use Rattle.rml_command.specs.Lists.{count_from}
+use Rattle.base.specs.Lists.{count_from}
 use Rattle.rml_command.specs.Spans.{places_in, places_of, IsFilled, RouteTree, no_route, joined, longer, routes_on}
 use Rattle.rml_command.specs.Spans.{Stops}
 use Rattle.rml_command.specs.Routes.{primitive_at, primitives_at, path_along, AreWithin, IsSpanOf, IsRoute, Grows}

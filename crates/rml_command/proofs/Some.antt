@@ -2,7 +2,7 @@
 use Rattle.std.proofs.Common.{◌≡◌, ◌⊎◌, inl, inr, ℕ, suc, Some, List, [], ◌∷◌, ◌++◌, map, refl}
 use Rattle.std.specs.Prelude.{slice_get}
 use Rattle.std.specs.List.{flat_map}
-use Rattle.rml_command.specs.Lists.{SomeOf}
+use Rattle.base.specs.Lists.{SomeOf}
 
 pub some_then : {A : Type 0} (P Q : A → Type 0) (xs : List A) → SomeOf P xs → ((x : A) → P x → Q x) → SomeOf Q xs
 some_then P Q [] h f = absurd h

@@ -28,7 +28,7 @@ use Rattle.rml_command.specs.Outcomes.{
   set_variable,
   range_of,
 }
-use Rattle.rml_command.specs.Lists.{SomeOf}
+use Rattle.base.specs.Lists.{SomeOf}
 use Rattle.rml_command.specs.Paths.{has_abort, EndsAtAbort, paths_of, havoc_count}
 use Rattle.rml_command.specs.Models.{ModelTree, FitsPrimitive, FitsPath, FitsModel}
 use Rattle.rml_command.specs.Fragment.{IsInFragment, IsChecked}

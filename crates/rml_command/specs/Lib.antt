@@ -1,5 +1,4 @@
 pub mod Trees
-pub mod Lists
 pub mod View
 pub mod Outcomes
 pub mod Paths

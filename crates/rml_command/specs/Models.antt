@@ -17,7 +17,7 @@ use Rattle.rml_command.specs.Trees.{
   EachPrimitive,
   HasBranches,
 }
-use Rattle.rml_command.specs.Lists.{SomeOf}
+use Rattle.base.specs.Lists.{SomeOf}
 use Rattle.rml_command.specs.declared.names.Names.{Names}
 use Rattle.rml_command.specs.declared.places.Word.{Word}
 use Rattle.rml_command.specs.declared.places.Word.TheVariants as word

@@ -13,8 +13,8 @@ use crate::command::{Command, Primitive};
 use crate::drafts::{Drafts, only};
 use crate::route::Route;
 use crate::span::Span;
-use base::{Mem, Refused};
-use std::alloc::{AllocError, Global};
+use base::{Mem, Refused, place_of};
+use std::alloc::Global;
 
 /// How many paths a block may have.
 pub const MAX_PATHS: u64 = 4096;
@@ -144,7 +144,7 @@ fn list_one(alloc: Global, primitive: &Primitive, into: &mut Vec<Primitive>) -> 
     ensures paths { IfOk result
         (λ rs. map (path_along into.new.items) rs.items ≡ (primitive_view primitive.now ∷ []) ∷ []) }
 {
-    let start = place(into.len())?;
+    let start = place_of(into.len())?;
     into.push(primitive.copy(alloc)?)?;
     let span = Span {
         start,
@@ -152,17 +152,6 @@ fn list_one(alloc: Global, primitive: &Primitive, into: &mut Vec<Primitive>) -> 
     };
     let routes = only(alloc, Route::of(alloc, span, primitive.is_abort()))?;
     Ok(routes)
-}
-
-// A place has four bytes. A list of 2^32 primitives is taken for want of memory.
-fn place(len: usize) -> Mem<u32>
-    ensures place { IfOk result (λ place. place ≡ len) }
-    ensures small { IfOk result (λ place. place + 1 < 2 ^ 32) }
-{
-    if len >= u32::MAX as usize {
-        return Err(AllocError);
-    }
-    Ok(len as u32)
 }
 
 #[cycle(list)]

@@ -55,7 +55,7 @@ use Rattle.rml_command.specs.Trees.{
   EachPrimitiveOf,
 }
 use Rattle.rml_command.specs.Paths.{paths_of}
-use Rattle.rml_command.specs.Lists.{SomeOf}
+use Rattle.base.specs.Lists.{SomeOf}
 use Rattle.rml_command.specs.Models.{ModelTree, EachBlock, Assumes, IsWritten, HasPlainSides, IsModel}
 use Rattle.rml_command.specs.Fragment.{IsDecidable, IsInFragment, IsInModelFragment, HasFewPaths, IsChecked}
 use Rattle.rml_command.specs.declared.places.Word.{Word}

@@ -4,7 +4,7 @@ use Rattle.std.specs.List.{AllByRecursion}
 use Rattle.rml_lex.specs.declared.token.Fault.{Fault}
 use Rattle.rml_lex.specs.declared.fault_code.FaultCode.{FaultCode}
 use Rattle.rml_lex.specs.declared.fault_code.FaultCode.TheVariants as fault_code
-use Rattle.rml_command.specs.Lists.{SomeOf}
+use Rattle.base.specs.Lists.{SomeOf}
 use Rattle.rml_command.specs.Models.{ModelTree, ArePlacesWithin}
 use Rattle.rml_command.specs.declared.places.Condition.{Condition}
 use Rattle.rml_fragment.specs.Demands.{demand_of}

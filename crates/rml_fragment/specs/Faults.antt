@@ -9,7 +9,7 @@ use Rattle.rml_lex.specs.declared.fault_code.FaultCode.{FaultCode}
 use Rattle.rml_lex.specs.declared.fault_code.FaultCode.TheVariants as fault_code
 use Rattle.rml_command.specs.Trees.{CommandTree}
 use Rattle.rml_command.specs.Paths.{paths_of}
-use Rattle.rml_command.specs.Lists.{SomeOf}
+use Rattle.base.specs.Lists.{SomeOf}
 use Rattle.rml_command.specs.Models.{ModelTree}
 use Rattle.rml_command.specs.declared.places.Condition.{Condition}
 use Rattle.rml_fragment.specs.Demands.{Meets, code_of, demand_of}

@@ -2,7 +2,7 @@
 -- branch, and where no quantifier stands where none may, their sides are plain.
 use Rattle.std.proofs.Common.{◌≡◌, ℕ, zero, suc, true, false, inl, inr, List, [], ◌∷◌, ◌++◌, Option, Some, None, refl}
 use Rattle.std.specs.List.{AllByRecursion}
-use Rattle.base.proofs.Lists.{all_append}
+use Rattle.base.proofs.Lists.{all_append, some_left, some_right}
 use Rattle.fol_sig.specs.Symbols.{symbols, AreSorted}
 use Rattle.fol_formula.specs.Syntax.{TermTree, TermTrees, no_terms, term_then}
 use Rattle.fol_formula.specs.Fits.{FitsForm}
@@ -12,7 +12,7 @@ use Rattle.rml_syntax.specs.Tree.{ExprTree, ExprTrees, Block, Blocks, Skip, Abor
 use Rattle.rml_syntax.specs.Tree.{Remove, Put, Assign, no_command, and_command, no_block, and_block}
 use Rattle.rml_syntax.specs.Tree as syntax
 use Rattle.rml_syntax.specs.Shape.{CommandNests, BlockNests, BlocksNest}
-use Rattle.rml_command.specs.Lists.{SomeOf}
+use Rattle.base.specs.Lists.{SomeOf}
 use Rattle.rml_command.specs.Trees.{PrimitiveTree, assume, set_rel, set_fun, havoc, abort, CommandTrees, EachPrimitive}
 use Rattle.rml_command.specs.Trees.{EachPrimitiveOf, HasBranches, HaveBranches}
 use Rattle.rml_command.specs.Models.{ModelTree, IsNamed, FitsPrimitive, IsWritten, HasPlainSides}
@@ -149,14 +149,6 @@ module _ (text : List ℕ) (m : ModelTree) where
     blocks_branches n (and_block b bs) h = (block_branches n b h.0, blocks_branches n bs h.1)
 
 -- ---- assumptions are written in the text
-
-some_left : {A : Type 0} (P : A → Type 0) (xs ys : List A) → SomeOf P xs → SomeOf P (xs ++ ys)
-some_left P [] ys h = absurd h
-some_left P (x ∷ xs) ys h = elim h [ inl p ↦ inl p | inr r ↦ inr (some_left P xs ys r) ]
-
-some_right : {A : Type 0} (P : A → Type 0) (xs ys : List A) → SomeOf P ys → SomeOf P (xs ++ ys)
-some_right P [] ys h = h
-some_right P (x ∷ xs) ys h = inr (some_right P xs ys h)
 
 pub written_left : (xs ys : List Condition) (q : PrimitiveTree) → IsWritten xs q → IsWritten (xs ++ ys) q
 written_left xs ys (assume p) h = some_left _ xs ys h

@@ -5,7 +5,7 @@ use Rattle.std.proofs.lemmas.List.{drop_all, append-nil}
 use Rattle.std.specs.Prelude.{slice_get}
 use Rattle.std.specs.List.{AllByRecursion}
 use Rattle.rml_command.specs.Trees.{PrimitiveTree}
-use Rattle.rml_command.specs.Lists.{numbered}
+use Rattle.base.specs.Lists.{numbered}
 use Rattle.rml_command.specs.Models.{ModelTree}
 use Rattle.rml_command.specs.Goals.{Group, goals_among, group_goals, stage_paths, is_for, HasAbout, IsGoal}
 use Rattle.rml_command.specs.declared.goal.Goal.{Goal}

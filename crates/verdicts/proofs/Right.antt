@@ -3,7 +3,8 @@ use Rattle.std.proofs.Common.{◌≡◌, ◌<◌, ◌+◌, ℕ, zero, suc, Bool,
 use Rattle.std.proofs.Common.{length, map, Option, Some, None, inl, inr, refl, sym, ap, ◌∙◌, subst, arith}
 use Rattle.std.specs.Prelude.{slice_get}
 use Rattle.std.specs.List.{AllByRecursion, flat_map}
-use Rattle.rml_command.specs.Lists.{SomeOf}
+use Rattle.base.specs.Lists.{SomeOf}
+use Rattle.base.proofs.Lists.{some_left, some_right}
 use Rattle.rml_command.specs.Trees.{PrimitiveTree}
 use Rattle.rml_command.specs.Models.{ModelTree}
 use Rattle.rml_command.specs.Laws.{GoalsAreListed}
@@ -35,14 +36,6 @@ use Rattle.verdicts.specs.Answers.{
 use Rattle.cti_minimise.specs.Minimal.{IsLeast}
 use Rattle.verdicts.specs.Answers.{fails_or, IsGroupAnswer, IsGroupNow}
 use Rattle.verdicts.specs.Laws.{ReportsAreRight, IsLeastAsSaid, ShownAreLeast}
-
-some_left : {A : Type 0} (P : A → Type 0) (xs ys : List A) → SomeOf P xs → SomeOf P (xs ++ ys)
-some_left P [] ys h = absurd h
-some_left P (x ∷ xs) ys h = elim h [ inl p ↦ inl p | inr r ↦ inr (some_left P xs ys r) ]
-
-some_right : {A : Type 0} (P : A → Type 0) (xs ys : List A) → SomeOf P ys → SomeOf P (xs ++ ys)
-some_right P [] ys h = h
-some_right P (x ∷ xs) ys h = inr (some_right P xs ys h)
 
 some_flat : {A B : Type 0} (f : A → List B) (y : B) (x : A) (xs : List A) → SomeOf (λ z. z ≡ x) xs
     → SomeOf (λ z. z ≡ y) (f x) → SomeOf (λ z. z ≡ y) (flat_map f xs)

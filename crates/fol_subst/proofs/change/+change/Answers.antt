@@ -7,7 +7,7 @@ use Rattle.fol_subst.specs.Replace.{changed_terms}
 use Rattle.fol_subst.specs.Room.{ReadyTerms, RoomTerms}
 use Rattle.fol_subst.specs.Kept.{kept}
 use Rattle.fol_subst.specs.Changes.{change_of}
-use Rattle.fol_subst.proofs.InPlace.{turned}
+use Rattle.base.proofs.Lists.{turned}
 use Rattle.fol_subst.proofs.Rooms.{args-drop, turn-ready, turn-room, kept-more, kept_room-atom, kept_room-application}
 use Rattle.fol_subst.proofs.Rooms.{built-atom, built-application}
 use Rattle.fol_subst.proofs.change.+change.Goals as goal

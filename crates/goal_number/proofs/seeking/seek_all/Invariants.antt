@@ -1,7 +1,7 @@
 -- The groups that are left give what all of them give.
 use Rattle.std.proofs.Common.{◌≡◌, ◌-◌, ◌++◌, [], ◌∷◌, length}
 use Rattle.std.specs.List.{flat_map}
-use Rattle.rml_command.specs.Lists.{count_from}
+use Rattle.base.specs.Lists.{count_from}
 use Rattle.rml_command.specs.Goals.{IsGoal, group_goals, stage_groups, goals_of}
 use Rattle.rml_command.specs.declared.goal.Stage.TheVariants as stage
 use Rattle.rml_command.specs.declared.goal.About.TheVariants as about

@@ -1,7 +1,7 @@
 -- The groups that are left give what all of them give.
 use Rattle.std.proofs.Common.{◌≡◌, ◌-◌, length, map}
 use Rattle.std.specs.List.{flat_map}
-use Rattle.rml_command.specs.Lists.{count_from}
+use Rattle.base.specs.Lists.{count_from}
 use Rattle.rml_command.specs.Goals.{IsGoal, group_goals, stage_groups}
 use Rattle.rml_command.specs.declared.goal.About.TheVariants as about
 use Rattle.goal_number.specs.Seeking.{seek_on, IfFound}

@@ -1,6 +1,6 @@
 use Rattle.std.proofs.Common.{◌≡◌, ◌-◌, ◌++◌, [], ◌∷◌, length, map}
 use Rattle.std.specs.List.{AllByRecursion, flat_map}
-use Rattle.rml_command.specs.Lists.{count_from}
+use Rattle.base.specs.Lists.{count_from}
 use Rattle.rml_command.specs.Goals.{stage_groups, groups_of}
 use Rattle.rml_command.specs.declared.goal.Stage.TheVariants as stage
 use Rattle.rml_command.specs.declared.goal.About.TheVariants as about

@@ -1,4 +1,4 @@
--- Facts about one element of a list.
+-- What std lacks on lists: some element, numbers in a row, the element of a number.
 use Rattle.std.specs.Prelude.{◌⊎◌, ℕ, zero, suc, List, [], ◌∷◌, Option, None, slice_get}
 
 -- one of the list is as P says
