@@ -95,7 +95,7 @@ checker() {
 three_times() {
     for _ in 1 2 3; do
         time "$@" "$work/chain.cnf" "$work/chain.lrat" | tee "$work/said"
-        grep -q refuted "$work/said" || { echo "$* does not take the log" >&2 && exit 1; }
+        grep -qE '^verdict: refuted|refuted true' "$work/said" || { echo "$* does not take the log" >&2 && exit 1; }
     done
 }
 
