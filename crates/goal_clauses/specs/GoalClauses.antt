@@ -13,11 +13,11 @@ use Rattle.goal_clauses.specs.declared.GoalClauses.{GoalClauses}
 use Rattle.goal_clauses.specs.declared.GoalClauses.TheVariants.{Written, Over}
 
 -- The clauses of the goal's refuting sentence. Truth values satisfy them exactly where the goal has a counterexample;
--- where none do, whoever shows it, it has none.
+-- that none do, whoever shows it, is that the goal has none.
 pub record AreClausesOf (m : ModelTree) (goal : Goal) (f : Formula) : Type 0 where
   pub form : IsClauseForm m.signature (refuting_sentence m goal) f
   pub exact : IsSatisfiable f ↔ HasCounterexample m goal
-  pub refute : IsUnsatisfiable f → HasNone m goal
+  pub refute : IsUnsatisfiable f ↔ HasNone m goal
 
 -- they are written where the goal passes no limit by its size; or the first limit that it passes
 abbrev pub AreGoalClauses : Ceilings → ModelTree → Goal → GoalClauses → Type 0

@@ -83,7 +83,10 @@ fn clauses_of_sentence(
     let _sorts = signature.sorts();
     let strata = checked.strata();
     match ea_decide::clauses_of(alloc, signature, strata, sentence, limits)? {
-        Clauses::Written(cnf) => Ok(GoalClauses::Written(cnf)),
+        Clauses::Written(cnf) => {
+            let _variables = cnf.variables();
+            Ok(GoalClauses::Written(cnf))
+        }
         Clauses::Over(passed) => Ok(GoalClauses::Over(cause_of(passed))),
     }
 }
