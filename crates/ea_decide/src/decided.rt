@@ -50,6 +50,14 @@ impl Proof {
         self.checker.formula()
     }
 
+    /// The log.
+    pub fn lines(&self) -> &[Line]
+        ensures value { result.now ≡ self.now.lines }
+        ensures accepted { IsAccepted self.now.formula self.now.lines }
+    {
+        self.checker.lines()
+    }
+
     /// The clauses, and the log. Nothing is copied.
     pub fn into_parts(self) -> (Cnf, Row<Line>)
         ensures formula { result.0 ≡ self.formula }
