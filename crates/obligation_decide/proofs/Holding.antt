@@ -7,7 +7,7 @@ use Rattle.rml_command.specs.Models.{ModelTree, FitsModel}
 use Rattle.rml_command.specs.Goals.{IsGoal}
 use Rattle.rml_command.specs.declared.goal.Goal.{Goal}
 use Rattle.rml_exec.specs.declared.trace.Counterexample.{Counterexample}
-use Rattle.rml_wp.specs.declared.asked.Asked.TheVariants.{All}
+use Rattle.rml_wp.specs.declared.premises.Premises.TheVariants.{All}
 use Rattle.rml_wp.specs.Preconditions.{goal_passes_limit, refuting_of}
 use Rattle.rml_wp.specs.Added.{AreAdded, NoPartsAreAdded}
 use Rattle.rml_wp.specs.Laws.{RefutingByIsExact}

@@ -32,7 +32,7 @@ use Rattle.rml_command.specs.Models.{ModelTree, FitsModel}
 use Rattle.rml_command.specs.Outcomes.{all_of, is_true}
 use Rattle.rml_command.specs.Goals.{IsGoal}
 use Rattle.rml_command.specs.declared.goal.Goal.{Goal}
-use Rattle.rml_wp.specs.declared.asked.Asked.TheVariants.{All}
+use Rattle.rml_wp.specs.declared.premises.Premises.TheVariants.{All}
 use Rattle.rml_wp.specs.Preconditions.{goal_passes_limit, refuting_parts, refuting_of}
 use Rattle.rml_wp.specs.Added.{AreAdded, refuting_all, NoPartsAreAdded}
 use Rattle.rml_wp.specs.Laws.{RefutingIsExact, AllConjecturesHeld}

@@ -13,8 +13,8 @@ use Rattle.rml_command.specs.Models.{ModelTree}
 use Rattle.rml_command.specs.Fragment.{IsChecked}
 use Rattle.rml_command.specs.Goals.{IsGoal}
 use Rattle.rml_command.specs.declared.goal.Goal.{Goal}
-use Rattle.rml_wp.specs.declared.asked.Asked.{Asked}
-use Rattle.rml_wp.specs.declared.asked.Asked.TheVariants.{All}
+use Rattle.rml_wp.specs.declared.premises.Premises.{Premises}
+use Rattle.rml_wp.specs.declared.premises.Premises.TheVariants.{All}
 use Rattle.rml_wp.specs.Added.{refuting_all_by, RefutingSentencesFit, NoPartsAreAdded, ConjecturesAreAdded}
 use Rattle.rml_wp.specs.Witnesses.{witness_places_by, values_at}
 use Rattle.witness.specs.Laws.{IsRefutingNormal, RefutingNormalsFit, ModelsGiveCounterexamples}
@@ -44,20 +44,20 @@ alone laws m goal checked = record {
 }
 
 -- a refuting sentence with further parts is one of the model
-pub given_fits : RefutingSentencesFit → (asked : Asked) (m : ModelTree) (goal : Goal) (p : FormTree) → IsChecked m
-    → IsGoal m goal → IsRefutingWith asked m goal p → FitsForm (symbols m.signature) [] p
-given_fits fit asked m goal p checked g with =
+pub given_fits : RefutingSentencesFit → (premises : Premises) (m : ModelTree) (goal : Goal) (p : FormTree) → IsChecked m
+    → IsGoal m goal → IsRefutingWith premises m goal p → FitsForm (symbols m.signature) [] p
+given_fits fit premises m goal p checked g with =
     subst (λ (q : FormTree). FitsForm (symbols m.signature) [] q) (sym with.is)
-    (fit asked m with.held with.more goal checked g with.added).fits
+    (fit premises m with.held with.more goal checked g with.added).fits
 
-module _ (normals : RefutingNormalsFit) (asked : Asked) (m : ModelTree) (goal : Goal) (checked : IsChecked m) (g : IsGoal m goal)
-    (p : FormTree) (with : IsRefutingWith asked m goal p) where
+module _ (normals : RefutingNormalsFit) (premises : Premises) (m : ModelTree) (goal : Goal) (checked : IsChecked m) (g : IsGoal m goal)
+    (p : FormTree) (with : IsRefutingWith premises m goal p) where
   -- the refuting sentence with these parts
-  whole : p ≡ refuting_all_by asked m with.held with.more goal
+  whole : p ≡ refuting_all_by premises m with.held with.more goal
   whole = with.is
 
-  normal_fits : IsRefutingNormal asked m with.held with.more goal
-  normal_fits = normals asked m with.held with.more goal checked g with.added
+  normal_fits : IsRefutingNormal premises m with.held with.more goal
+  normal_fits = normals premises m with.held with.more goal checked g with.added
 
   pub normal-fits : FitsForm (symbols m.signature) [] (normal true p)
   normal-fits =
@@ -82,8 +82,8 @@ module _ (normals : RefutingNormalsFit) (asked : Asked) (m : ModelTree) (goal : 
     -- with the values of the constants it is a counterexample
     pub is-shown : ModelsGiveCounterexamples → (xs : List ℕ)
         → ((i : ℕ) → i < n → get_or xs i 0 ≡ fun_at t (f + i) [])
-        → RefutesAs asked m goal p (reduct (symbols m.signature) t)
-        (values_at xs (witness_places_by asked m goal).havocs) (values_at xs (witness_places_by asked m goal).values)
+        → RefutesAs premises m goal p (reduct (symbols m.signature) t)
+        (values_at xs (witness_places_by premises m goal).havocs) (values_at xs (witness_places_by premises m goal).values)
     is-shown models xs values held more added is =
         let each = λ (q : FormTree).
         (i : ℕ) → i < length (constant_sorts q) → get_or xs i 0 ≡ fun_at t (length m.signature.functions + i) [] in
@@ -91,4 +91,4 @@ module _ (normals : RefutingNormalsFit) (asked : Asked) (m : ModelTree) (goal : 
         let within : i < n = subst (λ (k : ℕ). i < k) (sym all-counted) lt in
         values i within ∙ ap (λ (k : ℕ). fun_at t (k + i) []) h.functions in
         let holds = subst (λ (q : FormTree). HoldsWithConstants m.signature q t) is model in
-        models asked m held more goal t xs checked g added holds (subst each is read)
+        models premises m held more goal t xs checked g added holds (subst each is read)

@@ -9,8 +9,8 @@ use Rattle.rml_command.specs.Goals.{IsCounterexample}
 use Rattle.rml_command.specs.declared.goal.Goal.{Goal}
 use Rattle.rml_exec.specs.declared.trace.Counterexample.{Counterexample}
 use Rattle.rml_wp.specs.Preconditions.{goal_passes_limit}
-use Rattle.rml_wp.specs.declared.asked.Asked.{Asked}
-use Rattle.rml_wp.specs.declared.asked.Asked.TheVariants as asked_axioms
+use Rattle.rml_wp.specs.declared.premises.Premises.{Premises}
+use Rattle.rml_wp.specs.declared.premises.Premises.TheVariants.{All}
 use Rattle.rml_wp.specs.Added.{AreAdded, refuting_all, refuting_all_by}
 use Rattle.rml_wp.specs.Laws.{IsCounterexampleBy}
 use Rattle.rml_report.specs.declared.cause.Cause.{Cause}
@@ -28,27 +28,27 @@ abbrev pub with_parts : FormTree → List FormTree → FormTree
 with_parts (conjunction ps) more = all_of (list_of_forms ps ++ more)
 with_parts p more = all_of (p ∷ more)
 
--- The sentence is a refuting sentence of the goal, in which these axioms are asked for behind a step, with further
+-- The sentence is a refuting sentence of the goal, in which these axioms are premises behind a step, with further
 -- parts, where some sentences hold before the stage in place of the conjectures.
-pub record IsRefutingWith (asked : Asked) (m : ModelTree) (goal : Goal) (p : FormTree) : Type 0 where
+pub record IsRefutingWith (premises : Premises) (m : ModelTree) (goal : Goal) (p : FormTree) : Type 0 where
   pub held : List FormTree
   pub more : List FormTree
   pub added : AreAdded m held more
-  pub is : p ≡ refuting_all_by asked m held more goal
+  pub is : p ≡ refuting_all_by premises m held more goal
 
 -- Whatever holds before the stage where the sentence is such a refuting sentence of the goal, with these elements and
 -- values the structure is a counterexample.
-abbrev pub RefutesAs : Asked → ModelTree → Goal → FormTree → Tables → List ℕ → List ℕ → Type 0
-RefutesAs asked m goal p s elements values =
-    (held more : List FormTree) → AreAdded m held more → p ≡ refuting_all_by asked m held more goal
+abbrev pub RefutesAs : Premises → ModelTree → Goal → FormTree → Tables → List ℕ → List ℕ → Type 0
+RefutesAs premises m goal p s elements values =
+    (held more : List FormTree) → AreAdded m held more → p ≡ refuting_all_by premises m held more goal
     → IsCounterexampleBy m held goal s elements values
 
--- The execution is one, of a sentence in which all axioms are asked for. Private contracts alone cite this.
+-- The execution is one, of a sentence in which all axioms are premises. Private contracts alone cite this.
 pub record IsSentenceFailing (limits : Ceilings) (m : ModelTree) (p : FormTree) (goal : Goal) (shown : Counterexample) :
     Type 0 where
   pub same : shown.goal ≡ goal
   pub path : shown.trace.path ≡ goal.path
-  pub refutes : RefutesAs asked_axioms.All m goal p shown.structure shown.trace.havoc shown.values
+  pub refutes : RefutesAs All m goal p shown.structure shown.trace.havoc shown.values
   pub few : sum shown.structure.sizes ≤ limits.terms
 
 -- The answer to such a sentence. Private contracts alone cite this.

@@ -18,7 +18,7 @@ ghost use Rattle.fol_sig.specs.Symbols.{symbols};
 ghost use Rattle.fol_formula.specs.Fits.{FitsForm};
 ghost use Rattle.fol_formula.specs.Fragments.{IsEa};
 ghost use Rattle.rml_command.specs.Goals.{IsGoal};
-ghost use Rattle.rml_wp.specs.declared.asked.Asked.TheVariants.{All as AllAxioms};
+ghost use Rattle.rml_wp.specs.declared.premises.Premises.TheVariants.{All as AllAxioms};
 ghost use Rattle.rml_wp.specs.Preconditions.{conjectures_of};
 ghost use Rattle.ea_decide.specs.Passing.{ceilings};
 ghost use Rattle.obligation_decide.specs.GoalPassing.{cause_of as named_cause};
@@ -36,7 +36,7 @@ pub use measuring::measure_where;
 use parts::restricted;
 use rml_command::{Checked, Goal};
 use rml_report::Cause;
-use rml_wp::{Asked, refuting_with};
+use rml_wp::{Premises, refuting_with};
 use std::alloc::{AllocError, Global};
 pub use walk::read_counterexample;
 
@@ -127,7 +127,7 @@ fn decide_sentence(
     match ea_decide::decide(alloc, signature, checked.strata(), sentence, &limits)? {
         Decided::Refuted(proof) => Ok(Decision::Holds(proof)),
         Decided::Satisfied(model) => {
-            let shown = read_counterexample(alloc, checked, Asked::All, goal, sentence, model)?;
+            let shown = read_counterexample(alloc, checked, Premises::All, goal, sentence, model)?;
             Ok(Decision::Fails(shown))
         }
         Decided::Over(passed) => Ok(Decision::Undecided(cause_of(passed))),

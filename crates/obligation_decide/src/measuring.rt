@@ -5,7 +5,7 @@ ghost use Rattle.fol_sig.specs.Symbols.{symbols};
 ghost use Rattle.fol_formula.specs.Fits.{FitsForm};
 ghost use Rattle.fol_formula.specs.Fragments.{IsEa};
 ghost use Rattle.rml_command.specs.Goals.{IsGoal};
-ghost use Rattle.rml_wp.specs.declared.asked.Asked.TheVariants.{All};
+ghost use Rattle.rml_wp.specs.declared.premises.Premises.TheVariants.{All};
 ghost use Rattle.ea_decide.specs.Passing.{ceilings};
 ghost use Rattle.obligation_decide.specs.Restricted.{IsRefutingWith};
 ghost use Rattle.obligation_decide.specs.Costs.{IsSentenceMeasured, IsRestrictedMeasured};

@@ -1,5 +1,5 @@
 -- In a structure that satisfies the axioms, those in which a changed symbol does not occur stay true, so nothing changes
--- where they are not asked for.
+-- where they are no premises.
 use Rattle.std.proofs.Common.{◌≡◌, ℕ, zero, suc, ◌<◌, Bool, true, false, not, ◌&&◌, ◌||◌, cond, List, [], ◌∷◌, ◌++◌, refl}
 use Rattle.std.proofs.Common.{sym, ap, ◌∙◌, subst, arith}
 use Rattle.std.specs.List.{AllByRecursion}
@@ -19,12 +19,12 @@ use Rattle.rml_command.specs.Laws.{UpdatesKeepSymbols, GoalPathsFit}
 use Rattle.rml_command.specs.Goals.{goal_path}
 use Rattle.rml_command.specs.declared.goal.Stage.{Stage}
 use Rattle.rml_command.specs.declared.goal.Stage.TheVariants as stage
-use Rattle.rml_wp.specs.declared.asked.Asked.{Asked}
-use Rattle.rml_wp.specs.declared.asked.Asked.TheVariants.{All, Changed}
-use Rattle.rml_wp.specs.Preconditions.{mentioning, asked_of, precondition_of, where_lawful, parts_before, target_of}
+use Rattle.rml_wp.specs.declared.premises.Premises.{Premises}
+use Rattle.rml_wp.specs.declared.premises.Premises.TheVariants.{All, Affected}
+use Rattle.rml_wp.specs.Preconditions.{mentioning, premises_of, precondition_of, where_lawful, parts_before, target_of}
 use Rattle.rml_wp.specs.Preconditions.{path_or_none, goal_precondition_by}
-use Rattle.rml_wp.specs.Laws.{AskingLessIsSame, LeanRefutingIsSame}
-use Rattle.rml_wp.proofs.Asks.{each_of}
+use Rattle.rml_wp.specs.Laws.{FewerPremisesAreSame, LeanRefutingIsSame}
+use Rattle.rml_wp.proofs.Premises.{each_of}
 use Rattle.rml_wp.proofs.StepTruth.{Replaces, lawful-fits, precondition-fits, truth-set_rel, truth-set_fun, truth-havoc}
 use Rattle.rml_wp.proofs.StepTruth.{in_sort}
 
@@ -78,7 +78,7 @@ spared reads a b x alike (p ∷ ps) e =
     one_spared reads a b x alike p ps (form_mentions x p) refl (both_parts (is_true b p) (satisfies b ps) e).0
     (spared reads a b x alike ps (both_parts (is_true b p) (satisfies b ps) e).1)
 
--- behind a step from a structure that satisfies the axioms, all are true where those are that are asked for
+-- behind a step from a structure that satisfies the axioms, all are true where the premises are
 pub record AreEnough (sig : Symbols) (axioms : List FormTree) (behind : PrimitiveTree → List FormTree) : Type 0 where
   pub relation : (s : Tables) (r : ℕ) (by : FormTree) → satisfies s axioms ≡ true
       → satisfies (set_relation s r by) (behind (set_rel r by)) ≡ satisfies (set_relation s r by) axioms
@@ -87,11 +87,11 @@ pub record AreEnough (sig : Symbols) (axioms : List FormTree) (behind : Primitiv
   pub variable : (s : Tables) (v x : ℕ) → satisfies s axioms ≡ true
       → satisfies (set_variable s v x) (behind (havoc v)) ≡ satisfies (set_variable s v x) axioms
 
-pub are_enough : Spares → (sig : Symbols) (asked : Asked) (axioms : List FormTree)
-    → AreEnough sig axioms (asked_of asked axioms)
+pub are_enough : Spares → (sig : Symbols) (premises : Premises) (axioms : List FormTree)
+    → AreEnough sig axioms (premises_of premises axioms)
 are_enough laws sig All axioms =
     record { relation = λ s r by e. refl; function = λ s g by e. refl; variable = λ s v x e. refl }
-are_enough laws sig Changed axioms = record {
+are_enough laws sig Affected axioms = record {
   relation = λ s r by e. spared laws.reads (set_relation s r by) s (the_rel r) (but_relation laws s r by) axioms e;
   function = λ s g by e. spared laws.reads (set_function s g by) s (the_fun g)
       (but_function laws s g (λ tuple. value (reading s) by tuple)) axioms e;
@@ -114,61 +114,61 @@ below_same (suc n) p q h =
 module _ (spares : Spares) (laws : Replaces) (keep : UpdatesKeepSymbols) (sig : Symbols) (axioms : List FormTree)
     (target : FormTree) (axioms_fit : AllByRecursion (FitsForm sig []) axioms) (target_fits : FitsForm sig [] target)
     where
-  abbrev pre : Asked → List PrimitiveTree → FormTree
-  pre asked qs = precondition_of sig (asked_of asked axioms) target qs
+  abbrev pre : Premises → List PrimitiveTree → FormTree
+  pre premises qs = precondition_of sig (premises_of premises axioms) target qs
 
-  abbrev lawful : Asked → PrimitiveTree → List PrimitiveTree → FormTree
-  lawful asked q qs = where_lawful (asked_of asked axioms q) (pre asked qs)
+  abbrev lawful : Premises → PrimitiveTree → List PrimitiveTree → FormTree
+  lawful premises q qs = where_lawful (premises_of premises axioms q) (pre premises qs)
 
-  abbrev fit : (asked : Asked) (q : PrimitiveTree) → AllByRecursion (FitsForm sig []) (asked_of asked axioms q)
-  fit asked q = each_of (FitsForm sig []) asked axioms axioms_fit q
+  abbrev fit : (premises : Premises) (q : PrimitiveTree) → AllByRecursion (FitsForm sig []) (premises_of premises axioms q)
+  fit premises q = each_of (FitsForm sig []) premises axioms axioms_fit q
 
-  lawful_fits : (asked : Asked) (q : PrimitiveTree) (qs : List PrimitiveTree) → FitsPath sig qs
-      → FitsForm sig [] (lawful asked q qs)
-  lawful_fits asked q qs f =
-      lawful-fits sig (asked_of asked axioms q) (pre asked qs) (fit asked q)
-      (precondition-fits laws sig (asked_of asked axioms) target qs (fit asked) target_fits f)
+  lawful_fits : (premises : Premises) (q : PrimitiveTree) (qs : List PrimitiveTree) → FitsPath sig qs
+      → FitsForm sig [] (lawful premises q qs)
+  lawful_fits premises q qs f =
+      lawful-fits sig (premises_of premises axioms q) (pre premises qs) (fit premises q)
+      (precondition-fits laws sig (premises_of premises axioms) target qs (fit premises) target_fits f)
 
-  enough : AreEnough sig axioms (asked_of Changed axioms)
-  enough = are_enough spares sig Changed axioms
+  enough : AreEnough sig axioms (premises_of Affected axioms)
+  enough = are_enough spares sig Affected axioms
 
   pub same : (p : List PrimitiveTree) (s : Tables) → FitsPath sig p → FitsStructure sig s → satisfies s axioms ≡ true
-      → is_true s (pre Changed p) ≡ is_true s (pre All p)
+      → is_true s (pre Affected p) ≡ is_true s (pre All p)
   same [] s f fits e = refl
   same (assume p ∷ qs) s f fits e = ap (λ z. not (is_true s p) || z) (same qs s f.1 fits e)
   same (set_rel r by ∷ qs) s f fits e =
       let new = set_relation s r by in
-      truth-set_rel laws sig s fits r by (lawful Changed (set_rel r by) qs) f.0 (lawful_fits Changed (set_rel r by) qs f.1)
-      ∙ under_same (satisfies new (asked_of Changed axioms (set_rel r by))) (satisfies new axioms)
-      (is_true new (pre Changed qs)) (is_true new (pre All qs)) (enough.relation s r by e)
+      truth-set_rel laws sig s fits r by (lawful Affected (set_rel r by) qs) f.0 (lawful_fits Affected (set_rel r by) qs f.1)
+      ∙ under_same (satisfies new (premises_of Affected axioms (set_rel r by))) (satisfies new axioms)
+      (is_true new (pre Affected qs)) (is_true new (pre All qs)) (enough.relation s r by e)
       (λ h. same qs new f.1 (keep.relation sig s r by f.0 fits) h)
       ∙ sym (truth-set_rel laws sig s fits r by (lawful All (set_rel r by) qs) f.0 (lawful_fits All (set_rel r by) qs f.1))
   same (set_fun g by ∷ qs) s f fits e =
       let new = set_function s g by in
-      truth-set_fun laws sig s fits g by (lawful Changed (set_fun g by) qs) f.0 (lawful_fits Changed (set_fun g by) qs f.1)
-      ∙ under_same (satisfies new (asked_of Changed axioms (set_fun g by))) (satisfies new axioms)
-      (is_true new (pre Changed qs)) (is_true new (pre All qs)) (enough.function s g by e)
+      truth-set_fun laws sig s fits g by (lawful Affected (set_fun g by) qs) f.0 (lawful_fits Affected (set_fun g by) qs f.1)
+      ∙ under_same (satisfies new (premises_of Affected axioms (set_fun g by))) (satisfies new axioms)
+      (is_true new (pre Affected qs)) (is_true new (pre All qs)) (enough.function s g by e)
       (λ h. same qs new f.1 (keep.function sig s g by f.0 fits) h)
       ∙ sym (truth-set_fun laws sig s fits g by (lawful All (set_fun g by) qs) f.0 (lawful_fits All (set_fun g by) qs f.1))
   same (havoc v ∷ qs) s f fits e =
       below_same (size_at s (sig.into_of v))
-      (λ y. truth (reading s) (changed_form (change_const v 0) 0 (lawful Changed (havoc v) qs)) (y ∷ []))
+      (λ y. truth (reading s) (changed_form (change_const v 0) 0 (lawful Affected (havoc v) qs)) (y ∷ []))
       (λ y. truth (reading s) (changed_form (change_const v 0) 0 (lawful All (havoc v) qs)) (y ∷ []))
       (λ x below.
           let lt : x < range_of s v = subst (λ k. x < size_at s k) (fits.into_of v f.0.0) below in
           let new = set_variable s v x in
-          truth-havoc laws sig s fits v x (lawful Changed (havoc v) qs) f.0 (lawful_fits Changed (havoc v) qs f.1) lt
-          ∙ under_same (satisfies new (asked_of Changed axioms (havoc v))) (satisfies new axioms)
-          (is_true new (pre Changed qs)) (is_true new (pre All qs)) (enough.variable s v x e)
+          truth-havoc laws sig s fits v x (lawful Affected (havoc v) qs) f.0 (lawful_fits Affected (havoc v) qs f.1) lt
+          ∙ under_same (satisfies new (premises_of Affected axioms (havoc v))) (satisfies new axioms)
+          (is_true new (pre Affected qs)) (is_true new (pre All qs)) (enough.variable s v x e)
           (λ h. same qs new f.1 (keep.variable sig s v x f.0 lt fits) h)
           ∙ sym (truth-havoc laws sig s fits v x (lawful All (havoc v) qs) f.0 (lawful_fits All (havoc v) qs f.1) lt))
   same (abort ∷ qs) s f fits e = refl
 
-pub asking_less : Spares → Replaces → UpdatesKeepSymbols → AskingLessIsSame
-asking_less spares laws keep sig axioms target p s a t f fits e =
+pub fewer_premises : Spares → Replaces → UpdatesKeepSymbols → FewerPremisesAreSame
+fewer_premises spares laws keep sig axioms target p s a t f fits e =
     same spares laws keep sig axioms target a t p s f fits e
 
--- the sentence asks for the axioms at the start
+-- the axioms stand at the front of the sentence
 under_and : (a x y : Bool) → (a ≡ true → x ≡ y) → (a && x) ≡ (a && y)
 under_and true x y h = h refl
 under_and false x y h = refl

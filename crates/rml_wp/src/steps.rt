@@ -12,11 +12,11 @@ ghost use Rattle.rml_command.specs.Trees.{set_rel, set_fun, havoc};
 ghost use Rattle.rml_command.specs.View.{primitive as primitive_view};
 ghost use Rattle.rml_command.specs.Models.{FitsPrimitive, FitsPath};
 ghost use Rattle.fol_occurs.specs.Occurs.{the_rel, the_fun};
-ghost use Rattle.rml_wp.specs.Preconditions.{back_of, precondition_of, passes_limit, target_of, asked_at, asked_of};
+ghost use Rattle.rml_wp.specs.Preconditions.{back_of, precondition_of, passes_limit, target_of, premises_at, premises_of};
 ghost use Rattle.rml_wp.specs.Preconditions.{where_lawful as where_lawful_of};
 ghost use Rattle.rml_wp.specs.Laws.{HasTarget};
 
-use crate::asked::Asked;
+use crate::premises::Premises;
 use base::{Mem, Refused};
 use fol_formula::{Formula, Term};
 use fol_occurs::Symbol;
@@ -31,7 +31,7 @@ use std::alloc::Global;
 pub fn along(
     alloc: Global,
     model: &Model,
-    asked: Asked,
+    premises: Premises,
     about: About,
     path: &Path,
 ) -> Result<Counted, Refused<FormulaLimit>>
@@ -39,13 +39,13 @@ pub fn along(
     requires path { FitsPath (symbols model.now.signature) path.now }
     ensures precondition { IfOk result
         (λ c. form c.formula
-        ≡ precondition_of (symbols model.now.signature) (asked_of asked model.now.axioms) (target_of model.now about)
+        ≡ precondition_of (symbols model.now.signature) (premises_of premises model.now.axioms) (target_of model.now about)
         path.now) }
     ensures within { OnOk result
-        (passes_limit (symbols model.now.signature) (asked_of asked model.now.axioms) (target_of model.now about) path.now ≡ false) }
+        (passes_limit (symbols model.now.signature) (premises_of premises model.now.axioms) (target_of model.now about) path.now ≡ false) }
     ensures limit { IfErr result
         (Because (λ _. IsTrue
-        (passes_limit (symbols model.now.signature) (asked_of asked model.now.axioms) (target_of model.now about) path.now))) }
+        (passes_limit (symbols model.now.signature) (premises_of premises model.now.axioms) (target_of model.now about) path.now))) }
 {
     fol_subst::exactness();
     fol_formula::indices();
@@ -57,7 +57,7 @@ pub fn along(
     };
     let mut before = path.primitives();
     while let Some(primitive) = before.next_back() {
-        now = match step_back(alloc, model, asked, primitive, now) {
+        now = match step_back(alloc, model, premises, primitive, now) {
             Ok(counted) => counted,
             Err(refused) => return Err(refused),
         };
@@ -81,7 +81,7 @@ fn target(alloc: Global, model: &Model, about: About) -> Mem<Formula>
 fn step_back(
     alloc: Global,
     model: &Model,
-    asked: Asked,
+    premises: Premises,
     primitive: &Primitive,
     rest: Counted,
 ) -> Result<Counted, Refused<FormulaLimit>>
@@ -89,12 +89,12 @@ fn step_back(
     requires rest { FitsForm (symbols model.now.signature) [] (form rest.formula) }
     ensures back { IfOk result
         (λ c. form c.formula
-        ≡ back_of (symbols model.now.signature) (asked_of asked model.now.axioms (primitive_view primitive.now))
+        ≡ back_of (symbols model.now.signature) (premises_of premises model.now.axioms (primitive_view primitive.now))
         (primitive_view primitive.now) (form rest.formula)) }
     ensures limit { IfErr result
         (Because (λ _. IsTrue
         (is_too_large
-        (back_of (symbols model.now.signature) (asked_of asked model.now.axioms (primitive_view primitive.now))
+        (back_of (symbols model.now.signature) (premises_of premises model.now.axioms (primitive_view primitive.now))
         (primitive_view primitive.now) (form rest.formula))))) }
 {
     match primitive {
@@ -103,9 +103,9 @@ fn step_back(
             let counted = under(alloc, assumed, rest)?;
             Ok(counted)
         }
-        Primitive::SetRel(rel, by) => before_set_rel(alloc, model, asked, *rel, by, rest),
-        Primitive::SetFun(fun, by) => before_set_fun(alloc, model, asked, *fun, by, rest),
-        Primitive::Havoc(variable) => before_havoc(alloc, model, asked, *variable, rest.formula),
+        Primitive::SetRel(rel, by) => before_set_rel(alloc, model, premises, *rel, by, rest),
+        Primitive::SetFun(fun, by) => before_set_fun(alloc, model, premises, *fun, by, rest),
+        Primitive::Havoc(variable) => before_havoc(alloc, model, premises, *variable, rest.formula),
         Primitive::Abort => Counted::of(Formula::False),
     }
 }
@@ -127,7 +127,7 @@ fn under(alloc: Global, premise: Formula, rest: Counted) -> Result<Counted, Refu
 fn before_set_rel(
     alloc: Global,
     model: &Model,
-    asked: Asked,
+    premises: Premises,
     rel: RelId,
     by: &Formula,
     rest: Counted,
@@ -137,17 +137,17 @@ fn before_set_rel(
     ensures back { IfOk result
         (λ c. form c.formula
         ≡ changed_form (change_rel rel.0 (form by.now)) 0
-        (where_lawful_of (asked_at asked model.now.axioms (the_rel rel.0)) (form rest.formula))) }
+        (where_lawful_of (premises_at premises model.now.axioms (the_rel rel.0)) (form rest.formula))) }
     ensures limit { IfErr result
         (Because (λ _. IsTrue
         (is_too_large
         (changed_form (change_rel rel.0 (form by.now)) 0
-        (where_lawful_of (asked_at asked model.now.axioms (the_rel rel.0)) (form rest.formula)))))) }
+        (where_lawful_of (premises_at premises model.now.axioms (the_rel rel.0)) (form rest.formula)))))) }
 {
     fol_subst::conditions();
     fol_subst::own_values();
     let axioms = model.axioms();
-    let lawful = asked.lawful(alloc, axioms, Symbol::Rel(rel))?;
+    let lawful = premises.lawful(alloc, axioms, Symbol::Rel(rel))?;
     if is_own_rel(rel, by) {
         let unchanged = under(alloc, lawful, rest)?;
         return Ok(unchanged);
@@ -161,7 +161,7 @@ fn before_set_rel(
 fn before_set_fun(
     alloc: Global,
     model: &Model,
-    asked: Asked,
+    premises: Premises,
     fun: FunId,
     by: &Term,
     rest: Counted,
@@ -171,17 +171,17 @@ fn before_set_fun(
     ensures back { IfOk result
         (λ c. form c.formula
         ≡ changed_form (change_fun fun.0 (term by.now)) 0
-        (where_lawful_of (asked_at asked model.now.axioms (the_fun fun.0)) (form rest.formula))) }
+        (where_lawful_of (premises_at premises model.now.axioms (the_fun fun.0)) (form rest.formula))) }
     ensures limit { IfErr result
         (Because (λ _. IsTrue
         (is_too_large
         (changed_form (change_fun fun.0 (term by.now)) 0
-        (where_lawful_of (asked_at asked model.now.axioms (the_fun fun.0)) (form rest.formula)))))) }
+        (where_lawful_of (premises_at premises model.now.axioms (the_fun fun.0)) (form rest.formula)))))) }
 {
     fol_subst::conditions();
     fol_subst::own_values();
     let axioms = model.axioms();
-    let lawful = asked.lawful(alloc, axioms, Symbol::Fun(fun))?;
+    let lawful = premises.lawful(alloc, axioms, Symbol::Fun(fun))?;
     if is_own_fun(fun, by) {
         let unchanged = under(alloc, lawful, rest)?;
         return Ok(unchanged);
@@ -194,7 +194,7 @@ fn before_set_fun(
 fn before_havoc(
     alloc: Global,
     model: &Model,
-    asked: Asked,
+    premises: Premises,
     variable: FunId,
     rest: Formula,
 ) -> Result<Counted, Refused<FormulaLimit>>
@@ -202,17 +202,17 @@ fn before_havoc(
     requires rest { FitsForm (symbols model.now.signature) [] (form rest) }
     ensures back { IfOk result
         (λ c. form c.formula
-        ≡ back_of (symbols model.now.signature) (asked_at asked model.now.axioms (the_fun variable.0))
+        ≡ back_of (symbols model.now.signature) (premises_at premises model.now.axioms (the_fun variable.0))
         (havoc variable.0) (form rest)) }
     ensures limit { IfErr result
         (Because (λ _. IsTrue
-        (is_too_large (back_of (symbols model.now.signature) (asked_at asked model.now.axioms (the_fun variable.0))
+        (is_too_large (back_of (symbols model.now.signature) (premises_at premises model.now.axioms (the_fun variable.0))
         (havoc variable.0) (form rest))))) }
 {
     fol_subst::conditions();
     fol_formula::indices();
     let axioms = model.axioms();
-    let lawful = asked.lawful(alloc, axioms, Symbol::Fun(variable))?;
+    let lawful = premises.lawful(alloc, axioms, Symbol::Fun(variable))?;
     let within = implies(alloc, lawful, rest)?;
     let replaced = replace_const(alloc, within, variable, 0)?;
     let nodes = replaced.nodes.saturating_add(1);

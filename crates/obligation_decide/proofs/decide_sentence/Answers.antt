@@ -4,7 +4,7 @@ use Rattle.fol_sig.specs.Symbols.{symbols}
 use Rattle.fol_formula.specs.Fits.{FitsForm}
 use Rattle.fol_nnf.specs.Normal.{normal}
 use Rattle.rml_command.specs.Outcomes.{is_true}
-use Rattle.rml_wp.specs.declared.asked.Asked.TheVariants.{All}
+use Rattle.rml_wp.specs.declared.premises.Premises.TheVariants.{All}
 use Rattle.ea_decide.specs.Passing.{ceilings}
 use Rattle.obligation_decide.specs.WithConstants.{constant_sorts}
 use Rattle.obligation_decide.proofs.SameAnswer.{signature_of, same_answer}

@@ -2,7 +2,7 @@ use Rattle.std.proofs.Common.{[], sym, subst}
 use Rattle.fol_sig.specs.Tables.{Declared}
 use Rattle.fol_sig.specs.Symbols.{symbols}
 use Rattle.fol_formula.specs.Fits.{FitsForm}
-use Rattle.rml_wp.specs.declared.asked.Asked.TheVariants.{All}
+use Rattle.rml_wp.specs.declared.premises.Premises.TheVariants.{All}
 use Rattle.ea_decide.specs.Passing.{ceilings}
 use Rattle.obligation_decide.proofs.SameAnswer.{signature_of, same_measure}
 use Rattle.obligation_decide.proofs.Shown.{given_fits}

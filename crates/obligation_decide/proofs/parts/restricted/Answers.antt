@@ -4,7 +4,7 @@ use Rattle.fol_formula.specs.Syntax.{FormTree}
 use Rattle.fol_formula.specs.View.{form}
 use Rattle.fol_formula.specs.Fits.{BoundForm}
 use Rattle.fol_formula.specs.Fragments.{IsEa}
-use Rattle.rml_wp.specs.declared.asked.Asked.TheVariants.{All}
+use Rattle.rml_wp.specs.declared.premises.Premises.TheVariants.{All}
 use Rattle.rml_wp.specs.Added.{refuting_all}
 use Rattle.obligation_decide.specs.Restricted.{with_parts}
 use Rattle.obligation_decide.proofs.Restricting.{restricted_is}

@@ -1,10 +1,10 @@
 use Rattle.rml_wp.proofs.Exactly.{lean_same}
-use Rattle.rml_wp.proofs.Lean.{asking_less}
+use Rattle.rml_wp.proofs.Lean.{fewer_premises}
 use Rattle.rml_wp.proofs.laws.lean_law.Goals as goal
 
 pub returns-clause-precondition : goal.returns-clause-precondition
 returns-clause-precondition c =
-    asking_less
+    fewer_premises
     (record {
       reads = c.occurring.ensures.truth;
       relations = c.update_laws.ensures.relations;

@@ -6,7 +6,7 @@ use Rattle.fol_formula.specs.Witnesses.{existentials}
 use Rattle.fol_occurs.specs.View.{named}
 use Rattle.rml_command.specs.Outcomes.{all_of}
 use Rattle.rml_wp.specs.Preconditions.{mentioning}
-use Rattle.rml_wp.proofs.asked.existentials_mentioning.Goals as goal
+use Rattle.rml_wp.proofs.premises.existentials_mentioning.Goals as goal
 
 pub returns : goal.returns
 returns c =

@@ -2,7 +2,7 @@ use Rattle.std.proofs.Common.{◌≡◌, ◌++◌, map, drop}
 use Rattle.fol_formula.specs.View.{form}
 use Rattle.fol_occurs.specs.View.{named}
 use Rattle.rml_wp.specs.Preconditions.{mentioning}
-use Rattle.rml_wp.proofs.asked.all_mentioning.Given as goal
+use Rattle.rml_wp.proofs.premises.all_mentioning.Given as goal
 
 abbrev pub invariant-loop-sentence : goal.invariant-loop-sentence
 invariant-loop-sentence l =

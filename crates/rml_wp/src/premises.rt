@@ -1,36 +1,36 @@
-// Which axioms are asked for behind a step.
+// Which axioms are the premises of what must hold behind a step.
 ghost use Rattle.std.specs.Prelude.{◌≡◌, ◌++◌, map, drop, IfOk};
 ghost use Rattle.fol_formula.specs.View.{form};
 ghost use Rattle.fol_formula.specs.Counts.{saturated};
 ghost use Rattle.fol_formula.specs.Witnesses.{existentials};
 ghost use Rattle.fol_occurs.specs.View.{named};
 ghost use Rattle.rml_command.specs.Outcomes.{all_of as all_of_them};
-ghost use Rattle.rml_wp.specs.Preconditions.{mentioning, asked_at};
+ghost use Rattle.rml_wp.specs.Preconditions.{mentioning, premises_at};
 
 use base::Mem;
 use fol_formula::{Formula, Sentence, existentials_of_all};
 use fol_occurs::{Symbol, mentions};
 use std::alloc::Global;
 
-/// The axioms that a sentence asks for behind an update or a havoc: all, or those alone in which the changed symbol
-/// occurs. The others stay true by themselves.
+/// The axioms that stand in a precondition as premises behind an update or a havoc: all, or those alone in which the
+/// changed symbol occurs. The others stay true by themselves.
 #[derive(Clone, Copy, Debug)]
-pub enum Asked {
+pub enum Premises {
     All,
-    Changed,
+    Affected,
 }
 
-impl Asked {
-    // The And of the axioms that are asked for behind a change of the symbol.
+impl Premises {
+    // The And of the axioms that are premises behind a change of the symbol.
     pub(crate) fn lawful(self, alloc: Global, axioms: &[Sentence], symbol: Symbol) -> Mem<Formula>
-        ensures { IfOk result (λ f. form f ≡ all_of_them (asked_at self axioms.now (named symbol))) }
+        ensures { IfOk result (λ f. form f ≡ all_of_them (premises_at self axioms.now (named symbol))) }
     {
         match self {
-            Asked::All => {
+            Premises::All => {
                 let all = all_of(alloc, axioms)?;
                 Ok(all)
             }
-            Asked::Changed => {
+            Premises::Affected => {
                 let some = all_mentioning(alloc, axioms, symbol)?;
                 Ok(some)
             }
@@ -39,11 +39,11 @@ impl Asked {
 
     // How many existentials these have in normal form.
     pub(crate) fn existentials(self, axioms: &[Sentence], symbol: Symbol) -> u64
-        ensures { result ≡ saturated (existentials (all_of_them (asked_at self axioms.now (named symbol)))) }
+        ensures { result ≡ saturated (existentials (all_of_them (premises_at self axioms.now (named symbol)))) }
     {
         match self {
-            Asked::All => existentials_of_all(axioms),
-            Asked::Changed => existentials_mentioning(axioms, symbol),
+            Premises::All => existentials_of_all(axioms),
+            Premises::Affected => existentials_mentioning(axioms, symbol),
         }
     }
 }

@@ -4,7 +4,7 @@ use Rattle.fol_formula.specs.Witnesses.{existentials}
 use Rattle.fol_occurs.specs.View.{named}
 use Rattle.rml_command.specs.Outcomes.{all_of}
 use Rattle.rml_wp.specs.Preconditions.{mentioning}
-use Rattle.rml_wp.proofs.asked.existentials_mentioning.Given as goal
+use Rattle.rml_wp.proofs.premises.existentials_mentioning.Given as goal
 
 abbrev pub invariant-loop-sentence : goal.invariant-loop-sentence
 invariant-loop-sentence l = record {
