@@ -113,56 +113,56 @@ below_same (suc n) p q h =
 
 module _ (spares : Spares) (laws : Replaces) (keep : UpdatesKeepSymbols) (sig : Symbols) (axioms : List FormTree)
     (target : FormTree) (axioms_fit : AllByRecursion (FitsForm sig []) axioms) (target_fits : FitsForm sig [] target)
-    where
-  abbrev pre : Premises → List PrimitiveTree → FormTree
-  pre premises qs = precondition_of sig (premises_of premises axioms) target qs
+  where
+    abbrev pre : Premises → List PrimitiveTree → FormTree
+    pre premises qs = precondition_of sig (premises_of premises axioms) target qs
 
-  abbrev lawful : Premises → PrimitiveTree → List PrimitiveTree → FormTree
-  lawful premises q qs = where_lawful (premises_of premises axioms q) (pre premises qs)
+    abbrev lawful : Premises → PrimitiveTree → List PrimitiveTree → FormTree
+    lawful premises q qs = where_lawful (premises_of premises axioms q) (pre premises qs)
 
-  abbrev fit : (premises : Premises) (q : PrimitiveTree) → AllByRecursion (FitsForm sig []) (premises_of premises axioms q)
-  fit premises q = each_of (FitsForm sig []) premises axioms axioms_fit q
+    abbrev fit : (premises : Premises) (q : PrimitiveTree) → AllByRecursion (FitsForm sig []) (premises_of premises axioms q)
+    fit premises q = each_of (FitsForm sig []) premises axioms axioms_fit q
 
-  lawful_fits : (premises : Premises) (q : PrimitiveTree) (qs : List PrimitiveTree) → FitsPath sig qs
-      → FitsForm sig [] (lawful premises q qs)
-  lawful_fits premises q qs f =
-      lawful-fits sig (premises_of premises axioms q) (pre premises qs) (fit premises q)
-      (precondition-fits laws sig (premises_of premises axioms) target qs (fit premises) target_fits f)
+    lawful_fits : (premises : Premises) (q : PrimitiveTree) (qs : List PrimitiveTree) → FitsPath sig qs
+        → FitsForm sig [] (lawful premises q qs)
+    lawful_fits premises q qs f =
+        lawful-fits sig (premises_of premises axioms q) (pre premises qs) (fit premises q)
+        (precondition-fits laws sig (premises_of premises axioms) target qs (fit premises) target_fits f)
 
-  enough : AreEnough sig axioms (premises_of Affected axioms)
-  enough = are_enough spares sig Affected axioms
+    enough : AreEnough sig axioms (premises_of Affected axioms)
+    enough = are_enough spares sig Affected axioms
 
-  pub same : (p : List PrimitiveTree) (s : Tables) → FitsPath sig p → FitsStructure sig s → satisfies s axioms ≡ true
-      → is_true s (pre Affected p) ≡ is_true s (pre All p)
-  same [] s f fits e = refl
-  same (assume p ∷ qs) s f fits e = ap (λ z. not (is_true s p) || z) (same qs s f.1 fits e)
-  same (set_rel r by ∷ qs) s f fits e =
-      let new = set_relation s r by in
-      truth-set_rel laws sig s fits r by (lawful Affected (set_rel r by) qs) f.0 (lawful_fits Affected (set_rel r by) qs f.1)
-      ∙ under_same (satisfies new (premises_of Affected axioms (set_rel r by))) (satisfies new axioms)
-      (is_true new (pre Affected qs)) (is_true new (pre All qs)) (enough.relation s r by e)
-      (λ h. same qs new f.1 (keep.relation sig s r by f.0 fits) h)
-      ∙ sym (truth-set_rel laws sig s fits r by (lawful All (set_rel r by) qs) f.0 (lawful_fits All (set_rel r by) qs f.1))
-  same (set_fun g by ∷ qs) s f fits e =
-      let new = set_function s g by in
-      truth-set_fun laws sig s fits g by (lawful Affected (set_fun g by) qs) f.0 (lawful_fits Affected (set_fun g by) qs f.1)
-      ∙ under_same (satisfies new (premises_of Affected axioms (set_fun g by))) (satisfies new axioms)
-      (is_true new (pre Affected qs)) (is_true new (pre All qs)) (enough.function s g by e)
-      (λ h. same qs new f.1 (keep.function sig s g by f.0 fits) h)
-      ∙ sym (truth-set_fun laws sig s fits g by (lawful All (set_fun g by) qs) f.0 (lawful_fits All (set_fun g by) qs f.1))
-  same (havoc v ∷ qs) s f fits e =
-      below_same (size_at s (sig.into_of v))
-      (λ y. truth (reading s) (changed_form (change_const v 0) 0 (lawful Affected (havoc v) qs)) (y ∷ []))
-      (λ y. truth (reading s) (changed_form (change_const v 0) 0 (lawful All (havoc v) qs)) (y ∷ []))
-      (λ x below.
-          let lt : x < range_of s v = subst (λ k. x < size_at s k) (fits.into_of v f.0.0) below in
-          let new = set_variable s v x in
-          truth-havoc laws sig s fits v x (lawful Affected (havoc v) qs) f.0 (lawful_fits Affected (havoc v) qs f.1) lt
-          ∙ under_same (satisfies new (premises_of Affected axioms (havoc v))) (satisfies new axioms)
-          (is_true new (pre Affected qs)) (is_true new (pre All qs)) (enough.variable s v x e)
-          (λ h. same qs new f.1 (keep.variable sig s v x f.0 lt fits) h)
-          ∙ sym (truth-havoc laws sig s fits v x (lawful All (havoc v) qs) f.0 (lawful_fits All (havoc v) qs f.1) lt))
-  same (abort ∷ qs) s f fits e = refl
+    pub same : (p : List PrimitiveTree) (s : Tables) → FitsPath sig p → FitsStructure sig s → satisfies s axioms ≡ true
+        → is_true s (pre Affected p) ≡ is_true s (pre All p)
+    same [] s f fits e = refl
+    same (assume p ∷ qs) s f fits e = ap (λ z. not (is_true s p) || z) (same qs s f.1 fits e)
+    same (set_rel r by ∷ qs) s f fits e =
+        let new = set_relation s r by in
+        truth-set_rel laws sig s fits r by (lawful Affected (set_rel r by) qs) f.0 (lawful_fits Affected (set_rel r by) qs f.1)
+        ∙ under_same (satisfies new (premises_of Affected axioms (set_rel r by))) (satisfies new axioms)
+        (is_true new (pre Affected qs)) (is_true new (pre All qs)) (enough.relation s r by e)
+        (λ h. same qs new f.1 (keep.relation sig s r by f.0 fits) h)
+        ∙ sym (truth-set_rel laws sig s fits r by (lawful All (set_rel r by) qs) f.0 (lawful_fits All (set_rel r by) qs f.1))
+    same (set_fun g by ∷ qs) s f fits e =
+        let new = set_function s g by in
+        truth-set_fun laws sig s fits g by (lawful Affected (set_fun g by) qs) f.0 (lawful_fits Affected (set_fun g by) qs f.1)
+        ∙ under_same (satisfies new (premises_of Affected axioms (set_fun g by))) (satisfies new axioms)
+        (is_true new (pre Affected qs)) (is_true new (pre All qs)) (enough.function s g by e)
+        (λ h. same qs new f.1 (keep.function sig s g by f.0 fits) h)
+        ∙ sym (truth-set_fun laws sig s fits g by (lawful All (set_fun g by) qs) f.0 (lawful_fits All (set_fun g by) qs f.1))
+    same (havoc v ∷ qs) s f fits e =
+        below_same (size_at s (sig.into_of v))
+        (λ y. truth (reading s) (changed_form (change_const v 0) 0 (lawful Affected (havoc v) qs)) (y ∷ []))
+        (λ y. truth (reading s) (changed_form (change_const v 0) 0 (lawful All (havoc v) qs)) (y ∷ []))
+        (λ x below.
+        let lt : x < range_of s v = subst (λ k. x < size_at s k) (fits.into_of v f.0.0) below in
+        let new = set_variable s v x in
+        truth-havoc laws sig s fits v x (lawful Affected (havoc v) qs) f.0 (lawful_fits Affected (havoc v) qs f.1) lt
+        ∙ under_same (satisfies new (premises_of Affected axioms (havoc v))) (satisfies new axioms)
+        (is_true new (pre Affected qs)) (is_true new (pre All qs)) (enough.variable s v x e)
+        (λ h. same qs new f.1 (keep.variable sig s v x f.0 lt fits) h)
+        ∙ sym (truth-havoc laws sig s fits v x (lawful All (havoc v) qs) f.0 (lawful_fits All (havoc v) qs f.1) lt))
+    same (abort ∷ qs) s f fits e = refl
 
 pub fewer_premises : Spares → Replaces → UpdatesKeepSymbols → FewerPremisesAreSame
 fewer_premises spares laws keep sig axioms target p s a t f fits e =

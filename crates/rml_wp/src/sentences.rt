@@ -13,8 +13,8 @@ ghost use Rattle.rml_wp.specs.Preconditions.{goal_precondition, goal_passes_limi
 ghost use Rattle.rml_wp.specs.Preconditions.{goal_precondition_by, goal_passes_limit_by, refuting_of, refuting_by};
 ghost use Rattle.rml_wp.specs.Held.{held_at};
 
-use crate::premises::{Premises, all_of};
 use crate::laws::fragment_law;
+use crate::premises::{Premises, all_of};
 use crate::steps::along;
 use base::{Mem, Refused};
 use fol_formula::{Ae, Ea, Formula, Sentence};

@@ -11,8 +11,8 @@ ghost use Rattle.rml_wp.specs.Consumed.{next_of, behind_of, counts_of, read_havo
 ghost use Rattle.rml_wp.specs.Laws.{HasTarget};
 ghost use Rattle.rml_wp.specs.WitnessLaws.{GivesCounterexamples};
 
-use crate::premises::Premises;
 use crate::laws::witness_law;
+use crate::premises::Premises;
 use base::{Mem, Row};
 use fol_formula::{Formula, Sentence, existentials_of_all};
 use fol_occurs::Symbol;
