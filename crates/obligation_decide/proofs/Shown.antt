@@ -50,7 +50,8 @@ given_fits fit premises m goal p checked g with =
     subst (λ (q : FormTree). FitsForm (symbols m.signature) [] q) (sym with.is)
     (fit premises m with.held with.more goal checked g with.added).fits
 
-module _ (normals : RefutingNormalsFit) (premises : Premises) (m : ModelTree) (goal : Goal) (checked : IsChecked m) (g : IsGoal m goal)
+module _ (normals : RefutingNormalsFit) (premises : Premises) (m : ModelTree) (goal : Goal) (checked : IsChecked m)
+    (g : IsGoal m goal)
     (p : FormTree) (with : IsRefutingWith premises m goal p) where
   -- the refuting sentence with these parts
   whole : p ≡ refuting_all_by premises m with.held with.more goal
@@ -83,7 +84,8 @@ module _ (normals : RefutingNormalsFit) (premises : Premises) (m : ModelTree) (g
     pub is-shown : ModelsGiveCounterexamples → (xs : List ℕ)
         → ((i : ℕ) → i < n → get_or xs i 0 ≡ fun_at t (f + i) [])
         → RefutesAs premises m goal p (reduct (symbols m.signature) t)
-        (values_at xs (witness_places_by premises m goal).havocs) (values_at xs (witness_places_by premises m goal).values)
+        (values_at xs (witness_places_by premises m goal).havocs)
+        (values_at xs (witness_places_by premises m goal).values)
     is-shown models xs values held more added is =
         let each = λ (q : FormTree).
         (i : ℕ) → i < length (constant_sorts q) → get_or xs i 0 ≡ fun_at t (length m.signature.functions + i) [] in

@@ -48,8 +48,8 @@ IsDecision limits m goal (Holds proof) =
 IsDecision limits m goal (Fails shown) = PassesFirst limits m goal None × IsFailing limits m goal shown
 IsDecision limits m goal (Undecided c) = IsLeftOpen limits m goal c
 
--- The execution is a counterexample of the goal, where these sentences hold before the stage in place of the conjectures.
--- Its structure has at most so many elements as terms are allowed.
+-- The execution is a counterexample of the goal, where these sentences hold before the stage in place of the
+-- conjectures. Its structure has at most so many elements as terms are allowed.
 pub record IsFailingBy (limits : Ceilings) (m : ModelTree) (held : List FormTree) (goal : Goal) (shown : Counterexample)
     : Type 0 where
   pub same : shown.goal ≡ goal

@@ -1,6 +1,7 @@
--- In a structure that satisfies the axioms, those in which a changed symbol does not occur stay true, so nothing changes
--- where they are no premises.
-use Rattle.std.proofs.Common.{◌≡◌, ℕ, zero, suc, ◌<◌, Bool, true, false, not, ◌&&◌, ◌||◌, cond, List, [], ◌∷◌, ◌++◌, refl}
+-- In a structure that satisfies the axioms, those in which a changed symbol does not occur stay true, so nothing
+-- changes where they are no premises.
+use Rattle.std.proofs.Common.{◌≡◌, ℕ, zero, suc, ◌<◌, Bool, true, false, not, ◌&&◌, ◌||◌, cond, List, [], ◌∷◌, ◌++◌}
+use Rattle.std.proofs.Common.{refl}
 use Rattle.std.proofs.Common.{sym, ap, ◌∙◌, subst, arith}
 use Rattle.std.specs.List.{AllByRecursion}
 use Rattle.fol_sig.specs.Tables.{Tables, reading, size_at}
@@ -120,7 +121,8 @@ module _ (spares : Spares) (laws : Replaces) (keep : UpdatesKeepSymbols) (sig : 
     abbrev lawful : Premises → PrimitiveTree → List PrimitiveTree → FormTree
     lawful premises q qs = where_lawful (premises_of premises axioms q) (pre premises qs)
 
-    abbrev fit : (premises : Premises) (q : PrimitiveTree) → AllByRecursion (FitsForm sig []) (premises_of premises axioms q)
+    abbrev fit : (premises : Premises) (q : PrimitiveTree) → AllByRecursion (FitsForm sig [])
+        (premises_of premises axioms q)
     fit premises q = each_of (FitsForm sig []) premises axioms axioms_fit q
 
     lawful_fits : (premises : Premises) (q : PrimitiveTree) (qs : List PrimitiveTree) → FitsPath sig qs
@@ -138,18 +140,22 @@ module _ (spares : Spares) (laws : Replaces) (keep : UpdatesKeepSymbols) (sig : 
     same (assume p ∷ qs) s f fits e = ap (λ z. not (is_true s p) || z) (same qs s f.1 fits e)
     same (set_rel r by ∷ qs) s f fits e =
         let new = set_relation s r by in
-        truth-set_rel laws sig s fits r by (lawful Affected (set_rel r by) qs) f.0 (lawful_fits Affected (set_rel r by) qs f.1)
+        truth-set_rel laws sig s fits r by (lawful Affected (set_rel r by) qs) f.0
+        (lawful_fits Affected (set_rel r by) qs f.1)
         ∙ under_same (satisfies new (premises_of Affected axioms (set_rel r by))) (satisfies new axioms)
         (is_true new (pre Affected qs)) (is_true new (pre All qs)) (enough.relation s r by e)
         (λ h. same qs new f.1 (keep.relation sig s r by f.0 fits) h)
-        ∙ sym (truth-set_rel laws sig s fits r by (lawful All (set_rel r by) qs) f.0 (lawful_fits All (set_rel r by) qs f.1))
+        ∙ sym (truth-set_rel laws sig s fits r by (lawful All (set_rel r by) qs) f.0
+        (lawful_fits All (set_rel r by) qs f.1))
     same (set_fun g by ∷ qs) s f fits e =
         let new = set_function s g by in
-        truth-set_fun laws sig s fits g by (lawful Affected (set_fun g by) qs) f.0 (lawful_fits Affected (set_fun g by) qs f.1)
+        truth-set_fun laws sig s fits g by (lawful Affected (set_fun g by) qs) f.0
+        (lawful_fits Affected (set_fun g by) qs f.1)
         ∙ under_same (satisfies new (premises_of Affected axioms (set_fun g by))) (satisfies new axioms)
         (is_true new (pre Affected qs)) (is_true new (pre All qs)) (enough.function s g by e)
         (λ h. same qs new f.1 (keep.function sig s g by f.0 fits) h)
-        ∙ sym (truth-set_fun laws sig s fits g by (lawful All (set_fun g by) qs) f.0 (lawful_fits All (set_fun g by) qs f.1))
+        ∙ sym (truth-set_fun laws sig s fits g by (lawful All (set_fun g by) qs) f.0
+        (lawful_fits All (set_fun g by) qs f.1))
     same (havoc v ∷ qs) s f fits e =
         below_same (size_at s (sig.into_of v))
         (λ y. truth (reading s) (changed_form (change_const v 0) 0 (lawful Affected (havoc v) qs)) (y ∷ []))

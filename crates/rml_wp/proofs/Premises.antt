@@ -18,7 +18,8 @@ each_mentioning : (P : FormTree → Type 0) (x : Named) (ps : List FormTree) →
 each_mentioning P x [] h = tt
 each_mentioning P x (p ∷ ps) h = kept_or_not P p (mentioning x ps) (form_mentions x p) h.0 (each_mentioning P x ps h.1)
 
-pub each_at : (P : FormTree → Type 0) (premises : Premises) (axioms : List FormTree) (x : Named) → AllByRecursion P axioms
+pub each_at : (P : FormTree → Type 0) (premises : Premises) (axioms : List FormTree) (x : Named)
+    → AllByRecursion P axioms
     → AllByRecursion P (premises_at premises axioms x)
 each_at P All axioms x h = h
 each_at P Affected axioms x h = each_mentioning P x axioms h

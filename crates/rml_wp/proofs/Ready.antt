@@ -111,7 +111,8 @@ module _ (sig : Symbols) (premises : PrimitiveTree → List FormTree) (target : 
     pub one-fits : FitsPrimitive sig q
     one-fits = behind-fits.0
 
-    pub formula-fits : Replaces → ((p : PrimitiveTree) → AllByRecursion (FitsForm sig []) (premises p)) → FitsForm sig [] target
+    pub formula-fits : Replaces → ((p : PrimitiveTree) → AllByRecursion (FitsForm sig []) (premises p))
+        → FitsForm sig [] target
         → FitsForm sig [] now
     formula-fits laws a t =
         subst (FitsForm sig []) (sym h.tree)
@@ -129,10 +130,12 @@ module _ (sig : Symbols) (premises : PrimitiveTree → List FormTree) (target : 
     pub goes_back : (next : FormTree) → next ≡ back_of sig (premises q) q now → is_too_large next ≡ false
         → IsBack path rest next
     goes_back next is small =
-        let tree : next ≡ precondition_of sig premises target (q ∷ h.behind) = is ∙ ap (back_of sig (premises q) q) h.tree in
+        let tree : next ≡ precondition_of sig premises target (q ∷ h.behind) = is
+        ∙ ap (back_of sig (premises q) q) h.tree in
         record {
           behind = q ∷ h.behind;
           split = whole;
           tree = tree;
-          small = ap (λ b. b || passes_limit sig premises target h.behind) (ap is_too_large (sym tree) ∙ small) ∙ h.small;
+          small = ap (λ b. b || passes_limit sig premises target h.behind) (ap is_too_large (sym tree) ∙ small)
+              ∙ h.small;
         }

@@ -31,7 +31,8 @@ abbrev pub refuting_all : ModelTree → List FormTree → List FormTree → Goal
 refuting_all m held more goal = refuting_all_by All m held more goal
 
 -- it is an exists-forall sentence of the model
-pub record IsRefutingSentence (premises : Premises) (m : ModelTree) (held more : List FormTree) (goal : Goal) : Type 0 where
+pub record IsRefutingSentence (premises : Premises) (m : ModelTree) (held more : List FormTree)
+    (goal : Goal) : Type 0 where
   pub fragment : IsEa (refuting_all_by premises m held more goal)
   pub fits : FitsForm (symbols m.signature) [] (refuting_all_by premises m held more goal)
 

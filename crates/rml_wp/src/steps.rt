@@ -12,7 +12,8 @@ ghost use Rattle.rml_command.specs.Trees.{set_rel, set_fun, havoc};
 ghost use Rattle.rml_command.specs.View.{primitive as primitive_view};
 ghost use Rattle.rml_command.specs.Models.{FitsPrimitive, FitsPath};
 ghost use Rattle.fol_occurs.specs.Occurs.{the_rel, the_fun};
-ghost use Rattle.rml_wp.specs.Preconditions.{back_of, precondition_of, passes_limit, target_of, premises_at, premises_of};
+ghost use Rattle.rml_wp.specs.Preconditions.{back_of, precondition_of, passes_limit, target_of, premises_at};
+ghost use Rattle.rml_wp.specs.Preconditions.{premises_of};
 ghost use Rattle.rml_wp.specs.Preconditions.{where_lawful as where_lawful_of};
 ghost use Rattle.rml_wp.specs.Laws.{HasTarget};
 
@@ -39,13 +40,16 @@ pub fn along(
     requires path { FitsPath (symbols model.now.signature) path.now }
     ensures precondition { IfOk result
         (λ c. form c.formula
-        ≡ precondition_of (symbols model.now.signature) (premises_of premises model.now.axioms) (target_of model.now about)
+        ≡ precondition_of (symbols model.now.signature) (premises_of premises model.now.axioms)
+        (target_of model.now about)
         path.now) }
     ensures within { OnOk result
-        (passes_limit (symbols model.now.signature) (premises_of premises model.now.axioms) (target_of model.now about) path.now ≡ false) }
+        (passes_limit (symbols model.now.signature) (premises_of premises model.now.axioms)
+        (target_of model.now about) path.now ≡ false) }
     ensures limit { IfErr result
         (Because (λ _. IsTrue
-        (passes_limit (symbols model.now.signature) (premises_of premises model.now.axioms) (target_of model.now about) path.now))) }
+        (passes_limit (symbols model.now.signature) (premises_of premises model.now.axioms)
+        (target_of model.now about) path.now))) }
 {
     fol_subst::exactness();
     fol_formula::indices();
@@ -206,7 +210,8 @@ fn before_havoc(
         (havoc variable.0) (form rest)) }
     ensures limit { IfErr result
         (Because (λ _. IsTrue
-        (is_too_large (back_of (symbols model.now.signature) (premises_at premises model.now.axioms (the_fun variable.0))
+        (is_too_large (back_of (symbols model.now.signature) (premises_at premises model.now.axioms
+        (the_fun variable.0))
         (havoc variable.0) (form rest))))) }
 {
     fol_subst::conditions();

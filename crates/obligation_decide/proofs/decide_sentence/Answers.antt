@@ -28,7 +28,8 @@ read_counterexample-requires-clause-few c =
     let p = c.args.sentence.now in
     let limits = ceilings c.args.limits.now in
     let checked = c.model.ensures.checked in
-    let fits = normal-fits c.sentence_law-2.ensures All m c.args.goal.now checked c.requires.goal p c.requires.sentence in
+    let fits = normal-fits c.sentence_law-2.ensures All m c.args.goal.now checked c.requires.goal p c.requires.sentence
+    in
     let skolem = c.exactness.ensures.models m.signature (normal true p) fits in
     let sig = signature_of _ _ m c.signature-signature.ensures.value c.model.ensures.value in
     let decided = same_answer limits _ m.signature p p _ _ sig refl c.in-Satisfied.is c.in_ok-proof.ensures in
@@ -51,7 +52,8 @@ returns-in_ok-shown-in-Satisfied c =
     let checked = c.model.ensures.checked in
     let t = c.in-Satisfied.model in
     let shown = c.in_ok-shown-in-Satisfied.ensures in
-    let fits = normal-fits c.sentence_law-2.ensures All m c.args.goal.now checked c.requires.goal p c.requires.sentence in
+    let fits = normal-fits c.sentence_law-2.ensures All m c.args.goal.now checked c.requires.goal p c.requires.sentence
+    in
     let sig = signature_of _ _ m c.signature-signature.ensures.value c.model.ensures.value in
     let decided = same_answer limits _ m.signature p p _ _ sig refl c.in-Satisfied.is c.in_ok-proof.ensures in
     let holds = holds-without c.exactness-2.ensures.truth c.exactness.ensures.models m.signature p t fits

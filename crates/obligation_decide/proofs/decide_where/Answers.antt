@@ -18,7 +18,8 @@ returns-in_ok-decision-in-Ok c =
     let m = c.args.checked.now in
     let checked = c.model-checked.ensures.checked in
     let exact : AreExact = record { all = c.refuting_law.ensures.all; same = c.refuting_law.ensures.same } in
-    let added = (c.sentence_law.ensures.conjectures m c.args.more.now checked c.requires.fragment c.requires.fits).all in
+    let added = (c.sentence_law.ensures.conjectures m c.args.more.now checked c.requires.fragment c.requires.fits).all
+    in
     restricted_by (ceilings c.args.limits.now) m c.args.goal.now c.args.more.now
     c.in-Ok.ensures.within exact checked.model.fits c.requires.goal added
     _ _ c.in-Ok.ensures.sentence c.in_ok-decision-in-Ok.ensures

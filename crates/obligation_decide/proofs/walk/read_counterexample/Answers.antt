@@ -22,7 +22,8 @@ overflow_cast-count c =
       count = c.existentials-count.ensures ∙ ap (λ (q : FormTree). saturated (existentials q)) same;
       few = c.requires.few;
     } in
-    let e = all-counted c.sentence_law.ensures c.args.premises m c.args.goal.now c.model.ensures.checked c.requires.goal p
+    let e = all-counted c.sentence_law.ensures c.args.premises m c.args.goal.now c.model.ensures.checked c.requires.goal
+    p
     c.requires.sentence c.args.model c.requires.model _ _ counted in
     let few = c.requires.few in
     omega (arith, e, few)
@@ -38,7 +39,8 @@ constants-requires-clause-few c =
       count = c.existentials-count.ensures ∙ ap (λ (q : FormTree). saturated (existentials q)) same;
       few = c.requires.few;
     } in
-    let e = all-counted c.sentence_law.ensures c.args.premises m c.args.goal.now c.model.ensures.checked c.requires.goal p
+    let e = all-counted c.sentence_law.ensures c.args.premises m c.args.goal.now c.model.ensures.checked c.requires.goal
+    p
     c.requires.sentence c.args.model c.requires.model _ _ counted in
     let few = c.requires.few in
     let functions = counted.functions in omega (arith, e, few, functions)
@@ -54,7 +56,8 @@ constants-requires-clause-there c =
       count = c.existentials-count.ensures ∙ ap (λ (q : FormTree). saturated (existentials q)) same;
       few = c.requires.few;
     } in
-    each-there c.sentence_law.ensures c.args.premises m c.args.goal.now c.model.ensures.checked c.requires.goal p c.requires.sentence
+    each-there c.sentence_law.ensures c.args.premises m c.args.goal.now c.model.ensures.checked c.requires.goal p
+    c.requires.sentence
     c.args.model c.requires.model _ _ counted c.witnesses.ensures.there
 
 pub returns-clause-refutes : goal.returns-clause-refutes
@@ -77,11 +80,13 @@ returns-clause-refutes c =
     } in
     let read : (i : ℕ) → i < n → get_or xs i 0 ≡ fun_at t (f + i) [] =
     λ i lt. ap (λ (l : List ℕ). get_or l i 0) c.deref.ensures.value ∙ c.in_ok-constants.ensures i lt in
-    let shown = is-shown c.sentence_law.ensures c.args.premises m g c.model.ensures.checked c.requires.goal p c.requires.sentence
+    let shown = is-shown c.sentence_law.ensures c.args.premises m g c.model.ensures.checked c.requires.goal p
+    c.requires.sentence
     t c.requires.model f n counted c.counterexample_law.ensures.models xs read in
     let s = reduct (symbols m.signature) t in
     let structure : c.restrict.new.self ≡ s = c.restrict.ensures ∙ ap (λ (z : Declared). reduct (symbols z) t) sig in
     subst (λ (r : Tables). RefutesAs c.args.premises m g p r w.havoc w.values) (sym structure)
     (subst (λ (v : List ℕ). RefutesAs c.args.premises m g p s w.havoc v) (sym c.in_ok-witness.ensures.values)
-    (subst (λ (h : List ℕ). RefutesAs c.args.premises m g p s h (values_at xs places.values)) (sym c.in_ok-witness.ensures.havoc)
+    (subst (λ (h : List ℕ). RefutesAs c.args.premises m g p s h (values_at xs places.values))
+    (sym c.in_ok-witness.ensures.havoc)
     shown))

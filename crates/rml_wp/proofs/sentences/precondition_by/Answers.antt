@@ -31,7 +31,8 @@ pub new-requires : goal.new-requires
 new-requires c =
     let m = c.args.checked.now in
     let g = c.args.goal.now in
-    precondition-ae c.args.premises c.model-model.result.now m c.model-model.ensures.value g.about c.path-path.result c.of.result
+    precondition-ae c.args.premises c.model-model.result.now m c.model-model.ensures.value g.about c.path-path.result
+    c.of.result
     (c.of.ensures ∙ c.in_ok-counted.ensures.precondition)
     c.inclusion.ensures.universal_ae c.fragment_law.ensures c.model-model.ensures.checked
     (has_target m g.stage g.about c.requires.about) c.path-path.ensures.fits c.path-path.ensures.fragment
@@ -41,7 +42,8 @@ same_limit : (premises : Premises) (given m : ModelTree) (goal : Goal) (p : List
     → passes_limit (symbols given.signature) (premises_of premises given.axioms) (target_of given goal.about) p
     ≡ goal_passes_limit_by premises m goal
 same_limit premises given m goal p same is =
-    ap (λ (z : ModelTree). passes_limit (symbols z.signature) (premises_of premises z.axioms) (target_of z goal.about) p) same
+    ap (λ (z : ModelTree). passes_limit (symbols z.signature) (premises_of premises z.axioms)
+    (target_of z goal.about) p) same
     ∙ ap (passes_limit (symbols m.signature) (premises_of premises m.axioms) (target_of m goal.about)) is
 
 pub returns-clause-within : goal.returns-clause-within
@@ -61,6 +63,7 @@ returns-in_err-counted-clause-limit c =
     same_limit c.args.premises given m g c.path-path.result c.model-model.ensures.value
     (sym (ap path_or_none c.path-path.ensures.path)) in
     let P : Bool → Type 0 = λ b. IfErr c.from_residual.result (Because (λ _. IsTrue b)) in
-    let h : P (passes_limit (symbols given.signature) (premises_of c.args.premises given.axioms) (target_of given g.about)
+    let h : P (passes_limit (symbols given.signature) (premises_of c.args.premises given.axioms)
+    (target_of given g.about)
     c.path-path.result) = search rules in
     subst P e h
