@@ -24,7 +24,7 @@ use Rattle.rml_wp.specs.declared.premises.Premises.{Premises}
 use Rattle.rml_wp.specs.declared.premises.Premises.TheVariants.{All, Affected}
 use Rattle.rml_wp.specs.Preconditions.{mentioning, premises_of, precondition_of, where_lawful, parts_before, target_of}
 use Rattle.rml_wp.specs.Preconditions.{path_or_none, goal_precondition_by}
-use Rattle.rml_wp.specs.Laws.{FewerPremisesAreSame, LeanRefutingIsSame}
+use Rattle.rml_wp.specs.Laws.{AffectedPremisesSuffice, AffectedRefutingIsSame}
 use Rattle.rml_wp.proofs.Premises.{each_of}
 use Rattle.rml_wp.proofs.StepTruth.{Replaces, lawful-fits, precondition-fits, truth-set_rel, truth-set_fun, truth-havoc}
 use Rattle.rml_wp.proofs.StepTruth.{in_sort}
@@ -170,8 +170,8 @@ module _ (spares : Spares) (laws : Replaces) (keep : UpdatesKeepSymbols) (sig : 
         ∙ sym (truth-havoc laws sig s fits v x (lawful All (havoc v) qs) f.0 (lawful_fits All (havoc v) qs f.1) lt))
     same (abort ∷ qs) s f fits e = refl
 
-pub fewer_premises : Spares → Replaces → UpdatesKeepSymbols → FewerPremisesAreSame
-fewer_premises spares laws keep sig axioms target p s a t f fits e =
+pub affected_suffice : Spares → Replaces → UpdatesKeepSymbols → AffectedPremisesSuffice
+affected_suffice spares laws keep sig axioms target p s a t f fits e =
     same spares laws keep sig axioms target a t p s f fits e
 
 -- the axioms stand at the front of the sentence

@@ -1,10 +1,10 @@
 use Rattle.rml_wp.proofs.Exactly.{lean_same}
-use Rattle.rml_wp.proofs.Lean.{fewer_premises}
-use Rattle.rml_wp.proofs.laws.lean_law.Goals as goal
+use Rattle.rml_wp.proofs.Affected.{affected_suffice}
+use Rattle.rml_wp.proofs.laws.premises_law.Goals as goal
 
 pub returns-clause-precondition : goal.returns-clause-precondition
 returns-clause-precondition c =
-    fewer_premises
+    affected_suffice
     (record {
       reads = c.occurring.ensures.truth;
       relations = c.update_laws.ensures.relations;
