@@ -19,7 +19,7 @@ use Rattle.rml_wp.specs.Added.{refuting_all_by, RefutingSentencesFit, NoPartsAre
 use Rattle.rml_wp.proofs.StepTruth.{Replaces, all_fit, precondition-fits}
 use Rattle.rml_wp.proofs.Exactly.{target-fits, has_target}
 use Rattle.rml_wp.proofs.Counterexamples.{target-ae}
-use Rattle.rml_wp.proofs.Premises.{each_of}
+use Rattle.rml_wp.proofs.SomeAxioms.{each_of}
 use Rattle.rml_wp.proofs.Fragment.{all-ea}
 use Rattle.rml_wp.proofs.Closed.{universal-ea, all-chosen}
 

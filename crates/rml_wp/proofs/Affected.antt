@@ -25,7 +25,7 @@ use Rattle.rml_wp.specs.declared.premises.Premises.TheVariants.{All, Affected}
 use Rattle.rml_wp.specs.Preconditions.{mentioning, premises_of, precondition_of, where_lawful, parts_before, target_of}
 use Rattle.rml_wp.specs.Preconditions.{path_or_none, goal_precondition_by}
 use Rattle.rml_wp.specs.Laws.{AffectedPremisesSuffice, AffectedRefutingIsSame}
-use Rattle.rml_wp.proofs.Premises.{each_of}
+use Rattle.rml_wp.proofs.SomeAxioms.{each_of}
 use Rattle.rml_wp.proofs.StepTruth.{Replaces, lawful-fits, precondition-fits, truth-set_rel, truth-set_fun, truth-havoc}
 use Rattle.rml_wp.proofs.StepTruth.{in_sort}
 
