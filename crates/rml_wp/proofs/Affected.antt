@@ -5,7 +5,7 @@ use Rattle.std.proofs.Common.{refl}
 use Rattle.std.proofs.Common.{sym, ap, ◌∙◌, subst, arith}
 use Rattle.std.specs.List.{AllByRecursion}
 use Rattle.fol_sig.specs.Tables.{Tables, reading, size_at}
-use Rattle.fol_sig.specs.Symbols.{Symbols, FitsStructure, symbols}
+use Rattle.fol_sig.specs.Symbols.{Symbols, FitsStructure}
 use Rattle.fol_sig.specs.Updates.{UpdatesRelation, UpdatesFunction, with_function}
 use Rattle.fol_formula.specs.Syntax.{FormTree, TermTree, negation}
 use Rattle.fol_formula.specs.Truth.{truth, value, all_below}
@@ -15,19 +15,16 @@ use Rattle.fol_occurs.specs.Occurs.{Named, the_rel, the_fun, form_mentions}
 use Rattle.fol_occurs.specs.Laws.{AreReadAlikeAt, TruthReadsOccurring}
 use Rattle.rml_command.specs.Trees.{PrimitiveTree, assume, set_rel, set_fun, havoc, abort}
 use Rattle.rml_command.specs.Outcomes.{is_true, satisfies, set_relation, set_function, set_variable, range_of, all_of}
-use Rattle.rml_command.specs.Models.{ModelTree, FitsModel, FitsPath, FitsPrimitive}
-use Rattle.rml_command.specs.Laws.{UpdatesKeepSymbols, GoalPathsFit}
-use Rattle.rml_command.specs.Goals.{goal_path}
+use Rattle.rml_command.specs.Models.{FitsPath}
+use Rattle.rml_command.specs.Laws.{UpdatesKeepSymbols}
 use Rattle.rml_command.specs.declared.goal.Stage.{Stage}
 use Rattle.rml_command.specs.declared.goal.Stage.TheVariants as stage
 use Rattle.rml_wp.specs.declared.premises.Premises.{Premises}
 use Rattle.rml_wp.specs.declared.premises.Premises.TheVariants.{All, Affected}
-use Rattle.rml_wp.specs.Preconditions.{mentioning, premises_of, precondition_of, where_lawful, parts_before, target_of}
-use Rattle.rml_wp.specs.Preconditions.{path_or_none, goal_precondition_by}
-use Rattle.rml_wp.specs.Laws.{AffectedPremisesSuffice, AffectedRefutingIsSame}
+use Rattle.rml_wp.specs.Preconditions.{mentioning, premises_of, precondition_of, where_lawful, parts_before}
+use Rattle.rml_wp.specs.Laws.{AffectedPremisesSuffice}
 use Rattle.rml_wp.proofs.SomeAxioms.{each_of}
 use Rattle.rml_wp.proofs.StepTruth.{Replaces, lawful-fits, precondition-fits, truth-set_rel, truth-set_fun, truth-havoc}
-use Rattle.rml_wp.proofs.StepTruth.{in_sort}
 
 -- what the crates below promise of updates and of what occurs
 pub record Spares : Type 0 where

@@ -1,5 +1,5 @@
 -- The premises behind a primitive are some of the axioms.
-use Rattle.std.proofs.Common.{◌≡◌, Bool, true, false, cond, List, [], ◌∷◌}
+use Rattle.std.proofs.Common.{Bool, true, false, cond, List, [], ◌∷◌}
 use Rattle.std.specs.List.{AllByRecursion}
 use Rattle.fol_formula.specs.Syntax.{FormTree}
 use Rattle.fol_occurs.specs.Occurs.{Named, the_rel, the_fun, form_mentions}

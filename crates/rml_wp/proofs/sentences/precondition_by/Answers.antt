@@ -1,4 +1,4 @@
-use Rattle.std.proofs.Common.{◌≡◌, ◌∙◌, sym, ap, Bool, false, List, subst, rules}
+use Rattle.std.proofs.Common.{◌≡◌, ◌∙◌, sym, ap, Bool, List, subst, rules}
 use Rattle.std.specs.Prelude.{IfErr, IsTrue}
 use Rattle.base.specs.Because.{Because}
 use Rattle.fol_sig.specs.Symbols.{symbols}
