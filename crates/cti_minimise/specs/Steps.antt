@@ -1,4 +1,4 @@
--- What the search ends with at one sort, and what a trial ends with. Private contracts alone cite this.
+-- What the search ends with at one place, and what a trial ends with. Private contracts alone cite this.
 use Rattle.std.specs.Prelude.{ℕ, suc, take, List}
 use Rattle.fol_formula.specs.Syntax.{FormTree}
 use Rattle.rml_command.specs.Models.{ModelTree}
@@ -6,6 +6,7 @@ use Rattle.rml_command.specs.declared.goal.Goal.{Goal}
 use Rattle.ea_decide.specs.Passing.{Ceilings}
 use Rattle.obligation_decide.specs.GoalDecisions.{IsFailing}
 use Rattle.obligation_decide.specs.Restricted.{HasNoneWhere, IsFailingWhere, IsLeftOpenWhere}
+use Rattle.cti_minimise.specs.Extents.{extent}
 use Rattle.cti_minimise.specs.Minimal.{HasNoSmaller, IsStoppedAt}
 use Rattle.cti_minimise.specs.declared.minimising.Step.{Step}
 use Rattle.cti_minimise.specs.declared.minimising.Step.TheVariants.{Settled, Stopped}
@@ -16,19 +17,19 @@ use Rattle.cti_minimise.specs.declared.trials.Attempt.TheVariants as attempt
 use Rattle.cti_minimise.specs.declared.trials.Trial.{Trial}
 use Rattle.cti_minimise.specs.declared.trials.Trial.TheVariants.{Refuted, Found, Open}
 
--- no counterexample has smaller sizes up to this sort, or it is left open whether one has
+-- no counterexample has smaller numbers up to this place, or it is left open whether one has
 abbrev pub IsStep : Ceilings → ModelTree → Goal → ℕ → Step → Type 0
-IsStep limits m goal sort (Settled shown) =
-    IsFailing limits m goal shown × HasNoSmaller m goal (take (suc sort) shown.structure.sizes)
-IsStep limits m goal sort (Stopped shown size cause) =
-    IsFailing limits m goal shown × IsStoppedAt limits m goal shown.structure sort size cause
+IsStep limits m goal place (Settled shown) =
+    IsFailing limits m goal shown × HasNoSmaller m goal (take (suc place) (extent shown.structure))
+IsStep limits m goal place (Stopped shown number cause) =
+    IsFailing limits m goal shown × IsStoppedAt limits m goal shown.structure place number cause
 
--- no counterexample has smaller sizes up to this sort, or none has smaller sizes before it
+-- no counterexample has smaller numbers up to this place, or none has smaller numbers before it
 abbrev pub IsDescent : Ceilings → ModelTree → Goal → ℕ → Descent → Type 0
-IsDescent limits m goal sort (descent.Settled shown) =
-    IsFailing limits m goal shown × HasNoSmaller m goal (take (suc sort) shown.structure.sizes)
-IsDescent limits m goal sort (descent.Open shown) =
-    IsFailing limits m goal shown × HasNoSmaller m goal (take sort shown.structure.sizes)
+IsDescent limits m goal place (descent.Settled shown) =
+    IsFailing limits m goal shown × HasNoSmaller m goal (take (suc place) (extent shown.structure))
+IsDescent limits m goal place (descent.Open shown) =
+    IsFailing limits m goal shown × HasNoSmaller m goal (take place (extent shown.structure))
 
 -- what an attempt shows of the structures that satisfy these bounds; where it is left open, nothing
 abbrev pub IsAttempt : Ceilings → ModelTree → List FormTree → Goal → Attempt → Type 0

@@ -1,5 +1,5 @@
 // The lines of a structure's sorts and tables.
-ghost use Rattle.std.specs.Prelude.{◌≡◌, ◌<◌, ◌++◌, [], length, OnOk};
+ghost use Rattle.std.specs.Prelude.{◌≡◌, ◌<◌, ◌++◌, [], length, OnOk, IfOk};
 ghost use Rattle.fol_sig.specs.Tables.{IsStructure, numbers};
 ghost use Rattle.fol_sig.specs.Symbols.{FitsStructure, symbols};
 ghost use Rattle.fol_sig.specs.Tuples.{join_below};
@@ -229,7 +229,7 @@ fn push_functions(
     Ok(())
 }
 
-/// A line for each relation, function and variable.
+/// Adds a line for each relation, function and variable.
 #[tactic(auto, using(std::proofs::Common::append_assoc), unfolding(crate::specs::TableText::tables_text))]
 pub fn push_tables(
     alloc: Global,
@@ -247,6 +247,16 @@ pub fn push_tables(
     Ok(())
 }
 
+/// The lines of a structure's tables, in the order of the declarations.
+pub fn tables(alloc: Global, model: &Model, structure: &Structure) -> Mem<Vec<u8>>
+    requires { FitsStructure (symbols model.now.signature) structure.now }
+    ensures { IfOk result (λ text. text.items ≡ tables_text model.now.names structure.now) }
+{
+    let mut out = Vec::new(alloc);
+    push_tables(alloc, &mut out, model, structure)?;
+    Ok(out)
+}
+
 #[tactic(auto, using(std::proofs::Common::append_assoc), unfolding(crate::specs::TableText::sort_line))]
 fn push_sort(out: &mut Vec<u8>, names: &Names, sort: u32, size: u32) -> Mem<()>
     ensures { OnOk result (out.new.items ≡ out.old.items ++ sort_line names.now sort size) }
@@ -257,7 +267,7 @@ fn push_sort(out: &mut Vec<u8>, names: &Names, sort: u32, size: u32) -> Mem<()>
     Ok(())
 }
 
-/// A line for each sort.
+/// Adds a line for each sort.
 #[tactic(auto, using(std::proofs::Common::append_assoc))]
 pub fn push_sorts(out: &mut Vec<u8>, model: &Model, structure: &Structure) -> Mem<()>
     requires { FitsStructure (symbols model.now.signature) structure.now }
