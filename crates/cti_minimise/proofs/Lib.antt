@@ -15,4 +15,5 @@ mod BoundLaws
 mod Pushing
 mod Bounded
 mod Searching
+mod Tried
 mod Attempts

@@ -52,8 +52,8 @@ lowest-le sig s fits place =
 
 module _ (m : ModelTree) (goal : Goal) where
   -- at the first place nothing is smaller
-  pub at-first : (xs : List ℕ) → HasNoSmaller m goal (take 0 xs)
-  at-first xs s elements values counterexample less = none-below (extent s) less
+  pub at-first : HasNoSmaller m goal []
+  at-first s elements values counterexample less = none-below (extent s) less
 
   -- nothing is below the lowest number
   pub at-lowest : (numbers : List ℕ) → HasNoSmaller m goal numbers
@@ -123,23 +123,19 @@ module _ (m : ModelTree) (goal : Goal) where
           (lawful : satisfies t (bounds_on m.signature (numbers_up_to s place n)) ≡ true) where
         -- the numbers up to the place are those that the bound left
         pub settled-by : HasNoSmaller m goal (numbers_up_to s place n)
-            → HasNoSmaller m goal (take (suc place) (extent t))
+            → numbers_up_to s place n ≡ take (suc place) (extent t)
         settled-by least =
             let count = length-up-to (extent s) place n inside in
             let same = just-these (take place (extent s)) n few-numbers t elements values counterexample lawful least in
-            let front : numbers_up_to s place n ≡ take (suc place) (extent t) =
-            sym (ap (λ j. take j (extent t)) (sym count) ∙ same) in
-            subst (HasNoSmaller m goal) front least
+            sym (ap (λ j. take j (extent t)) (sym count) ∙ same)
 
         -- the numbers before the place stay
-        pub before-stays : HasNoSmaller m goal (take place (extent s)) → HasNoSmaller m goal (take place (extent t))
+        pub before-stays : HasNoSmaller m goal (take place (extent s)) → take place (extent s) ≡ take place (extent t)
         before-stays least =
             let count = length-take-le place (extent s) (let lt = inside in omega (arith, lt)) in
             let same = these-before (take place (extent s)) n few-numbers t elements values counterexample lawful
             least in
-            let front : take place (extent s) ≡ take place (extent t) =
-            sym (ap (λ j. take j (extent t)) (sym count) ∙ same) in
-            subst (HasNoSmaller m goal) front least
+            sym (ap (λ j. take j (extent t)) (sym count) ∙ same)
 
       pub refuted-by : HasNoneWhere m (bounds_on m.signature (numbers_up_to s place n)) goal
           → HasNoSmaller m goal (numbers_up_to s place n) → HasNoSmaller m goal (numbers_up_to s place (n + 1))

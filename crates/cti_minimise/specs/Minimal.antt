@@ -1,5 +1,5 @@
 -- Which counterexamples of a goal are least, and where the search for smaller ones stopped.
-use Rattle.std.specs.Prelude.{◌≡◌, ◌⊎◌, ℕ, ◌<◌, List, [], ◌∷◌, ◌++◌, take, get_or}
+use Rattle.std.specs.Prelude.{◌≡◌, ◌⊎◌, ℕ, ◌-◌, ◌<◌, ◌≤◌, List, [], ◌∷◌, ◌++◌, length, take, get_or, None}
 use Rattle.fol_sig.specs.Tables.{Tables}
 use Rattle.rml_command.specs.Models.{ModelTree}
 use Rattle.rml_command.specs.Goals.{IsCounterexample}
@@ -8,8 +8,8 @@ use Rattle.rml_report.specs.declared.cause.Cause.{Cause}
 use Rattle.rml_report.specs.declared.cause.Least.{Least}
 use Rattle.rml_report.specs.declared.cause.Least.TheVariants as least
 use Rattle.ea_decide.specs.Passing.{Ceilings}
-use Rattle.obligation_decide.specs.Restricted.{IsLeftOpenWhere}
-use Rattle.cti_minimise.specs.Extents.{extent, bound_place, HasBound}
+use Rattle.obligation_decide.specs.Restricted.{RestrictedPassesFirst, IsLeftOpenWhere}
+use Rattle.cti_minimise.specs.Extents.{extent, bound_place, HasBound, lowest}
 use Rattle.cti_minimise.specs.Bounding.{bounds_on}
 
 -- The first list is below the second in the first place where they differ; where one ends, it is not.
@@ -28,16 +28,30 @@ HasNoSmaller m goal numbers =
 abbrev pub numbers_up_to : Tables → ℕ → ℕ → List ℕ
 numbers_up_to s place number = take place (extent s) ++ number ∷ []
 
--- Whether the number at a place may be at most `number` is left open: it is more there; no counterexample has smaller
--- numbers than those before the place, and this; and the goal with the bounds on these is left open for this cause.
+-- The bound just below each of these numbers, where a structure may have fewer: with it, and with bounds on the numbers
+-- before, the goal passes no limit by its size.
+abbrev pub AreTried : Ceilings → ModelTree → Goal → List ℕ → Type 0
+AreTried limits m goal numbers =
+    (place : ℕ) → place < length numbers → lowest m.signature place < get_or numbers place 0
+    → RestrictedPassesFirst limits m
+        (bounds_on m.signature (take place numbers ++ (get_or numbers place 0 - 1) ∷ [])) goal None
+
+-- no counterexample has smaller numbers than these, and the bounds just below them were tried
+pub record AreLeast (limits : Ceilings) (m : ModelTree) (goal : Goal) (numbers : List ℕ) : Type 0 where
+  pub smaller : HasNoSmaller m goal numbers
+  pub tried : AreTried limits m goal numbers
+
+-- Whether the number at a place may be at most `number` is left open: a structure may have so few, and it is more
+-- there; those before the place, and this, are least; and the goal with the bounds on these is left open for this cause.
 pub record IsStoppedAt (limits : Ceilings) (m : ModelTree) (goal : Goal) (s : Tables) (place number : ℕ) (cause : Cause)
     : Type 0 where
+  pub possible : lowest m.signature place ≤ number
   pub below : number < get_or (extent s) place 0
-  pub smaller : HasNoSmaller m goal (numbers_up_to s place number)
+  pub least : AreLeast limits m goal (numbers_up_to s place number)
   pub left_open : IsLeftOpenWhere limits m (bounds_on m.signature (numbers_up_to s place number)) goal cause
 
 -- what is said of a counterexample's structure
 abbrev pub IsLeast : Ceilings → ModelTree → Goal → Tables → Least → Type 0
-IsLeast limits m goal s least.Yes = HasNoSmaller m goal (extent s)
+IsLeast limits m goal s least.Yes = AreLeast limits m goal (extent s)
 IsLeast limits m goal s (least.Stopped at size cause) =
     HasBound m.signature at × IsStoppedAt limits m goal s (bound_place m.signature at) size cause

@@ -4,7 +4,7 @@ ghost use Rattle.rml_command.specs.Goals.{IsGoal};
 ghost use Rattle.ea_decide.specs.Passing.{ceilings};
 ghost use Rattle.obligation_decide.specs.GoalDecisions.{IsFailing};
 ghost use Rattle.cti_minimise.specs.Extents.{extent, places};
-ghost use Rattle.cti_minimise.specs.Minimal.{HasNoSmaller, IsLeast};
+ghost use Rattle.cti_minimise.specs.Minimal.{AreLeast, IsLeast};
 ghost use Rattle.cti_minimise.specs.Steps.{IsStep, IsDescent};
 
 use crate::bounds::Bounds;
@@ -21,7 +21,7 @@ use std::alloc::Global;
 // What the search ends with at one place.
 #[derive(Drop)]
 enum Step {
-    // No counterexample has smaller numbers up to the place.
+    // The numbers up to the place are least.
     Settled(Counterexample),
     // Whether there may be at most `number` at the place is left open.
     Stopped {
@@ -34,9 +34,9 @@ enum Step {
 // What the search from above ends with at one place.
 #[derive(Drop)]
 enum Descent {
-    // No counterexample has smaller numbers up to the place.
+    // The numbers up to the place are least.
     Settled(Counterexample),
-    // Whether one has is left open.
+    // Whether they are is left open.
     Open(Counterexample),
 }
 
@@ -75,7 +75,7 @@ pub fn least(
     Ok((found, Least::Yes))
 }
 
-// Makes the number at a place least, where no counterexample has smaller numbers before it.
+// Makes the number at a place least, where those before it are.
 fn least_at(
     alloc: Global,
     checked: &Checked,
@@ -87,7 +87,7 @@ fn least_at(
     requires goal { IsGoal checked.now goal.now }
     requires place { place < places checked.now.signature }
     requires failing { IsFailing (ceilings limits.now) checked.now goal.now shown }
-    requires before { HasNoSmaller checked.now goal.now (take place (extent shown.structure)) }
+    requires before { AreLeast (ceilings limits.now) checked.now goal.now (take place (extent shown.structure)) }
     ensures { IfOk result (IsStep (ceilings limits.now) checked.now goal.now place) }
 {
     match from_above(alloc, checked, goal, place, shown, limits)? {
@@ -112,7 +112,7 @@ fn from_above(
     requires goal { IsGoal checked.now goal.now }
     requires place { place < places checked.now.signature }
     requires failing { IsFailing (ceilings limits.now) checked.now goal.now shown }
-    requires before { HasNoSmaller checked.now goal.now (take place (extent shown.structure)) }
+    requires before { AreLeast (ceilings limits.now) checked.now goal.now (take place (extent shown.structure)) }
     ensures { IfOk result (IsDescent (ceilings limits.now) checked.now goal.now place) }
 {
     bound_law();
@@ -152,7 +152,7 @@ fn from_below(
     requires goal { IsGoal checked.now goal.now }
     requires place { place < places checked.now.signature }
     requires failing { IsFailing (ceilings limits.now) checked.now goal.now shown }
-    requires before { HasNoSmaller checked.now goal.now (take place (extent shown.structure)) }
+    requires before { AreLeast (ceilings limits.now) checked.now goal.now (take place (extent shown.structure)) }
     ensures { IfOk result (IsStep (ceilings limits.now) checked.now goal.now place) }
 {
     bound_law();

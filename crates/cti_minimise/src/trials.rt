@@ -1,9 +1,9 @@
 // Trials: whether a goal has a counterexample within bounds.
-ghost use Rattle.std.specs.Prelude.{◌≡◌, ◌≤◌, IfOk};
+ghost use Rattle.std.specs.Prelude.{◌≡◌, ◌≤◌, IfOk, None};
 ghost use Rattle.rml_command.specs.Goals.{IsGoal};
 ghost use Rattle.ea_decide.specs.Passing.{ceilings};
 ghost use Rattle.obligation_decide.specs.GoalDecisions.{IsFailing};
-ghost use Rattle.obligation_decide.specs.Restricted.{IsRestrictedDecision};
+ghost use Rattle.obligation_decide.specs.Restricted.{RestrictedPassesFirst, IsRestrictedDecision};
 ghost use Rattle.obligation_decide.specs.Costs.{IsRestrictedMeasured};
 ghost use Rattle.cti_minimise.specs.Bounding.{bounds_by, bounds_on};
 ghost use Rattle.cti_minimise.specs.Saying.{said_by};
@@ -129,6 +129,8 @@ fn attempt_with(
     requires goal { IsGoal checked.now goal.now }
     requires bounds { AreBoundsFor checked.now.signature bounds.now }
     requires size { size ≤ limits.now.ground_size }
+    requires pass { RestrictedPassesFirst (ceilings limits.now) checked.now
+        (bounds_on checked.now.signature (numbers_within bounds.now)) goal.now None }
     ensures { IfOk result (IsAttempt (ceilings limits.now) checked.now
         (bounds_on checked.now.signature (numbers_within bounds.now)) goal.now) }
 {
@@ -156,6 +158,8 @@ fn kept(
 ) -> Mem<Attempt>
     requires bounds { AreBoundsFor checked.now.signature bounds.now }
     requires failing { IsFailing (ceilings limits.now) checked.now goal.now found }
+    requires pass { RestrictedPassesFirst (ceilings limits.now) checked.now
+        (bounds_on checked.now.signature (numbers_within bounds.now)) goal.now None }
     ensures { IfOk result (IsAttempt (ceilings limits.now) checked.now
         (bounds_on checked.now.signature (numbers_within bounds.now)) goal.now) }
 {

@@ -1,15 +1,16 @@
 use Rattle.std.proofs.Common.{◌≡◌, ◌+◌, ℕ, suc, take, ap, ◌∙◌, subst, arith}
 use Rattle.std.proofs.lemmas.List.{take_all}
 use Rattle.rml_command.specs.Models.{ModelTree}
+use Rattle.ea_decide.specs.Passing.{ceilings}
 use Rattle.cti_minimise.specs.Extents.{extent, places}
-use Rattle.cti_minimise.specs.Minimal.{HasNoSmaller}
+use Rattle.cti_minimise.specs.Minimal.{AreLeast}
 use Rattle.cti_minimise.proofs.Extending.{length-extent}
-use Rattle.cti_minimise.proofs.Searching.{at-first}
+use Rattle.cti_minimise.proofs.Tried.{at-start}
 use Rattle.cti_minimise.proofs.minimising.least.Goals as goal
 
 pub loop-place-init : goal.loop-place-init
 loop-place-init c =
-    (c.requires.failing, at-first c.args.checked.now c.args.goal.now (extent c.args.shown.structure))
+    (c.requires.failing, at-start (ceilings c.args.limits.now) c.args.checked.now c.args.goal.now)
 
 pub loop-place-preserved : goal.loop-place-preserved
 loop-place-preserved c =
@@ -18,7 +19,8 @@ loop-place-preserved c =
       is.0,
       subst
           (λ (n : ℕ).
-          HasNoSmaller c.args.checked.now c.args.goal.now (take n (extent c.in-Settled.settled.structure)))
+          AreLeast (ceilings c.args.limits.now) c.args.checked.now c.args.goal.now
+          (take n (extent c.in-Settled.settled.structure)))
           next is.1,
     )
 
@@ -30,4 +32,4 @@ returns-clause-least c =
     let known = c.places-place-end.ensures ∙ ap places same in
     let count = length-extent m.signature s c.loop-place.invariant.0.refutes.structure in
     let all = take_all c.loop-place.place (extent s) (omega (arith, known, count)) in
-    subst (HasNoSmaller m c.args.goal.now) all c.loop-place.invariant.1
+    subst (AreLeast (ceilings c.args.limits.now) m c.args.goal.now) all c.loop-place.invariant.1

@@ -15,7 +15,9 @@ returns-in-Holds c =
     let m = c.args.checked.now in
     let sig = m.signature in
     let b = c.args.bounds.now in
-    let is = rw c.in-Holds.is at c.in_ok-decide_by.ensures in
-    none-otherwise m c.args.goal.now (numbers_within b) (few-within sig b c.requires.bounds)
-    (c.bound_law.ensures.bounds sig) (said_by sig c.args.saying b.place)
-    (c.saying_law.ensures sig c.args.saying b.place) is.1
+    let is = rw c.in-Holds.is at c.in_ok-decide_by.ensures in (
+      c.requires.pass,
+      none-otherwise m c.args.goal.now (numbers_within b) (few-within sig b c.requires.bounds)
+          (c.bound_law.ensures.bounds sig) (said_by sig c.args.saying b.place)
+          (c.saying_law.ensures sig c.args.saying b.place) is.1,
+    )

@@ -9,6 +9,8 @@ returns-then-is_within c =
     let m = c.args.checked.now in
     let b = c.args.bounds.now in
     let most = subst (λ (ns : List ℕ). AreAtMost ns (numbers_within b))
-    (c.deref.ensures.value ∙ c.in_ok-numbers.ensures) (c.is_within.ensures c.if-is_within.true) in
-    failing-within m c.args.goal.now (numbers_within b) (few-within m.signature b c.requires.bounds)
-    (c.bound_law.ensures.bounds m.signature) (ceilings c.args.limits.now) c.args.found c.requires.failing most
+    (c.deref.ensures.value ∙ c.in_ok-numbers.ensures) (c.is_within.ensures c.if-is_within.true) in (
+      c.requires.pass,
+      failing-within m c.args.goal.now (numbers_within b) (few-within m.signature b c.requires.bounds)
+          (c.bound_law.ensures.bounds m.signature) (ceilings c.args.limits.now) c.args.found c.requires.failing most,
+    )
