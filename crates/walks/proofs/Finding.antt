@@ -1,18 +1,16 @@
 -- A run that aborts or breaks a conjecture goes along a goal with at most as many actions.
-use Rattle.std.proofs.Common.{◌≡◌, ◌⊎◌, inl, inr, ℕ, zero, suc, ◌+◌, ◌<◌, ◌≤◌, Bool, true, false, not, cond, Option, Some}
-use Rattle.std.proofs.Common.{None, List, [], ◌∷◌, ◌++◌, length, map, refl, sym, ap, ◌∙◌, subst, arith}
-use Rattle.std.specs.Prelude.{slice_get, ◌↔◌}
-use Rattle.std.specs.List.{AllByRecursion, flat_map}
+use Rattle.std.proofs.Common.{◌≡◌, ◌⊎◌, inl, inr, ℕ, zero, suc, ◌+◌, ◌≤◌, Bool, true, false, not, cond, Option, Some}
+use Rattle.std.proofs.Common.{List, [], ◌∷◌, ◌++◌, length, map, refl, sym, ap, ◌∙◌, subst, arith}
+use Rattle.std.specs.List.{flat_map}
 use Rattle.base.proofs.Lists.{at-below, some_left, some_right}
 use Rattle.fol_sig.specs.Tables.{Tables}
-use Rattle.fol_formula.specs.Syntax.{FormTree}
 use Rattle.rml_command.specs.Trees.{PrimitiveTree, CommandTree}
-use Rattle.rml_command.specs.Outcomes.{Outcome, ended, aborted, HasOutcome, PathHasOutcome, is_true}
+use Rattle.rml_command.specs.Outcomes.{Outcome, ended, aborted, HasOutcome, PathHasOutcome}
 use Rattle.base.specs.Lists.{SomeOf, count_from}
 use Rattle.rml_command.specs.Paths.{has_abort, paths_of}
 use Rattle.rml_command.specs.Models.{ModelTree}
 use Rattle.rml_command.specs.Goals.{block_of}
-use Rattle.rml_command.specs.Runs.{Step, Run, From, Leads, Closes, IsRun, SomeAborts, Aborts, BreaksAt, SomeBreaks}
+use Rattle.rml_command.specs.Runs.{Step, Run, Leads, Closes, IsRun, SomeAborts, Aborts, BreaksAt, SomeBreaks}
 use Rattle.rml_command.specs.Runs.{Breaks}
 use Rattle.rml_command.specs.Laws.{BlockHasPathOutcomes, PathsKeepKind}
 use Rattle.rml_command.specs.declared.goal.Stage.{Stage}
@@ -23,7 +21,7 @@ use Rattle.walks.specs.declared.leg.Leg.{Leg}
 use Rattle.walks.specs.declared.leg.Walk.{Walk}
 use Rattle.walks.specs.Walks.{Test, any_path, goes_on, stage_legs, action_legs, may_stand, action_choices, one_of_each}
 use Rattle.walks.specs.Walks.{leg_path, joined, goal_along, open_goals, walk_goals, goals_of_length}
-use Rattle.walks.specs.Runs.{Along, IsForbidden, HasRun, HasNoRun, IsSafeLength, SafeWithin}
+use Rattle.walks.specs.Runs.{Along, IsForbidden, HasRun, IsSafeLength}
 use Rattle.walks.specs.Laws.{BoundedIsSound}
 use Rattle.walks.proofs.Some.{some_then, some_parts, some_joined, some_split, some_mapped}
 use Rattle.walks.proofs.Some.{some_unmapped, some_at, some_counted, none_of}
@@ -92,7 +90,7 @@ module _ (blocks : BlockHasPathOutcomes) (kinds : PathsKeepKind) (m : ModelTree)
       map (λ k. goal_along (leg ∷ legs) (about.Conjecture k)) (count_from 0 (length m.conjectures)) in
       let stops_on = map (λ l. goal_along ((leg ∷ legs) ++ l ∷ []) about.Abort) ends in
       elim (some_parts (RunFrom mid) broken stops some) [
-        inl g ↦ some_left (RunFrom s) broken_on stops_on
+        | inl g ↦ some_left (RunFrom s) broken_on stops_on
             (some_mapped (RunFrom s) (λ k. goal_along (leg ∷ legs) (about.Conjecture k))
             (count_from 0 (length m.conjectures))
             (some_then (λ k. RunFrom mid (goal_along legs (about.Conjecture k)))

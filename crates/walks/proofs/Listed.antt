@@ -1,14 +1,13 @@
 -- Which legs are listed.
-use Rattle.std.proofs.Common.{◌≡◌, ◌⊎◌, inl, inr, ℕ, zero, suc, ◌+◌, ◌<◌, Bool, true, false, cond, Some, None, List, []}
-use Rattle.std.proofs.Common.{◌∷◌, ◌++◌, length, map, refl, sym, ap, ◌∙◌, subst, arith}
+use Rattle.std.proofs.Common.{◌≡◌, inl, inr, ℕ, zero, suc, ◌+◌, Bool, true, false, cond, Some, List, []}
+use Rattle.std.proofs.Common.{◌∷◌, length, map, sym, ap, ◌∙◌, subst, arith}
 use Rattle.std.specs.Prelude.{slice_get}
-use Rattle.std.specs.List.{AllByRecursion, flat_map}
-use Rattle.base.proofs.Lists.{at-below, some_left, some_right}
+use Rattle.base.proofs.Lists.{at-below}
 use Rattle.rml_command.specs.Trees.{PrimitiveTree, CommandTree}
-use Rattle.base.specs.Lists.{SomeOf, count_from, numbered}
-use Rattle.rml_command.specs.Paths.{has_abort, paths_of}
+use Rattle.base.specs.Lists.{SomeOf, count_from}
+use Rattle.rml_command.specs.Paths.{paths_of}
 use Rattle.rml_command.specs.Models.{ModelTree}
-use Rattle.rml_command.specs.Goals.{block_of, paths_of_block, stage_paths}
+use Rattle.rml_command.specs.Goals.{block_of, paths_of_block}
 use Rattle.rml_command.specs.declared.goal.Stage.{Stage}
 use Rattle.rml_command.specs.declared.goal.Stage.TheVariants as stage
 use Rattle.walks.specs.declared.leg.Leg.{Leg}

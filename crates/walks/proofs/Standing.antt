@@ -1,22 +1,19 @@
 -- The goals of a length are walks of the model.
-use Rattle.std.proofs.Common.{◌≡◌, ◌⊎◌, inl, inr, ℕ, zero, suc, ◌+◌, ◌<◌, Bool, true, false, not, ◌||◌, cond, Option}
-use Rattle.std.proofs.Common.{Some, None, List, [], ◌∷◌, ◌++◌, length, map, refl, sym, ap, ◌∙◌, subst, arith}
+use Rattle.std.proofs.Common.{◌≡◌, ◌⊎◌, inl, inr, ℕ, zero, suc, ◌+◌, ◌<◌, Bool, true, false, not, cond}
+use Rattle.std.proofs.Common.{Some, List, [], ◌∷◌, ◌++◌, length, map, refl, sym, ap, ◌∙◌, subst, arith}
 use Rattle.std.specs.Prelude.{slice_get}
-use Rattle.std.specs.List.{AllByRecursion, flat_map}
+use Rattle.std.specs.List.{AllByRecursion}
 use Rattle.rml_command.specs.Trees.{PrimitiveTree}
 use Rattle.base.specs.Lists.{count_from, numbered}
 use Rattle.rml_command.specs.Paths.{has_abort}
 use Rattle.rml_command.specs.Models.{ModelTree}
-use Rattle.rml_command.specs.Goals.{stage_paths, is_for, HasAbout}
+use Rattle.rml_command.specs.Goals.{stage_paths}
 use Rattle.rml_command.specs.declared.goal.Stage.{Stage}
 use Rattle.rml_command.specs.declared.goal.Stage.TheVariants as stage
-use Rattle.rml_command.specs.declared.goal.About.{About}
 use Rattle.rml_command.specs.declared.goal.About.TheVariants as about
 use Rattle.walks.specs.declared.leg.Leg.{Leg}
-use Rattle.walks.specs.declared.leg.Walk.{Walk}
 use Rattle.walks.specs.Walks.{Test, any_path, goes_on, legs_among, stage_legs, action_legs, may_stand, action_choices}
 use Rattle.walks.specs.Walks.{one_of_each, walks_of, path_of, leg_path, joined, goal_along, open_goals, walk_goals}
-use Rattle.walks.specs.Walks.{goals_of_length}
 use Rattle.walks.specs.Laws.{IsLeg, AbortsLast, IsInit, IsAction, AreLater, AreInOrder, AreLegs, IsWalk, GoalsAreWalks}
 use Rattle.base.proofs.Lists.{all_append}
 use Rattle.walks.proofs.Some.{all_joined, all_mapped, all_counted}
