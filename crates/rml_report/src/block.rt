@@ -6,7 +6,7 @@ ghost use Rattle.rml_report.specs.ReportText.{least_line, outcome_of, end_tables
 ghost use Rattle.rml_report.specs.ReportText.{end_text, outcome_text, execution_text, block_text};
 
 use crate::cause::{Bound, Cause, Least};
-use crate::tables::{push_sorts, push_tables};
+use crate::structures::{push_sorts, push_tables};
 use crate::words::{push_cause, push_labelled, push_name, push_numbers_line};
 use base::{Mem, push_number, push_text};
 use rml_command::{About, Checked, Names};

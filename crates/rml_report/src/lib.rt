@@ -6,7 +6,7 @@ mod cause;
 mod laws;
 mod rendering;
 mod report;
-mod tables;
+mod structures;
 mod words;
 
 pub use block::{push_execution, push_path_line};
@@ -14,5 +14,5 @@ pub use cause::{Bound, Cause, Least};
 pub use laws::{rendering_law, report_law};
 pub use rendering::{push_head, push_stage, render};
 pub use report::{Answer, Axioms, Group, Report, Verdict};
-pub use tables::{push_sorts, push_tables, tables};
+pub use structures::{push_sorts, push_tables, tables};
 pub use words::{push_cause, push_labelled, push_name, push_numbers_line};

@@ -2,7 +2,7 @@ use Rattle.std.proofs.Common.{◌≡◌, ◌++◌, [], ◌∷◌, List, ℕ, ◌
 use Rattle.fol_sig.specs.Tables.{numbers}
 use Rattle.rml_report.specs.TableText.{each_tuple, cell_text}
 use Rattle.rml_report.proofs.Pieces.{one_more, popped}
-use Rattle.rml_report.proofs.tables.+push_cells.Goals as goal
+use Rattle.rml_report.proofs.structures.+push_cells.Goals as goal
 
 pub loop-element-preserved : goal.loop-element-preserved
 loop-element-preserved t c =

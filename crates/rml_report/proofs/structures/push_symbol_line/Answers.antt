@@ -1,7 +1,7 @@
 use Rattle.std.proofs.Common.{[], subst, sym}
 use Rattle.rml_report.specs.TableText.{IsCell, EachTuple}
 use Rattle.rml_report.proofs.Cells.{each_cell}
-use Rattle.rml_report.proofs.tables.push_symbol_line.Goals as goal
+use Rattle.rml_report.proofs.structures.push_symbol_line.Goals as goal
 
 pub push_values-requires : goal.push_values-requires
 push_values-requires c =

@@ -2,7 +2,7 @@ use Rattle.std.proofs.Common.{◌≡◌, ◌++◌}
 use Rattle.fol_sig.specs.Tables.{size_at}
 use Rattle.fol_sig.specs.Tuples.{join_below}
 use Rattle.rml_report.specs.TableText.{sort_line}
-use Rattle.rml_report.proofs.tables.push_sorts.Given as goal
+use Rattle.rml_report.proofs.structures.push_sorts.Given as goal
 
 abbrev pub invariant-loop-sort : goal.invariant-loop-sort
 invariant-loop-sort l =

@@ -2,7 +2,7 @@ use Rattle.std.proofs.Common.{◌≡◌, ◌++◌, ◌∷◌, [], length}
 use Rattle.fol_sig.specs.Tables.{numbers}
 use Rattle.fol_sig.specs.Tuples.{join_below}
 use Rattle.rml_report.specs.TableText.{each_tuple, cell_text}
-use Rattle.rml_report.proofs.tables.+push_cells.Given as goal
+use Rattle.rml_report.proofs.structures.+push_cells.Given as goal
 
 abbrev pub decreases-push_cells : goal.decreases-push_cells
 decreases-push_cells l = length l.sorts.now
