@@ -1,25 +1,35 @@
 #!/usr/bin/env python3
-"""Runs the merge gate and prints, crate by crate, what it cost, as a table for docs/PROOFS.md.
+"""Runs the merge gate, and writes docs/GATE.md: what each crate cost in it.
 
-    bench/gate.py [--log FILE] [WORD ..]    runs `rt ci WORD ..` in this folder; what it says goes to FILE
+    bench/gate.py [WORD ..]             runs `rt ci WORD ..` in this folder, as `--anew`, and writes docs/GATE.md
+    bench/gate.py --pid PID             watches an `rt ci` that runs already, till it ends
+    bench/gate.py --of FILE ..          writes docs/GATE.md from what such watches kept
+        --log FILE      what the gate says goes to FILE (gate.log among the temporary files)
+        --keep FILE     what was seen goes to FILE, every ten seconds (gate-PID.json among the temporary files)
+        --table FILE    the page (docs/GATE.md)
 
 The gate prints no times, so its processes are watched. Each `rattle` that it starts names its crate on the command
 line. It works in the crate's folder for the crate's own proof and, with --test, for the proof with its tests; and in a
 copy of it for the must-fail edits and the check that these begin with. The kernel counts the processor time of each,
-and of what it forks. A look four times a second loses at most the last quarter of a second of each process; the line
-above the table says how much of all processor time was seen. Running tests and programs takes seconds, and is not
-shown.
+and of what it forks. A look four times a second loses at most the last quarter of a second of each process; the page
+says how much of all processor time was seen. Running tests and programs takes seconds, and is not shown.
+
+Where a gate ran in parts, each part is watched by itself and `--of` puts them together: of the proofs and of the tests
+of a crate the last that ended counts, of its edits all that ended, and only those of the crate's present text over the
+present text of the crates below it. A crate that no part has of this text is shown by the last of another, with a mark.
 """
 import argparse
 import contextlib
+import hashlib
+import json
 import os
 import re
-import resource
 import subprocess
 import sys
 import tempfile
 import time
 
+HERE = os.path.dirname(os.path.dirname(os.path.abspath(__file__)))
 KINDS = ("proofs", "tests", "edits")
 FOLDERS = ("src", "specs", "proofs")
 INTERVAL = 0.25
@@ -28,22 +38,27 @@ KEPT = r"rt: (\w+ is kept|\w+: \d+ of its \d+ must-fail edits were tried by an e
 TICKS = os.sysconf("SC_CLK_TCK")
 
 
+def text_of(path):
+    with contextlib.suppress(OSError), open(path, errors="replace") as it:
+        return it.read()
+    return ""
+
+
 def processes():
     """Gives each process's start, its parent, and its seconds with those of the children that it has waited for."""
     found = {}
     for name in filter(str.isdigit, os.listdir("/proc")):
-        with contextlib.suppress(OSError), open(f"/proc/{name}/stat") as it:
-            # behind the command's name in parentheses, which may hold anything: the state, the parent ..
-            fields = it.read().rpartition(")")[2].split()
+        # behind the command's name in parentheses, which may hold anything: the state, the parent ..
+        fields = text_of(f"/proc/{name}/stat").rpartition(")")[2].split()
+        if len(fields) > 19:
             found[int(name)] = int(fields[19]), int(fields[1]), sum(map(int, fields[11:15])) / TICKS
     return found
 
 
 def task_of(pid):
     """Gives the crate that a `rattle` works on, and the kind of its work, or None for another process."""
+    words = text_of(f"/proc/{pid}/cmdline").split("\0")
     with contextlib.suppress(OSError):
-        with open(f"/proc/{pid}/cmdline", errors="replace") as it:
-            words = it.read().split("\0")
         if "--crate-name" in words:
             folder = os.path.basename(os.readlink(f"/proc/{pid}/cwd"))
             kind = "edits" if folder.startswith("rt-edit-") else "tests" if "--test" in words else "proofs"
@@ -55,12 +70,15 @@ class Watch:
     """The processor time of the tasks below a process: the last that was seen of each."""
 
     def __init__(self, pid):
-        self.pid = pid
-        self.tasks = {}
-        self.seconds = {}
+        self.pid, self.start = pid, processes().get(pid, (None,))[0]
+        self.tasks, self.seconds, self.running = {}, {}, set()
+        self.whole, self.loads = 0, []
 
     def look(self):
+        """Looks once, and gives whether the process is still there."""
         found = processes()
+        if found.get(self.pid, (None,))[0] != self.start:
+            return False
         below = {}
         for pid, (_, parent, _) in found.items():
             below.setdefault(parent, []).append(pid)
@@ -68,6 +86,7 @@ class Watch:
         def whole(pid):
             return found[pid][2] + sum(map(whole, below.get(pid, [])))
 
+        self.whole, self.running = max(self.whole, whole(self.pid)), set()
         left = list(below.get(self.pid, []))
         while left:
             pid = left.pop()
@@ -75,37 +94,118 @@ class Watch:
             # (a process that is about to end shows no command line any more)
             task = self.tasks.get(one) or task_of(pid)
             if task:
+                self.running.add(one)
                 self.tasks[one] = task
                 self.seconds[one] = max(whole(pid), self.seconds.get(one, 0))
             else:
                 left += below.get(pid, [])
+        return True
 
     def costs(self):
-        """Gives the seconds by crate and kind."""
-        costs = {}
+        """Gives the seconds of the tasks that ended, and of all, by crate and kind."""
+        ended, every = {}, {}
         for one, task in self.tasks.items():
-            costs[task] = costs.get(task, 0) + self.seconds[one]
-        return costs
+            every[task] = every.get(task, 0) + self.seconds[one]
+            if one not in self.running:
+                ended[task] = ended.get(task, 0) + self.seconds[one]
+        return ended, every
 
 
-def crates():
-    """Gives the names of the crates, in the order of crates.txt."""
-    with open("crates.txt") as it:
-        return re.findall(r"^([a-z]\w*)[^:\n]*:", it.read(), re.M)
+def below(root):
+    """Gives the crates by name, in the order of crates.txt, each with those of the repository that it stands on."""
+    lines = re.findall(r"^([a-z]\w*)[^:\n]*:(.*)$", text_of(f"{root}/crates.txt"), re.M)
+    names = {name for name, _ in lines}
+    return {name: [it for it in rest.split() if it in names] for name, rest in lines}
+
+
+def sums(root):
+    """Gives for each crate a sum of its text and of that of the crates below it."""
+    of, made = below(root), {}
+
+    def sum_of(crate):
+        if crate not in made:
+            it = hashlib.sha256(repr([sum_of(low) for low in of[crate]]).encode())
+            for folder in FOLDERS:
+                for at, folders, names in os.walk(f"{root}/crates/{crate}/{folder}"):
+                    folders.sort()
+                    for name in sorted(names):
+                        it.update(f"{os.path.relpath(f'{at}/{name}', root)}\n{text_of(f'{at}/{name}')}".encode())
+            made[crate] = it.hexdigest()
+        return made[crate]
+
+    return {crate: sum_of(crate) for crate in of}
+
+
+def machine():
+    found = re.search(r"^model name\s*:\s*(.*)$", text_of("/proc/cpuinfo"), re.M)
+    return re.sub(r"\s+", " ", found[1]) if found else "an unknown processor"
+
+
+def seen(watch, begun, texts, said):
+    """Gives what a watch saw so far, as it is kept."""
+    ended, every = watch.costs()
+    return {
+        "version": subprocess.run(["rt", "version"], capture_output=True, text=True).stdout.strip(),
+        "date": time.strftime("%d %B %Y").lstrip("0"),
+        "machine": machine(),
+        "processors": len(os.sched_getaffinity(0)),
+        "minutes": (time.monotonic() - begun) / 60,
+        "load": sum(watch.loads) / max(1, len(watch.loads)),
+        "whole": watch.whole,
+        "seen": sum(every.values()),
+        "sums": texts,
+        "costs": [[crate, kind, seconds] for (crate, kind), seconds in ended.items()],
+        "kept": sorted({re.match(KEPT, it)[1] for it in said if re.match(KEPT, it)}),
+        "said": said[-1] if said and re.match(r"\d+ passed, \d+ failed", said[-1]) else "",
+    }
+
+
+def watched(pid, keep, log, is_over):
+    """Watches a gate till it ends, and keeps what it saw."""
+    watch, begun, looks = Watch(pid), time.monotonic(), 0
+    texts = sums(f"/proc/{pid}/cwd")
+    while not is_over() and watch.look():
+        looks += 1
+        if looks % 40 == 1:
+            texts = texts or sums(f"/proc/{pid}/cwd")
+            watch.loads.append(os.getloadavg()[0])
+            write(keep, seen(watch, begun, texts, text_of(log).splitlines()))
+        time.sleep(INTERVAL)
+    watch.running = set()
+    found = seen(watch, begun, texts, text_of(log).splitlines())
+    write(keep, found)
+    return found
+
+
+def write(file, found):
+    with open(f"{file}.new", "w") as out:
+        json.dump(found, out, indent=1)
+    os.replace(f"{file}.new", file)
+
+
+def merged(runs, texts):
+    """Gives the seconds by crate and kind, and the crates whose figures are of another text."""
+    costs, marked = {}, set()
+    for is_present in (False, True):
+        own = {}
+        for run in runs:
+            for crate, kind, seconds in run["costs"]:
+                if (run["sums"].get(crate) == texts.get(crate)) == is_present and crate in texts:
+                    more = own.get((crate, kind), 0) if kind == "edits" and is_present else 0
+                    own[crate, kind] = more + seconds
+        costs.update(own)
+        marked = {crate for crate, _ in own} if not is_present else marked - {crate for crate, _ in own}
+    return costs, marked
 
 
 def lines_in(crate, folder):
     """Counts the lines of the texts in a folder of a crate."""
-    count = 0
-    for at, _, names in os.walk(f"crates/{crate}/{folder}"):
-        for name in names:
-            with open(f"{at}/{name}", "rb") as it:
-                count += it.read().count(b"\n")
-    return count
+    found = [f"{at}/{name}" for at, _, names in os.walk(f"{HERE}/crates/{crate}/{folder}") for name in names]
+    return sum(text_of(it).count("\n") for it in found)
 
 
 def edits_of(crate):
-    folder = f"crates/{crate}/must-fail"
+    folder = f"{HERE}/crates/{crate}/must-fail"
     return sum(it.endswith(".edit") for it in os.listdir(folder)) if os.path.isdir(folder) else 0
 
 
@@ -113,49 +213,80 @@ def minutes(costs, crate, kind):
     return f"{costs[crate, kind] / 60:.1f}" if (crate, kind) in costs else ""
 
 
-def table(costs):
-    """Writes the rows, and their sums."""
-    print("| Crate | src | specs | proofs | proofs, min | tests, min | edits | edits, min |")
-    print("|---|---|---|---|---|---|---|---|")
-    sums = [0] * 3
-    for crate in crates():
+def table(costs, marked):
+    """Gives the rows, and their sums."""
+    yield "| Crate | src | specs | proofs | proofs, min | tests, min | edits | edits, min |"
+    yield "|---|---|---|---|---|---|---|---|"
+    whole, crates = [0] * 3, list(below(HERE))
+    for crate in crates:
         lines = [lines_in(crate, it) for it in FOLDERS]
-        sums = [a + b for a, b in zip(sums, lines)]
+        whole = [a + b for a, b in zip(whole, lines)]
         proofs, tests, edits = (minutes(costs, crate, it) for it in KINDS)
-        print("|", " | ".join(map(str, [f"`{crate}`", *lines, proofs, tests, edits_of(crate), edits])), "|")
+        name = f"`{crate}`{' *' if crate in marked else ''}"
+        yield f"| {' | '.join(map(str, [name, *lines, proofs, tests, edits_of(crate), edits]))} |"
     totals = [f"{sum(took for (_, kind), took in costs.items() if kind == it) / 60:.1f}" for it in KINDS]
-    count = sum(map(edits_of, crates()))
-    print("|", " | ".join(map(str, ["all", *sums, totals[0], totals[1], count, totals[2]])), "|")
+    count = sum(map(edits_of, crates))
+    yield f"| {' | '.join(map(str, ['all', *whole, totals[0], totals[1], count, totals[2]]))} |"
+
+
+def page(runs):
+    """Gives the lines of the page."""
+    costs, marked = merged(runs, sums(HERE))
+    yield "# What the gate costs"
+    yield ""
+    yield "Written whole by `bench/gate.py`, from runs of `rt ci` that it watched: lines of text, must-fail edits, and"
+    yield "processor minutes of each crate's proofs, of its proofs with tests, and of its edits with the check that they"
+    yield "begin with. Processor time goes up with the load: on processors that were busy, times are up to twice those on"
+    yield "quiet ones."
+    yield ""
+    for run in runs:
+        yield (f"- {run['date']}, `{run['version']}`, {run['machine']}, {run['processors']} processors, mean load "
+               f"{run['load']:.1f}: {run['minutes']:.0f} minutes,")
+        yield (f"  {run['whole'] / 60:.1f} processor minutes, of which {run['seen'] / 60:.1f} were seen by crate"
+               f"{'; ' + run['said'] if run['said'] else ''}.")
+        if run["kept"]:
+            yield f"  Taken from earlier runs, so without time here: {len(run['kept'])} crates and sets of edits."
+    if len(runs) > 1:
+        yield ""
+        yield "Of a crate's proofs and tests the last that ended counts, of its edits all of the present text."
+    if marked:
+        yield "With `*`: figures of an earlier text of the crate, or of one below it."
+    yield ""
+    yield from table(costs, marked)
+
+
+def put_page(file, runs):
+    with open(file, "w") as out:
+        out.write("\n".join(page(runs)) + "\n")
+    print(f"gate.py: wrote {file}", file=sys.stderr)
 
 
 def main():
-    parser = argparse.ArgumentParser(description=__doc__, formatter_class=argparse.RawDescriptionHelpFormatter)
-    parser.add_argument("--log", default=f"{tempfile.gettempdir()}/gate.log", metavar="FILE")
-    parser.add_argument("words", nargs=argparse.REMAINDER)
-    given = parser.parse_args()
-    print(f"gate.py: the log is {given.log}", file=sys.stderr)
-    begun = time.monotonic()
-    with open(given.log, "w") as log:
-        gate = subprocess.Popen(["rt", "ci", *given.words], stdin=subprocess.DEVNULL, stdout=log, stderr=log)
-        watch = Watch(gate.pid)
-        while gate.poll() is None:
-            watch.look()
-            time.sleep(INTERVAL)
-    took, used = time.monotonic() - begun, resource.getrusage(resource.RUSAGE_CHILDREN)
-    whole, costs = used.ru_utime + used.ru_stime, watch.costs()
-    with open(given.log) as it:
-        said = it.read().splitlines()
-    version = subprocess.run(["rt", "version"], capture_output=True, text=True).stdout.strip()
-    print(f"`{version}`, {time.strftime('%d %B %Y')}: {said[-1] if said else 'no output'}.")
-    print(f"{took / 60:.0f} minutes on {len(os.sched_getaffinity(0))} processors, {whole / 60:.1f} processor minutes;")
-    print(f"{sum(costs.values()) / 60:.1f} of these are in the table.")
-    if any(re.match(KEPT, it) for it in said):
-        print("What earlier runs on this machine had passed was not done again, and has no time here:")
-        print("\n".join(f"- {re.match(KEPT, it)[1]}" for it in said if re.match(KEPT, it)))
-    print()
-    table(costs)
-    sys.exit(gate.returncode)
+    parser = argparse.ArgumentParser(description=__doc__, formatter_class=argparse.RawDescriptionHelpFormatter,
+                                     allow_abbrev=False)
+    parser.add_argument("--pid", type=int)
+    parser.add_argument("--of", nargs="+", metavar="FILE")
+    parser.add_argument("--log", metavar="FILE")
+    parser.add_argument("--keep", metavar="FILE")
+    parser.add_argument("--table", default=f"{HERE}/docs/GATE.md", metavar="FILE")
+    given, words = parser.parse_known_args()
+    room = tempfile.gettempdir()
+    if given.of:
+        return put_page(given.table, [json.loads(text_of(it)) for it in given.of])
+    log = given.log or f"{room}/gate.log"
+    if given.pid:
+        keep = given.keep or f"{room}/gate-{given.pid}.json"
+        print(f"gate.py: what is seen goes to {keep}", file=sys.stderr)
+        watched(given.pid, keep, given.log or os.devnull, lambda: False)
+        return 0
+    print(f"gate.py: the log is {log}", file=sys.stderr)
+    with open(log, "w") as out:
+        gate = subprocess.Popen(["rt", "ci", *words], stdin=subprocess.DEVNULL, stdout=out, stderr=out)
+        found = watched(gate.pid, given.keep or f"{room}/gate-{gate.pid}.json", log, lambda: gate.poll() is not None)
+    put_page(given.table, [found])
+    print("\n".join(text_of(log).splitlines()[-1:]))
+    return gate.returncode
 
 
 if __name__ == "__main__":
-    main()
+    sys.exit(main())

@@ -1,13 +1,16 @@
 #!/usr/bin/env python3
-"""Decides the goals of models by `ivycheck` and by minisat, and compares verdicts and times.
+"""Decides the goals of models by minisat, and holds to that what `ivycheck` says of them.
 
-    bench/goals.py [--program P] [--conflicts N] [--most K] FILE ..
+    bench/goals.py [--conflicts N] [--most K] FILE ..    IVYCHECK is the program (the one that ./ivycheck runs)
 
-For each file: each goal's clauses (`emit FILE GOAL cnf`) go to `minisat -no-pre`; a goal holds for `ivycheck` where
-`emit FILE GOAL lrat` ends with 0 and fails where it ends with 1. A file of over K goals (200) is passed over. Printed
-are, for each file, the goals, how many hold, and the processor seconds and peak megabytes of `check`, of all
-`emit .. cnf`, of all `emit .. lrat` and of all runs of minisat; then each goal on which both disagree. The status is 1
-where they do. It needs minisat.
+For each file each goal's clauses (`emit FILE GOAL cnf`) go to `minisat -no-pre`. Then what is said of the goals is
+compared: by each `emit FILE GOAL lrat` (0 where it holds, 1 where it fails), and by the report of `check`: each group
+has to hold where all its goals do, and else to fail at the first path whose goal does; and the verdict has to be so.
+Which goals are a group's is read off the text's blocks. A file of over K goals (200) is passed over, by name.
+
+Printed are, for each file, the goals, how many hold, and the processor seconds and peak megabytes of `check`, of all
+`emit .. cnf`, of all `emit .. lrat` and of all runs of minisat; then whatever is not as minisat has it. The status is 1
+where that is something, or a file has no goals since it has a fault or cannot be read. It needs minisat.
 """
 import argparse
 import os
@@ -16,7 +19,7 @@ import subprocess
 import sys
 import tempfile
 
-HERE = os.path.dirname(os.path.dirname(os.path.abspath(__file__)))
+from program import program
 
 
 class Sum:
@@ -25,58 +28,153 @@ class Sum:
     def __init__(self):
         self.seconds, self.megabytes = 0.0, 0.0
 
-    def run(self, words, into=subprocess.DEVNULL):
-        """Runs a program, and gives its status and what it says on standard error."""
-        child = subprocess.Popen(words, stdout=into, stderr=subprocess.PIPE, text=True)
-        err = child.stderr.read()
-        _, status, used = os.wait4(child.pid, 0)
-        self.seconds += used.ru_utime + used.ru_stime
-        self.megabytes = max(self.megabytes, used.ru_maxrss / 1024)
-        return os.waitstatus_to_exitcode(status), err
+    def run(self, words, into=None):
+        """Runs a program, and gives its status and what it says on both streams; the first may go to a file."""
+        with tempfile.TemporaryFile("w+") as out, tempfile.TemporaryFile("w+") as err:
+            child = subprocess.Popen(words, stdout=into or out, stderr=err)
+            _, status, used = os.wait4(child.pid, 0)
+            self.seconds += used.ru_utime + used.ru_stime
+            self.megabytes = max(self.megabytes, used.ru_maxrss / 1024)
+            out.seek(0)
+            err.seek(0)
+            return os.waitstatus_to_exitcode(status), out.read(), err.read()
 
     def __str__(self):
         return f"{self.seconds:.2f} s, {self.megabytes:.0f} MB"
 
 
-def goals_of(program, file):
-    """Gives how many goals a model has."""
-    found = re.search(r"there are (\d+) goals", Sum().run([program, "emit", file, "1000000000", "cnf"])[1])
-    return int(found.group(1)) if found else 0
+class Blocks:
+    """Reads the blocks of a text that has no fault: for each of their paths, in order, whether it aborts."""
+
+    def __init__(self, text):
+        plain = re.sub(r"#.*", "", text)
+        self.words, self.at = re.findall(r"\w+|<->|->|:=|~=|\S", plain), 0
+        self.stages, self.conjectures = {}, []
+        while self.at < len(self.words):
+            word = self.words[self.at]
+            self.at += 1
+            if word == "conjecture":
+                self.conjectures.append(self.words[self.at])
+            elif word in ("init", "final"):
+                self.stages[word] = self.block()
+            elif word == "action":
+                name = self.words[self.at]
+                self.at += 1
+                self.stages[f"action {name}"] = self.block()
+
+    def take(self, word):
+        assert self.words[self.at] == word, (self.at, word)
+        self.at += 1
+
+    def block(self):
+        self.take("{")
+        paths = [False]
+        while self.words[self.at] != "}":
+            if self.words[self.at] == ";":
+                self.at += 1
+                continue
+            more = self.command()
+            paths = [it for path in paths for it in ([True] if path else more)]
+        self.take("}")
+        return paths
+
+    def command(self):
+        word = self.words[self.at]
+        self.at += 1
+        if word == "choose":
+            paths = self.block()
+            while self.words[self.at] == "or":
+                self.at += 1
+                paths = paths + self.block()
+            return paths
+        while self.words[self.at] not in ("{", "}", ";"):
+            self.at += 1
+        if word == "if":
+            paths = self.block()
+            if self.words[self.at] != "else":
+                return paths + [False]
+            self.at += 1
+            return paths + self.block()
+        return {"abort": [True], "assert": [True, False]}.get(word, [False])
+
+    def groups(self):
+        """Gives for each group of the report its head, how many paths its block has, and the paths of its goals."""
+        actions = [it for it in self.stages if it.startswith("action ")]
+        for stage in ["init", *actions, "final"]:
+            paths = self.stages.get(stage, [False])
+            yield f"{stage} abort", len(paths), [k for k, aborts in enumerate(paths, 1) if aborts]
+            for name in self.conjectures if stage != "final" else []:
+                yield f"{stage} {name}", len(paths), [k for k, aborts in enumerate(paths, 1) if not aborts]
 
 
-def compare(program, file, limits, most):
-    """Compares on the goals of a file, and gives how many goals are told apart."""
-    goals = goals_of(program, file)
+def wanted(text, fails):
+    """Gives the report's lines on groups and the verdict, where these goals fail and all others hold."""
+    number, lines = 0, []
+    for head, paths, own in Blocks(text).groups():
+        failing = [path for k, path in enumerate(own, number + 1) if k in fails]
+        number += len(own)
+        lines.append(f"{head}: fails, path {failing[0]} of {paths}" if failing else f"{head}: holds")
+    return number, [*lines, f"verdict: {'not inductive' if fails else 'inductive'}"]
+
+
+def said(report):
+    """Gives these lines as a report has them."""
+    joined = re.sub(r": fails\n  path (\d+ of \d+)\n", r": fails, path \1\n", report)
+    return [it for it in joined.splitlines() if re.match(r"\S", it) and not it.startswith("axioms: ")]
+
+
+def decided(file, goal, limits, cnf, lrat, minisat):
+    """Gives the statuses of both on a goal, and what `emit` says."""
+    with tempfile.NamedTemporaryFile("w+") as clauses:
+        status, _, err = cnf.run([program(), "emit", file, str(goal), "cnf", *limits], clauses)
+        ours = lrat.run([program(), "emit", file, str(goal), "lrat", *limits])[0]
+        return ours, minisat.run(["minisat", "-no-pre", "-verb=0", clauses.name])[0] if status == 0 else None, err.strip()
+
+
+def compare(file, limits, most):
+    """Compares on the goals of a file, and gives how much is not as minisat has it."""
+    name = os.path.basename(file)
+    status, _, err = Sum().run([program(), "emit", file, "1000000000", "cnf"])
+    found = re.fullmatch(r"there are (\d+) goals\n", err)
+    if not found:
+        print(f"{name}: no goals: status {status} {err.strip()}")
+        return 1
+    goals = int(found[1])
     if goals > most:
-        print(f"{os.path.basename(file)}: {goals} goals, passed over")
+        print(f"{name}: {goals} goals, passed over")
         return 0
     check, cnf, lrat, minisat = Sum(), Sum(), Sum(), Sum()
-    check.run([program, "check", file, *limits])
-    holds, told = 0, []
+    status, report, _ = check.run([program(), "check", file, *limits])
+    told, theirs_fail, holds = [], set(), 0
     for goal in range(1, goals + 1):
-        with tempfile.NamedTemporaryFile("w+") as clauses:
-            status, err = cnf.run([program, "emit", file, str(goal), "cnf", *limits], clauses)
-            ours = lrat.run([program, "emit", file, str(goal), "lrat", *limits])[0]
-            theirs = minisat.run(["minisat", "-no-pre", "-verb=0", clauses.name])[0] if status == 0 else None
-        holds += ours == 0
+        ours, theirs, err = decided(file, goal, limits, cnf, lrat, minisat)
         # minisat ends with 10 where there is a model, and with 20 where there is none
+        holds += theirs == 20
+        theirs_fail |= {goal} if theirs == 10 else set()
         if (ours, theirs) not in ((0, 20), (1, 10)):
-            told.append(f"  goal {goal}: emit ended with {ours}, minisat with {theirs} {err.strip()}")
-    print(f"{os.path.basename(file)}: {goals} goals, {holds} hold")
+            told.append(f"  goal {goal}: emit ended with {ours}, minisat with {theirs} {err}")
+    with open(file, errors="replace") as text:
+        count, lines = wanted(text.read(), theirs_fail)
+    if count != goals:
+        told.append(f"  emit has {goals} goals, the blocks of the text {count}")
+    for line, by_minisat in zip([*said(report), *[""] * len(lines)], lines):
+        if line != by_minisat:
+            told.append(f"  check says '{line}', by minisat it is '{by_minisat}'")
+    if status != (1 if theirs_fail else 0):
+        told.append(f"  check ended with {status}")
+    print(f"{name}: {goals} goals, {holds} hold")
     print(f"  check {check}; emit cnf {cnf}; emit lrat {lrat}; minisat {minisat}")
-    print("\n".join(told), end="\n" if told else "")
+    print("\n".join(told), end="\n" if told else "", flush=True)
     return len(told)
 
 
 def main():
-    words = argparse.ArgumentParser()
-    words.add_argument("--program", default=f"{HERE}/crates/ivycheck/out/ivycheck")
+    words = argparse.ArgumentParser(description=__doc__, formatter_class=argparse.RawDescriptionHelpFormatter)
     words.add_argument("--conflicts", default="1000000")
     words.add_argument("--most", type=int, default=200)
     words.add_argument("files", nargs="+")
     given = words.parse_args()
-    limits = ["--conflicts", given.conflicts]
-    told = [compare(given.program, file, limits, given.most) for file in given.files]
+    told = [compare(file, ["--conflicts", given.conflicts], given.most) for file in given.files]
     sys.exit(1 if any(told) else 0)
 
 

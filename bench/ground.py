@@ -1,7 +1,7 @@
 #!/usr/bin/env python3
 """Times the way from sentences to clauses, on the goal of each file that has the most clauses.
 
-    bench/ground.py [--program P] FILE ..    the program is crates/ivycheck/out/ivycheck
+    bench/ground.py FILE ..    IVYCHECK is the program (the one that ./ivycheck runs)
 
 The ground size of the goal, that is the counted nodes and axioms, is the least `--ground G` with which `emit FILE GOAL
 cnf` gives clauses; with G - 1 the same run ends before any ground term is made. The difference of the two, the least
@@ -9,11 +9,11 @@ user and system time of seven runs each and the peak of memory, is the way from 
 since `emit` does that too, to their text. Printed are nodes and axioms a second of that time, bytes of memory a clause,
 and the bytes of text, which are written at some 300 MB a second.
 """
-import argparse
 import os
 import subprocess
+import sys
 
-HERE = os.path.dirname(os.path.dirname(os.path.abspath(__file__)))
+from program import program
 
 
 def run(words):
@@ -33,8 +33,8 @@ def least(words):
 class Goal:
     """A goal's clauses, as `emit` writes them."""
 
-    def __init__(self, program, file, number):
-        self.words = [program, "emit", file, str(number), "cnf"]
+    def __init__(self, file, number):
+        self.words = [program(), "emit", file, str(number), "cnf"]
         self.number = number
 
     def clauses(self):
@@ -65,25 +65,24 @@ class Goal:
         return low
 
 
-def largest(program, file):
-    """The goal with the most clauses, with their number and the bytes of their text."""
+def largest(file):
+    """The goal with the most clauses, with their number and the bytes of their text, or None where there is no goal."""
     best, number = None, 1
-    while (clauses := Goal(program, file, number).clauses()) is not None:
+    while (clauses := Goal(file, number).clauses()) is not None:
         if best is None or clauses > best[1]:
-            best = (Goal(program, file, number), clauses)
+            best = (Goal(file, number), clauses)
         number += 1
     return best
 
 
 def main():
-    parser = argparse.ArgumentParser()
-    parser.add_argument("--program", default=f"{HERE}/crates/ivycheck/out/ivycheck")
-    parser.add_argument("files", nargs="+")
-    given = parser.parse_args()
     print("| Goal | Ground size | Clauses | Text | Seconds | Million nodes a second | Bytes a clause |")
     print("|---|---|---|---|---|---|---|")
-    for file in given.files:
-        goal, (clauses, text) = largest(given.program, file)
+    for file in sys.argv[1:]:
+        found = largest(file)
+        if not found:
+            sys.exit(f"ground.py: {file}: there is no goal")
+        goal, (clauses, text) = found
         size = goal.ground_size()
         seconds, peak = least(goal.with_ground(size))
         before, without = least(goal.with_ground(size - 1))

@@ -2,12 +2,16 @@
 """Refuses the growths of the program in turn: each run ends with status 7 and nothing on standard output, or as with
 ample memory.
 
-    bench/growths.py [PROGRAM [LIMIT]]    the program is crates/ivycheck/out/ivycheck
+    bench/growths.py [--steps N] [TITLE ..]    IVYCHECK is the program (the one that ./ivycheck runs)
 
-A library that is loaded before the C library's refuses the Nth call of its allocator and no other; N goes from 1 to the
-first that is never made (or in steps, past LIMIT of them, 2000). Behind that each text is run with its address space
-held to 2 to 200 MB. The texts are rows of crates/rows/data/rows.txt. Needs a C compiler.
+A library that is loaded before the C library's counts the calls of its allocator (malloc, calloc, realloc and the
+aligned ones), and refuses the Nth of them and no other; N goes from 1 to the last that a run with ample memory makes
+(in steps of a fiftieth, past N of them, 2000). Behind that each text is run with its address space held to 2 to 200 MB;
+a limit under which the system's loader does not get the program into memory is passed over, and no other is: a crash is
+told. The texts are rows of crates/rows/data/rows.txt; TITLE takes those whose title has these words. The status is 1
+where a run ended otherwise than so. Needs a C compiler.
 """
+import argparse
 import os
 import resource
 import subprocess
@@ -15,45 +19,46 @@ import sys
 import tempfile
 from concurrent.futures import ThreadPoolExecutor
 
-HERE = os.path.dirname(os.path.dirname(os.path.abspath(__file__)))
+from program import HERE, program
 
 REFUSER = r"""
-#define _GNU_SOURCE
-#include <dlfcn.h>
 #include <errno.h>
+#include <fcntl.h>
+#include <stdio.h>
 #include <stdlib.h>
 #include <unistd.h>
+void *__libc_malloc(size_t), *__libc_realloc(void *, size_t), *__libc_calloc(size_t, size_t);
+void *__libc_memalign(size_t, size_t);
 static long count, refused = -1, started;
-static void *(*next_malloc)(size_t), *(*next_realloc)(void *, size_t), *(*next_calloc)(size_t, size_t);
-static int (*next_align)(void **, size_t, size_t);
-static void *(*next_aligned)(size_t, size_t);
 __attribute__((constructor)) static void start(void) {
-    next_malloc = dlsym(RTLD_NEXT, "malloc");
-    next_realloc = dlsym(RTLD_NEXT, "realloc");
-    next_align = dlsym(RTLD_NEXT, "posix_memalign");
-    next_aligned = dlsym(RTLD_NEXT, "aligned_alloc");
     const char *word = getenv("REFUSED");
     refused = word ? atol(word) : -1;
     started = 1;
 }
-static int is_refused(void) { return started && ++count == refused; }
-void *malloc(size_t n) {
-    if (!next_malloc) next_malloc = dlsym(RTLD_NEXT, "malloc");
-    if (is_refused()) { errno = ENOMEM; return 0; }
-    return next_malloc(n);
+__attribute__((destructor)) static void stop(void) {
+    const char *name = getenv("COUNTED");
+    started = 0;
+    if (name) {
+        char text[32];
+        int length = snprintf(text, sizeof text, "%ld\n", count), file = open(name, O_WRONLY | O_CREAT | O_TRUNC, 0600);
+        if (file < 0 || write(file, text, length) != length) _exit(99);
+        close(file);
+    }
 }
-void *realloc(void *p, size_t n) {
-    if (!next_realloc) next_realloc = dlsym(RTLD_NEXT, "realloc");
-    if (is_refused()) { errno = ENOMEM; return 0; }
-    return next_realloc(p, n);
+static int is_refused(void) {
+    if (!started || ++count != refused) return 0;
+    errno = ENOMEM;
+    return 1;
 }
+void *malloc(size_t n) { return is_refused() ? 0 : __libc_malloc(n); }
+void *calloc(size_t m, size_t n) { return is_refused() ? 0 : __libc_calloc(m, n); }
+void *realloc(void *p, size_t n) { return is_refused() ? 0 : __libc_realloc(p, n); }
+void *aligned_alloc(size_t a, size_t n) { return is_refused() ? 0 : __libc_memalign(a, n); }
+void *memalign(size_t a, size_t n) { return is_refused() ? 0 : __libc_memalign(a, n); }
 int posix_memalign(void **p, size_t a, size_t n) {
-    if (is_refused()) return ENOMEM;
-    return next_align(p, a, n);
-}
-void *aligned_alloc(size_t a, size_t n) {
-    if (is_refused()) { errno = ENOMEM; return 0; }
-    return next_aligned(a, n);
+    void *made = is_refused() ? 0 : __libc_memalign(a, n);
+    if (made) *p = made;
+    return made ? 0 : ENOMEM;
 }
 """
 
@@ -104,57 +109,71 @@ def is_as_wanted(ended, ample):
     return ended == ample or (ended[0] == 7 and not ended[1])
 
 
-def refuse_in_turn(program, library, words, ample, limit):
-    """Gives how many growths were refused, how many ended with status 7, and those that ended otherwise."""
+def growths_of(library, words, folder):
+    """Gives how many growths a run with ample memory makes."""
+    counted = os.path.join(folder, "counted")
+    run(words, {**os.environ, "LD_PRELOAD": library, "COUNTED": counted})
+    with open(counted) as it:
+        return int(it.read())
+
+
+def refuse_in_turn(library, words, ample, limit, folder):
+    """Gives how many growths were refused, how many runs ended with status 7, and those that ended otherwise."""
     def one(number):
-        environment = {**os.environ, "LD_PRELOAD": library, "REFUSED": str(number)}
-        return number, run([program, *words], environment)
+        return number, run(words, {**os.environ, "LD_PRELOAD": library, "REFUSED": str(number)})
 
-    tried, spent, wrong, number = 0, 0, [], 1
+    count = growths_of(library, words, folder)
+    numbers, number = [], 1
+    while number <= count:
+        numbers.append(number)
+        number += 1 if number < limit else max(1, number // 50)
     with ThreadPoolExecutor(os.cpu_count()) as pool:
-        while True:
-            step = 1 if number < limit else max(1, number // 50)
-            numbers = [number + step * k for k in range(64)]
-            done = list(pool.map(one, numbers))
-            for at, ended in done:
-                tried += 1
-                spent += ended[0] == 7
-                if not is_as_wanted(ended, ample):
-                    wrong.append((at, ended[0]))
-            if all(ended == ample for _, ended in done):
-                return tried, spent, wrong
-            number = numbers[-1] + step
+        done = list(pool.map(one, numbers))
+    spent = sum(ended[0] == 7 for _, ended in done)
+    return len(numbers), spent, [(at, ended[0]) for at, ended in done if not is_as_wanted(ended, ample)]
 
 
-def hold_space(program, words, ample):
+def is_loaded(space):
+    """Gives whether the system's loader gets the program and its libraries into so much memory, without running it."""
+    return run([program()], {**os.environ, "LD_TRACE_LOADED_OBJECTS": "1"}, space)[0] == 0
+
+
+def hold_space(words, ample):
     """The same under limits of the address space, in megabytes."""
     spent, wrong = [], []
     for megabytes in [2, 3, 4, 6, 8, 10, 12, 15, 20, 25, 30, 40, 50, 60, 80, 100, 130, 160, 200]:
-        ended = run([program, *words], space=megabytes << 20)
+        if not is_loaded(megabytes << 20):
+            continue
+        ended = run(words, space=megabytes << 20)
         if ended[0] == 7:
             spent.append(megabytes)
-        # Below some 4 MB the process does not start.
-        if not is_as_wanted(ended, ample) and ended[0] not in (-9, -11, 127):
+        if not is_as_wanted(ended, ample):
             wrong.append((megabytes, ended[0]))
     return spent, wrong
 
 
 def main():
-    words = sys.argv[1:] + [f"{HERE}/crates/ivycheck/out/ivycheck", "2000"][len(sys.argv) - 1:]
-    program, limit = os.path.abspath(words[0]), int(words[1])
+    words = argparse.ArgumentParser(description=__doc__, formatter_class=argparse.RawDescriptionHelpFormatter)
+    words.add_argument("--steps", type=int, default=2000, metavar="N")
+    words.add_argument("titles", nargs="*", metavar="TITLE")
+    given, found = words.parse_args(), False
     with tempfile.TemporaryDirectory() as folder:
         source, library = f"{folder}/refuser.c", f"{folder}/refuser.so"
         with open(source, "w") as out:
             out.write(REFUSER)
-        subprocess.run(["cc", "-O1", "-shared", "-fPIC", "-o", library, source, "-ldl"], check=True)
+        subprocess.run(["cc", "-O1", "-shared", "-fPIC", "-fno-builtin", "-o", library, source], check=True)
         print("| Run | Growths refused | Status 7 | Otherwise | Status 7 at, in MB | Otherwise |")
         print("|---|---|---|---|---|---|")
         for title, arguments in texts(folder):
-            ample = run([program, *arguments])
-            tried, spent, wrong = refuse_in_turn(program, library, arguments, ample, limit)
-            small, odd = hold_space(program, arguments, ample)
+            if given.titles and not any(it in title for it in given.titles):
+                continue
+            ample = run([program(), *arguments])
+            tried, spent, wrong = refuse_in_turn(library, [program(), *arguments], ample, given.steps, folder)
+            small, odd = hold_space([program(), *arguments], ample)
             span = f"{small[0]} to {small[-1]}" if small else "none"
             print(f"| {title} | {tried} | {spent} | {wrong or 'none'} | {span} | {odd or 'none'} |", flush=True)
+            found = found or wrong or odd
+    sys.exit(1 if found else 0)
 
 
 if __name__ == "__main__":

@@ -1,20 +1,22 @@
 #!/usr/bin/env python3
 """Runs the program on legal texts that are hard for a front end, each at full and at half size.
 
-    bench/hazards.py [PROGRAM [WORD ..]]    the program is crates/ivycheck/out/ivycheck
+    bench/hazards.py [--scale S] [-- WORD ..]    IVYCHECK is the program (the one that ./ivycheck runs)
 
-Each text has at most 1 MiB. The words go behind `check FILE`; without any they are `--terms 1 --ground 1`, so that the
+Each text has at most 1 MiB, times S (1). The words go behind `check FILE`; without any they are `--terms 1 --ground 1`, so that the
 time is that of reading, of the paths and of the sentences, and nothing is decided. The stack is held to 512 KB. Time
 and memory should be at most double at double size, and below a second and a gigabyte; where the number of paths times
-their lengths is more, the language makes it so (docs/LANGUAGE.md), and the line has a note.
+their lengths is more, the language makes it so (docs/LANGUAGE.md), and the line has a note. The status is 1 where a run ends by a signal, or at half size otherwise than
+at full size.
 """
+import argparse
 import os
 import resource
 import subprocess
 import sys
 import tempfile
 
-HERE = os.path.dirname(os.path.dirname(os.path.abspath(__file__)))
+from program import program, split
 
 HEAD = "sort a\nrelation p\nrelation q\n"
 
@@ -78,22 +80,27 @@ def run(words):
 
 
 def main():
-    program = os.path.abspath((sys.argv + [f"{HERE}/crates/ivycheck/out/ivycheck"])[1])
-    words = sys.argv[2:] or ["--terms", "1", "--ground", "1"]
+    own, words = split(sys.argv[1:])
+    words = words or ["--terms", "1", "--ground", "1"]
+    parser = argparse.ArgumentParser(description=__doc__, formatter_class=argparse.RawDescriptionHelpFormatter)
+    parser.add_argument("--scale", type=float, default=1.0)
+    scale, wrong = parser.parse_args(own).scale, False
     print("| Text | Bytes | Status | Seconds | at half size | MB | at half size | Note |")
     print("|---|---|---|---|---|---|---|---|")
     with tempfile.TemporaryDirectory() as folder:
-        for (title, whole, many_paths), (_, half, _) in zip(texts(1.0), texts(0.5)):
+        for (title, whole, many_paths), (_, half, _) in zip(texts(scale), texts(scale / 2)):
             cells = []
             for text in (whole, half):
                 with open(f"{folder}/text.rml", "w") as out:
                     out.write(text)
                 assert len(text) <= 1 << 20, title
-                cells.append(run([program, "check", f"{folder}/text.rml", *words]))
-            (status, seconds, megabytes), (_, less, fewer) = cells
+                cells.append(run([program(), "check", f"{folder}/text.rml", *words]))
+            (status, seconds, megabytes), (at_half, less, fewer) = cells
+            wrong = wrong or status < 0 or at_half != status
             note = "paths times lengths" if many_paths else ""
             print(f"| {title} | {len(whole)} | {status} | {seconds:.2f} | {less:.2f} | {megabytes:.0f} | {fewer:.0f} "
                   f"| {note} |", flush=True)
+    sys.exit(1 if wrong else 0)
 
 
 if __name__ == "__main__":

@@ -3,7 +3,8 @@
 #
 # It works in a small repository of its own, with a stand-in for `rt` that "builds" a shell program out of the sources.
 # The stand-in waits while a file `hold` names the crate that it is at, fails where a file `fail` names it, and notes
-# each call, so that each case is brought about, and does not hang on chance.
+# each call, so that each case is brought about, and does not hang on chance. bench/release.sh, which makes what is
+# released, is tried here too.
 here=$(cd "$(dirname "$0")/.." && pwd)
 room=$(mktemp -d)
 trap 'rm -rf "$room"' EXIT
@@ -31,7 +32,9 @@ begin() {
     rm -rf "$repo" "$FAKE" "$room/work"
     mkdir -p "$repo/crates/low/src" "$repo/crates/low/specs" "$repo/crates/other/src" "$repo/crates/ivycheck/src"
     mkdir -p "$FAKE" "$room/work" "$room/bin"
+    mkdir -p "$repo/bench"
     cp "$here/ivycheck" "$repo/"
+    cp "$here/bench/release.sh" "$repo/bench/"
     printf '# a comment\nother: low\nivycheck: low\nlow:\n' >"$repo/crates.txt"
     echo one >"$repo/crates/low/src/lib.rt"
     echo more >"$repo/crates/low/specs/More.antt"
@@ -52,7 +55,7 @@ crate=$(basename "$PWD")
 is_at() { [ "$(cat "$FAKE/$1" 2>/dev/null)" = "$crate" ]; }
 [ "$1" = version ] || echo "$1 $crate" >>"$FAKE/calls"
 case $1 in
-    version) cat "$FAKE/version" ;;
+    version) echo >>"$FAKE/versions" && cat "$FAKE/version" ;;
     try) shift 2 && printf 'tried' && printf ' <%s>' "$@" && exit 4 ;;
     lib | run)
         echo $$ >"$FAKE/pid"
@@ -67,6 +70,7 @@ case $1 in
 #!/bin/sh
 printf '%s' "$sources"
 printf '<%s> ' "\$@"
+printf '\\nverdict: inductive\\n'
 status=\$(cat "\$2") 2>/dev/null
 exit "\${status:-0}"
 PROGRAM
@@ -110,7 +114,10 @@ wrote_nothing() { [ ! -s "$room/out" ]; }
 said() { grep -qF -- "$1" "$room/err"; }
 said_once() { [ "$(wc -l <"$room/err")" = 1 ] && said "$1"; }
 builds() { [ "$(grep -c '^run' "$FAKE/calls")" = "$1" ]; }
+asks_no_rt() { [ ! -s "$FAKE/calls" ] && [ ! -e "$FAKE/versions" ]; }
 programs() { [ "$(find "$repo/.ivycheck" -name 'ivycheck-*' 2>/dev/null | wc -l)" = "$1" ]; }
+without_rt() { mv "$room/bin/rt" "$room/rt" && plain=$PATH && PATH=/usr/bin:/bin; }
+with_rt() { PATH=$plain && mv "$room/rt" "$room/bin/rt"; }
 edit() { echo "$1" >"$repo/crates/low/src/lib.rt"; }
 
 begin
@@ -229,24 +236,22 @@ wait $!
 expect 'an rt that outlives the script is waited for' grep -q 'three more main' "$room/second"
 
 begin
-mv "$room/bin/rt" "$room/rt"
-plain=$PATH
-PATH=/usr/bin:/bin
+without_rt
 run check model
 expect 'without rt it says so' said 'there is no working command rt on the PATH'
 expect 'without rt it says so' ended 70
 run --first-look check model
 expect 'nor is there a first look' ended 70
-PATH=$plain && mv "$room/rt" "$room/bin/rt"
+with_rt
 run check model
-mv "$room/bin/rt" "$room/rt" && PATH=/usr/bin:/bin
+without_rt
 run check model
 expect 'without rt a program of just these sources is run' wrote 'one more main'
 edit two
 run check model
 expect 'without rt no other program is run' ended 70
 expect 'without rt what is there is kept' programs 1
-PATH=$plain && mv "$room/rt" "$room/bin/rt"
+with_rt
 
 begin
 run check model
@@ -293,13 +298,190 @@ run prove "$(printf '\377')"
 expect 'and so is what may be no text' wrote 'main <prove> '
 
 begin
-run --first-look check model /dev/null -x -- -y
-expect 'a first look runs the code by rt try' wrote "<check> <$room/work/model> </dev/null> <-x> <--> <$room/work/-y>"
-expect 'a first look says that nothing is proved' said_once 'nothing of it is proved'
+touch "$room/work/cnf" "$room/work/400"
+run --first-look check model
+expect 'a first look runs the code by rt try' wrote "tried <check> <$room/work/model>"
+expect 'a first look says that nothing is proved, and how slow it is' said_once '300 times slower than the program, and nothing'
 expect 'a first look ends with the status' ended 4
-run --first-look check model --terms 40
-expect 'a first look hands options on' wrote "<check> <$room/work/model> <--terms> <40>"
+run --first-look check --terms 400 model --ground=400 --conflicts 400
+expect 'a value of an option is no file' wrote "<check> <--terms> <400> <$room/work/model> <--ground=400> <--conflicts> <400>"
+run --first-look emit model 400 cnf
+expect 'a goal and what of it are no files' wrote "<emit> <$room/work/model> <400> <cnf>"
+run --first-look lrat cnf 400
+expect 'of lrat both words are' wrote "<lrat> <$room/work/cnf> <$room/work/400>"
+run --first-look check -- -y
+expect 'behind -- a word is a file' wrote "<check> <--> <$room/work/-y>"
+run --first-look check -
+expect 'a lone - is a file' wrote "<check> <$room/work/->"
+run --first-look lrat /dev/null ''
+expect 'a path from the root stays, and so does an empty word' wrote '<lrat> </dev/null> <>'
+run --first-look sample 400
+expect 'the number of a sample is no file' wrote '<sample> <400>'
 expect 'a first look builds nothing' builds 0
+
+# A program of the sources as they stand is released, and nothing is built.
+release() {
+    (cd "$repo/crates/ivycheck" && rt run) && "$repo/bench/release.sh" >"$room/out" 2>"$room/err"
+    status=$?
+    echo a page >"$repo/release/README.md"
+    rm -rf "$repo"/crates/*/out "$repo/.ivycheck" "$FAKE/versions"
+    : >"$FAKE/calls"
+}
+
+begin
+release
+expect 'a release names the sums' wrote "sources: $("$repo/ivycheck" --sum)"
+expect 'a release names the kit' wrote 'kit: kit-1'
+run check 'open model'
+expect 'a released program of these sources runs' wrote 'one more main <check> <open model> '
+expect 'a released program of these sources runs' ended 3
+expect 'the first time it says which program runs' said_once 'this is the released program'
+expect 'and by what kit it was built' said 'proved and built by kit-1'
+expect 'no rt is asked for a released program' asks_no_rt
+run check model
+expect 'the second time it says nothing' [ ! -s "$room/err" ]
+run --which
+expect 'it says any time which program runs' said_once 'this is the released program'
+expect 'and where it stands' wrote "$repo/release/ivycheck"
+expect 'and ends with 0' ended 0
+without_rt
+run check model
+expect 'without rt a released program runs' wrote 'one more main <check> <model> '
+with_rt
+rm -r "$repo/.ivycheck" && touch "$repo/.ivycheck"
+run check model
+expect 'where nothing can be noted a released program runs too' wrote 'one more main <check> <model> '
+expect 'and says each time which it is' said_once 'this is the released program'
+rm "$repo/.ivycheck"
+
+# Runs `check model` with a release that must not be run: first without `rt`, and then with it.
+is_refused() {
+    without_rt
+    run check model
+    with_rt
+    expect "$1: it is not run" ended 70
+    expect "$1: nothing is answered" wrote_nothing
+    expect "$1: it says so" said "$2"
+    run --which
+    expect "$1: no program is there" ended 1
+    expect "$1: no program is there" wrote_nothing
+    run check model
+    expect "$1: the program is built anew" wrote "$3"
+    expect "$1: the program is built anew" builds 1
+}
+
+tampered() { release && echo '# one line more' >>"$repo/release/ivycheck"; }
+other_sum() { release && sed -i "s/^$1: .*/$1: 00/" "$repo/release/SUMS"; }
+wrong_library() {
+    release
+    printf '#!/bin/sh\necho no library >&2\nexit 1\n' >"$repo/release/ivycheck"
+    sed -i "s/^program: .*/program: $(sha256sum <"$repo/release/ivycheck" | cut -c 1-64)/" "$repo/release/SUMS"
+}
+
+begin
+tampered
+is_refused 'a tampered program' 'it is not the program that release/SUMS names' 'one more main <check>'
+begin
+other_sum program
+is_refused 'another sum of the program' 'it is not the program that release/SUMS names' 'one more main <check>'
+begin
+other_sum sources
+is_refused 'another sum of the sources' 'it is of other sources' 'one more main <check>'
+begin
+release && edit two
+is_refused 'a changed source' 'it is of other sources' 'two more main <check>'
+begin
+release && echo 'top: low' >>"$repo/crates.txt"
+is_refused 'a changed list of crates' 'it is of other sources' 'one more main <check>'
+begin
+release && rm "$repo/crates/low/specs/More.antt"
+is_refused 'a removed source' 'it is of other sources' 'one main <check>'
+begin
+release && rm "$repo/release/SUMS"
+is_refused 'a release without sums' 'it is not there' 'one more main <check>'
+begin
+release && rm "$repo/release/ivycheck"
+is_refused 'a release without its program' 'it is not there' 'one more main <check>'
+begin
+release && chmod 644 "$repo/release/ivycheck"
+is_refused 'a program without the right to be run' 'it has no right to be run' 'one more main <check>'
+begin
+wrong_library
+is_refused 'a program that does not run on this system' 'it does not run on this system' 'one more main <check>'
+begin
+release && edit two && run check model
+run check model
+expect 'what was built here goes first' wrote 'two more main'
+edit one
+run check model
+expect 'the released program serves its own sources' wrote 'one more main'
+expect 'it is said again when another program runs' said_once 'this is the released program'
+expect 'it is said again when another program runs' builds 1
+
+begin
+release
+run --prove check 'open model'
+expect 'on demand the program is built beside a released one' builds 1
+expect 'and runs' wrote 'one more main <check> <open model> '
+expect 'and runs' ended 3
+expect 'the same program is told' said 'the released program is the same, to the byte'
+run --which
+expect 'from then on it is the one that runs' said 'this is the program that was proved and built here'
+expect 'from then on it is the one that runs' wrote "$repo/.ivycheck/ivycheck-"
+run --prove
+expect 'without words that is all' ended 0
+expect 'without words that is all' wrote_nothing
+expect 'what was built here is not built again' builds 1
+run --prove prove model
+expect 'words that are no command line are told first' ended 2
+begin
+tampered
+run --prove
+expect 'another program is told' said 'the released program is another: it is not the one that release/SUMS names'
+expect 'another program is told' ended 1
+begin
+wrong_library && echo kit-2 >"$FAKE/version"
+run --prove
+expect 'another kit is told' said 'it was built by kit-1, and this one by kit-2'
+begin
+release && edit two
+run --prove check model
+expect 'other sources are told' said 'the released program is another: it is of other sources'
+begin
+run --prove
+expect 'no release is told' said 'there is no released program to compare with'
+begin
+wrong_library
+run --prove
+expect 'another program of the same sums is told by its first byte' said 'of the same sources by the same kit: '
+expect 'another program of the same sums is told by its first byte' said 'differ: byte '
+begin
+without_rt
+run --prove check model
+with_rt
+expect 'without rt there is no proof' ended 70
+
+is_checked() { "$repo/bench/release.sh" --check >"$room/out" 2>"$room/err"; }
+is_no_release() { ! is_checked && said "$1"; }
+built_by_rt() { (cd "$repo/crates/ivycheck" && rt run); }
+
+begin
+release && built_by_rt
+expect 'a release of these sources and this program is taken' is_checked
+echo '# one line more' >>"$repo/crates/ivycheck/out/ivycheck"
+expect 'one that is another than what was built is not' is_no_release 'is not the program that was built'
+built_by_rt && echo kit-2 >"$FAKE/version"
+expect 'nor one of another kit' is_no_release 'is not of these sources, this kit and this program'
+echo kit-1 >"$FAKE/version" && echo '# a comment' >>"$repo/crates.txt"
+expect 'nor one of other sources' is_no_release 'is not of these sources, this kit and this program'
+begin
+tampered && built_by_rt
+expect 'nor a tampered one' is_no_release 'is not the program that was built'
+begin
+release && built_by_rt && rm "$repo/release/README.md"
+expect 'nor one without its page' is_no_release 'release/README.md is not there'
+begin
+release && expect 'nor where nothing was built' is_no_release 'there is no program'
 
 echo "$passed passed, $failed failed"
 [ "$failed" = 0 ]

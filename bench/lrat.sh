@@ -1,18 +1,22 @@
 #!/bin/bash
 # Times the checking of logs of 1 and 10 million hints, from their two texts, beside a plain checker in C.
-#   ./lrat.sh             times the program's command `lrat`, once `./ivycheck` has built it
-#   ./lrat.sh library     times a small program of the library's calls, which is proved and built in a copy of
-#                         the repository (a minute or more)
-# Times of the whole process, three of each: `real` hangs on what else runs, so compare `user` and `sys`.
+#   bench/lrat.sh [TIMES ..]            times the command `lrat` of the program that IVYCHECK names (the one that
+#                                       ./ivycheck runs)
+#   bench/lrat.sh library [TIMES ..]    times a small program of the library's calls, which is proved and built in a copy
+#                                       of the crates that it stands on (minutes)
+# A log has 100,000 hints, so many TIMES (10 and 100). Times of the whole process, three of each: `real` hangs on what
+# else runs, so compare `user` and `sys`. Each has to take the log, or the script ends with 1.
 set -e
 cd "$(dirname "$0")"
+kind=program
+[ "$1" != library ] || { kind=library && shift; }
+[ $# != 0 ] || set -- 10 100
 work=$(mktemp -d)
 trap 'rm -r "$work"' EXIT
 "${CC:-cc}" -O2 -o "$work/plain_lrat" plain_lrat.c
 
 build_library_program() {
-    mkdir "$work/copy"
-    cp -a .. "$work/copy"
+    ./part.sh "$work/copy" lrat_check
     echo "lrat_time: lrat_check lrat_log cnf_base base" >>"$work/copy/crates.txt"
     mkdir -p "$work/copy/crates/lrat_time/src"
     cat >"$work/copy/crates/lrat_time/src/main.rt" <<'END'
@@ -84,20 +88,20 @@ checker() {
     if [ "$kind" = library ]; then
         "$work/copy/crates/lrat_time/out/lrat_time" "$@"
     else
-        ../.ivycheck/ivycheck-* lrat "$@"
+        "$program" lrat "$@"
     fi
 }
 
 three_times() {
     for _ in 1 2 3; do
-        time "$@" "$work/chain.cnf" "$work/chain.lrat"
+        time "$@" "$work/chain.cnf" "$work/chain.lrat" | tee "$work/said"
+        grep -qE '^verdict: refuted|refuted true' "$work/said" || { echo "$* does not take the log" >&2 && exit 1; }
     done
 }
 
-kind=$1
-if [ "$kind" = library ]; then build_library_program; else ../ivycheck check /dev/null >/dev/null; fi
-for times in 10 100; do
-    ./chain.py 100000 50 $times "$work/chain.cnf" "$work/chain.lrat"
+if [ "$kind" = library ]; then build_library_program; else program=$(./program.py); fi
+for times in "$@"; do
+    ./chain.py 100000 50 "$times" "$work/chain.cnf" "$work/chain.lrat"
     ls -l "$work/chain.cnf" "$work/chain.lrat"
     three_times "$work/plain_lrat"
     three_times checker

@@ -2,11 +2,13 @@
 """Gives the logs that `emit FILE GOAL lrat` writes to a checker of others: that of ACL2 (Cruz-Filipe, Heule, Hunt,
 Kaufmann, Schneider-Kamp, "Efficient Certified RAT Verification", CADE 2017), which is proved in ACL2.
 
-    bench/others.py FILE ..    needs `apt-get install acl2 acl2-books`; PROGRAM is the program that is run
-                               (crates/ivycheck/out/ivycheck), WORDS what stands behind `emit FILE GOAL lrat`
+    bench/others.py FILE .. [-- WORD ..]    needs `apt-get install acl2 acl2-books`; IVYCHECK is the program (the one
+                                            that ./ivycheck runs), and the words (--conflicts 1000000) stand behind
+                                            `emit FILE GOAL lrat`
 
 It prints for each file how many goals it has, how many hold, and how many of their logs the checker takes; and then,
-that it tells, how many it takes of the same logs with the first hint of each log's last line left out.
+that it tells, how many it takes of the same logs with the first hint of each log's last line left out. The status is 1
+where a log is not taken, or one with a hint less is, or a file has no goals since it has a fault or cannot be read.
 """
 import os
 import re
@@ -14,14 +16,13 @@ import subprocess
 import sys
 import tempfile
 
-HERE = os.path.dirname(os.path.dirname(os.path.abspath(__file__)))
-PROGRAM = os.environ.get("PROGRAM", f"{HERE}/crates/ivycheck/out/ivycheck")
-WORDS = os.environ.get("WORDS", "--conflicts 1000000").split()
+from program import program, split
+
 BOOK = "projects/sat/lrat/list-based/run"
 
 
-def emit(file, goal, what):
-    return subprocess.run([PROGRAM, "emit", file, str(goal), what, *WORDS], capture_output=True, text=True)
+def emit(file, goal, what, words):
+    return subprocess.run([program(), "emit", file, str(goal), what, *words], capture_output=True, text=True)
 
 
 def without_a_hint(log):
@@ -41,23 +42,30 @@ def taken(folder, pairs):
 
 
 def main():
+    files, words = split(sys.argv[1:])
+    words, wrong = words or ["--conflicts", "1000000"], False
     print("| File | Goals | Hold | Logs taken | With a hint less |\n|---|---|---|---|---|")
-    for file in sys.argv[1:]:
-        goals = int(re.search(r"there are (\d+) goals", emit(file, 1000000000, "cnf").stderr).group(1))
+    for file in files:
+        found = re.fullmatch(r"there are (\d+) goals\n", emit(file, 1000000000, "cnf", []).stderr)
+        if not found:
+            sys.exit(f"others.py: {file}: no goals")
+        goals = int(found[1])
         with tempfile.TemporaryDirectory() as folder:
             whole, damaged = [], []
             for goal in range(1, goals + 1):
-                log = emit(file, goal, "lrat")
+                log = emit(file, goal, "lrat", words)
                 if log.returncode != 0:
                     continue
                 names = [f"{goal}.cnf", f"{goal}.lrat", f"{goal}-damaged.lrat"]
-                for name, text in zip(names, [emit(file, goal, "cnf").stdout, log.stdout, without_a_hint(log.stdout)]):
+                for name, text in zip(names, [emit(file, goal, "cnf", words).stdout, log.stdout, without_a_hint(log.stdout)]):
                     with open(f"{folder}/{name}", "w") as out:
                         out.write(text)
                 whole.append(names[:2])
                 damaged.append([names[0], names[2]])
-            print(f"| `{os.path.basename(file)}` | {goals} | {len(whole)} | {taken(folder, whole)} | "
-                  f"{taken(folder, damaged)} |", flush=True)
+            right, less = taken(folder, whole), taken(folder, damaged)
+            wrong = wrong or right != len(whole) or less > 0
+            print(f"| `{os.path.basename(file)}` | {goals} | {len(whole)} | {right} | {less} |", flush=True)
+    sys.exit(1 if wrong else 0)
 
 
 if __name__ == "__main__":

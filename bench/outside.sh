@@ -1,15 +1,12 @@
 #!/bin/bash
-# What the program answers where the world outside fails: bench/outside.sh [PROGRAM]
+# What the program answers where the world outside fails: bench/outside.sh
 #
+# IVYCHECK is the program that is run (the one that ./ivycheck runs). It needs Python for a pipe that nobody reads.
 # Each line is a case with the status that it ended with and the one that is expected: 5 where a file cannot be read or
 # a text cannot be written, 4 where a text is too long or has a fault. Nothing but a verdict or a part of it is written
 # on standard output. The last line is `N cases, M differ`. Run it as a user that is not root, or the case of a file
 # without rights is left out.
-program=${1:-$(cd "$(dirname "$0")/.." && pwd)/crates/ivycheck/out/ivycheck}
-if [ ! -x "$program" ] || [ -d "$program" ]; then
-    echo "$program: no program stands there" >&2
-    exit 2
-fi
+program=$("$(dirname "$0")/program.py") || exit 2
 work=$(mktemp -d)
 trap 'rm -rf "$work"' EXIT
 cases=0
@@ -34,12 +31,16 @@ tell 'standard error is a full device' 5 $?
 tell 'standard output is closed' 5 $?
 "$program" check "$work/fault.rml" 2>&- >/dev/null
 tell 'standard error is closed' 5 $?
-{ "$program" check "$work/good.rml" 2>/dev/null; echo $? >"$work/status"; } | true
-sleep 0.2
-# The reader may be gone before the program writes, or behind it.
-status=$(cat "$work/status")
-[ "$status" = 0 ] && status=5
-tell 'standard output is a pipe that nobody reads' 5 "$status"
+# The end that is read is closed before the program begins.
+python3 - "$program" check "$work/good.rml" <<'END'
+import os, subprocess, sys
+
+reads, writes = os.pipe()
+os.close(reads)
+ended = subprocess.call(sys.argv[1:], stdout=writes, stderr=subprocess.DEVNULL)
+sys.exit(ended if ended >= 0 else 128 - ended)
+END
+tell 'standard output is a pipe that nobody reads' 5 $?
 
 "$program" check "$work" >/dev/null 2>&1
 tell 'the file is a folder' 5 $?

@@ -1,7 +1,8 @@
 #!/usr/bin/env python3
 """Writes rows on each proper prefix of each file of examples/, for crates/rows/data/prefixes.txt.
 
-    bench/prefixes.py [PROGRAM] >crates/rows/data/prefixes.txt    the program is crates/ivycheck/out/ivycheck
+    bench/prefixes.py [NAME ..] >crates/rows/data/prefixes.txt    all files, or these; IVYCHECK is the program (the one
+                                                                  that ./ivycheck runs)
 
 A row says how many of the runs on the prefixes end with each status. The numbers are those of the program that is run:
 a change of them is to be looked at before it is written down. The limits are small, so that nothing is decided that
@@ -14,16 +15,16 @@ import sys
 import tempfile
 from concurrent.futures import ThreadPoolExecutor
 
-HERE = os.path.dirname(os.path.dirname(os.path.abspath(__file__)))
+from program import HERE, program
+
 WORDS = ["--terms", "12", "--ground", "2000", "--conflicts", "10"]
 
 
 def main():
-    program = (sys.argv + [f"{HERE}/crates/ivycheck/out/ivycheck"])[1]
     print("# Each proper prefix of each file of examples/, written by bench/prefixes.py.")
     print("# The format is that of rows.txt.")
     with tempfile.TemporaryDirectory() as folder, ThreadPoolExecutor(os.cpu_count()) as pool:
-        for name in sorted(os.listdir(f"{HERE}/examples")):
+        for name in sys.argv[1:] or sorted(os.listdir(f"{HERE}/examples")):
             with open(f"{HERE}/examples/{name}", "rb") as file:
                 text = file.read()
 
@@ -31,7 +32,7 @@ def main():
                 path = f"{folder}/{name}.{end}"
                 with open(path, "wb") as out:
                     out.write(text[:end])
-                ended = subprocess.run([program, "check", path, *WORDS], capture_output=True).returncode
+                ended = subprocess.run([program(), "check", path, *WORDS], capture_output=True).returncode
                 os.remove(path)
                 return ended
 

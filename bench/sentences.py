@@ -2,7 +2,8 @@
 """Times the way from goals to sentences: preconditions, normal forms, Skolem constants, and the counts of their ground
 terms. `check FILE --terms 1 --ground 1` makes them for each goal, and decides none that has more than one ground term.
 
-    bench/sentences.py [PROGRAM]    the program is crates/ivycheck/out/ivycheck
+    bench/sentences.py [FILE ..]    each file of examples/, or these; IVYCHECK is the program (the one that ./ivycheck
+                                    runs)
 
 User and system time of the whole process, the least of five runs; beside it that of reading alone, which is the time of
 `emit FILE 1000000000 cnf` (there is no such goal). The last line is a path of 900 updates under axioms of 1,091 nodes.
@@ -12,7 +13,7 @@ import subprocess
 import sys
 import tempfile
 
-HERE = os.path.dirname(os.path.dirname(os.path.abspath(__file__)))
+from program import examples, program
 
 
 def seconds(words):
@@ -35,22 +36,21 @@ def long_path():
 
 
 def main():
-    program = (sys.argv + [f"{HERE}/crates/ivycheck/out/ivycheck"])[1]
     whole, reading = 0.0, 0.0
     print("| File | All sentences | Reading alone |\n|---|---|---|")
     with tempfile.TemporaryDirectory() as folder:
         path = f"{folder}/path.rml"
         with open(path, "w") as out:
             out.write(long_path())
-        files = [f"{HERE}/examples/{name}" for name in sorted(os.listdir(f"{HERE}/examples"))]
+        files = sys.argv[1:] or examples()
         for file in files + [path]:
-            made = seconds([program, "check", file, "--terms", "1", "--ground", "1"])
-            read = seconds([program, "emit", file, "1000000000", "cnf"])
+            made = seconds([program(), "check", file, "--terms", "1", "--ground", "1"])
+            read = seconds([program(), "emit", file, "1000000000", "cnf"])
             if file != path:
                 whole, reading = whole + made, reading + read
             name = "900 updates" if file == path else f"`{os.path.basename(file)}`"
             print(f"| {name} | {made:.4f} s | {read:.4f} s |", flush=True)
-    print(f"| all of `examples/` | {whole:.3f} s | {reading:.3f} s |")
+    print(f"| all but the last | {whole:.3f} s | {reading:.3f} s |")
 
 
 if __name__ == "__main__":

@@ -3,27 +3,17 @@
 # bench/solve.sh [FILE.cnf ..]
 # With no file: pigeon holes 6 and 7, five random 3-SAT formulas of 150 variables, a chain of 100,000 clauses.
 # REPEAT (9) is how often each is run; the least processor time counts.
-# WORK is where the program is built, in a copy of the repository that proves it; with none that is a folder of its own.
+# WORK is where the program is proved and built, in a copy of the crates that it stands on; with none that is a folder of
+# its own. Needs `rt` and minisat.
 set -e
 here=$(cd "$(dirname "$0")" && pwd)
 work=${WORK:-$(mktemp -d)}
 [ -n "$WORK" ] || trap 'rm -r "$work"' EXIT
 repeat=${REPEAT:-9}
 
+"$here/part.sh" "$work" cdcl
+echo 'solve_file: cdcl lrat_log cnf_base base' >>"$work/crates.txt"
 mkdir -p "$work/crates/solve_file/src"
-for crate in base cnf_base lrat_log renumbering cdcl_tables cdcl; do
-    rm -rf "$work/crates/$crate"
-    cp -a "$here/../crates/$crate" "$work/crates/"
-done
-cat >"$work/crates.txt" <<'END'
-base:
-cnf_base: base smallvec indexmap itoa
-lrat_log: cnf_base base
-renumbering: lrat_log cnf_base base
-cdcl_tables: lrat_log cnf_base base smallvec
-cdcl: cdcl_tables renumbering lrat_log cnf_base base
-solve_file: cdcl lrat_log cnf_base base
-END
 cat >"$work/crates/solve_file/src/main.rt" <<'END'
 //! Reads a formula from the file that the first argument names, or from standard input, and says what `solve` answers
 //! under the budget of the second argument.

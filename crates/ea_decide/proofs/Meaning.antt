@@ -32,6 +32,7 @@ use Rattle.fol_formula.specs.Truth.{truth}
 use Rattle.fol_nnf.specs.Normal.{normal}
 use Rattle.skolem.specs.Constants.{new_sorts}
 use Rattle.skolem.specs.Laws.{IsModel}
+use Rattle.cnf_base.specs.Formulas as formulas
 use Rattle.cnf_base.specs.Formulas.{Satisfies, IsUnsatisfiable, value_of}
 use Rattle.ground_terms.specs.Terms.{Lists, AreClosed, term_counts}
 use Rattle.ground_terms.specs.Trees.{Trees, all_true, trees_of, truth as ground_truth}
@@ -83,14 +84,18 @@ module _ (rewriting : Rewriting) (instances : StructuresSatisfyInstance) (axioms
       (has_instance rewriting sig p order given lists closed) order' model.structure model.holds)
       (axioms (more_symbols sig p) order lists t (sorted rewriting sig p order given) order' closed model.structure)
 
-  pub no-model : IsUnsatisfiable (clause_form (trees_of (ground_formulas sig p lists))) → HasNoModel sig p
-  no-model none s fits holds =
+  pub gives-values : (s : Tables) → FitsStructure (symbols sig) s → truth (reading s) p [] ≡ true
+      → (values : List Bool) × formulas.IsModel (clause_form (trees_of (ground_formulas sig p lists))) values
+  gives-values s fits holds =
       let extended = (skolemises rewriting sig p order given).models.some s (normal-model s fits holds) in
       let t = with_constants s (new_sorts (normal true p)) extended.0 in
       let values = up (trees_of (ground_formulas sig p lists))
       (atoms_in (more_symbols sig p) (reading t) (term_values (more_symbols sig p) lists order (reading t)))
-      (all-hold t extended.2) in
-      none (value_of values.values) values.model.1
+      (all-hold t extended.2) in (values.values, values.model)
+
+  pub no-model : IsUnsatisfiable (clause_form (trees_of (ground_formulas sig p lists))) → HasNoModel sig p
+  no-model none s fits holds =
+      let given_values = gives-values s fits holds in none (value_of given_values.0) given_values.1.1
 
 -- from values down to a structure
 module _ (rewriting : Rewriting) (sentences : SentenceIsTrue)

@@ -1,14 +1,16 @@
 -- What the steps of a decision hand on. Private contracts alone cite this.
 use Rattle.std.specs.Prelude.{◌≡◌, ℕ, ◌+◌, ◌<◌, ◌≤◌, ◌^◌, Bool, true, List, [], ◌∷◌, length, sum, None}
-use Rattle.fol_sig.specs.Tables.{Declared, Tables}
-use Rattle.fol_sig.specs.Symbols.{Symbols, AreSorted, symbols}
+use Rattle.fol_sig.specs.Tables.{Declared, Tables, reading}
+use Rattle.fol_sig.specs.Symbols.{Symbols, AreSorted, FitsStructure, symbols}
 use Rattle.fol_sig.specs.Strata.{IsStrata}
 use Rattle.fol_formula.specs.Syntax.{FormTree}
+use Rattle.fol_formula.specs.Truth.{truth}
 use Rattle.fol_formula.specs.Fits.{FitsForm}
 use Rattle.fol_formula.specs.Fragments.{IsEa}
 use Rattle.fol_nnf.specs.Normal.{normal}
 use Rattle.skolem.specs.Constants.{new_sorts}
 use Rattle.skolem.specs.Laws.{IsModel}
+use Rattle.cnf_base.specs.Formulas as formulas
 use Rattle.cnf_base.specs.Formulas.{Formula, Satisfies, IsUnsatisfiable, value_of}
 use Rattle.ground_terms.specs.Terms.{Lists, AreClosed, term_counts}
 use Rattle.ground_terms.specs.TermCounts.{HasFewTerms}
@@ -65,6 +67,13 @@ abbrev pub ClausesRefute : Type 0
 ClausesRefute = (sig : Declared) (p : FormTree) (order : List ℕ) (lists : Lists)
     → IsGroundable sig p order → AreClosed (more_symbols sig p) lists
     → IsUnsatisfiable (clause_form (trees_of (ground_formulas sig p lists))) → HasNoModel sig p
+
+-- a structure that satisfies the sentence gives values that satisfy the clauses
+abbrev pub ModelsGiveValues : Type 0
+ModelsGiveValues = (sig : Declared) (p : FormTree) (order : List ℕ) (lists : Lists) (s : Tables)
+    → IsGroundable sig p order → AreClosed (more_symbols sig p) lists
+    → FitsStructure (symbols sig) s → truth (reading s) p [] ≡ true
+    → (values : List Bool) × formulas.IsModel (clause_form (trees_of (ground_formulas sig p lists))) values
 
 -- the atoms that some values make true
 abbrev pub assigned : Declared → FormTree → Lists → List Bool → List Atom

@@ -1,6 +1,7 @@
 // What is answered of a sentence.
-ghost use Rattle.std.specs.Prelude.{◌≡◌, true};
+ghost use Rattle.std.specs.Prelude.{◌≡◌, true, length};
 ghost use Rattle.lrat_log.specs.Accepted.{IsAccepted, adds_empty};
+ghost use Rattle.lrat_log.specs.Logs.{IsLogOver};
 ghost use Rattle.cnf_base.specs.Formulas.{IsUnsatisfiable};
 
 use base::Row;
@@ -17,21 +18,24 @@ pub struct Proof {
 }
 
 impl Model for Proof {
-    ghost use Rattle.std.specs.Prelude.{◌≡◌, true};
+    ghost use Rattle.std.specs.Prelude.{◌≡◌, true, length};
     ghost use Rattle.lrat_log.specs.Accepted.{adds_empty};
+    ghost use Rattle.lrat_log.specs.Logs.{IsLogOver};
     ghost use Rattle.lrat_check.specs.Checked.{Checked};
 
     ghost Value = { Checked };
 
     ghost view = { λ p. p.checker };
 
-    ghost invariant = { λ p. adds_empty p.checker.lines ≡ true };
+    ghost invariant = { λ p. (adds_empty p.checker.lines ≡ true)
+        × IsLogOver p.checker.formula.variables (length p.checker.formula.clauses) p.checker.lines };
 }
 
 impl Proof {
     /// What a checker accepted that found the clauses refuted.
     pub fn new(checker: Checker) -> Proof
-        requires { adds_empty checker.lines ≡ true }
+        requires refutes { adds_empty checker.lines ≡ true }
+        requires range { IsLogOver checker.formula.variables (length checker.formula.clauses) checker.lines }
         ensures { result ≡ checker }
     {
         Proof { checker }
@@ -46,12 +50,21 @@ impl Proof {
         self.checker.formula()
     }
 
+    /// The log.
+    pub fn lines(&self) -> &[Line]
+        ensures value { result.now ≡ self.now.lines }
+        ensures accepted { IsAccepted self.now.formula self.now.lines }
+    {
+        self.checker.lines()
+    }
+
     /// The clauses, and the log. Nothing is copied.
     pub fn into_parts(self) -> (Cnf, Row<Line>)
         ensures formula { result.0 ≡ self.formula }
         ensures lines { result.1 ≡ self.lines }
         ensures accepted { IsAccepted self.formula self.lines }
         ensures refutes { adds_empty self.lines ≡ true }
+        ensures range { IsLogOver self.formula.variables (length self.formula.clauses) self.lines }
     {
         let Proof { checker } = self;
         checker.into_parts()

@@ -1,5 +1,6 @@
 // What follows from the definitions alone. The function is its contract, and does nothing.
 ghost use Rattle.ea_decide.specs.Laws.{FirstLimitIsOne, ClausesAreWithinSize};
+ghost use Rattle.ea_decide.specs.Laws.{ClauseFormIsOne, ClauseFormRefutes, ClauseFormIsExact};
 
 /// The limit that a sentence passes first is a function of the sentence.
 pub fn passing_law()
@@ -22,4 +23,28 @@ pub fn size_law()
     ground_size::size_laws();
     equality_axioms::implication_law();
     clause_form::size_laws();
+}
+
+/// A sentence has one clause form, and where no truth values satisfy it, no structure satisfies the sentence.
+pub fn clauses_law()
+    ensures one { ClauseFormIsOne }
+    ensures refutes { ClauseFormRefutes }
+{
+    fol_sig::growth_laws();
+    skolem::exactness();
+    ground_terms::count_laws();
+    fol_nnf::exactness();
+    crate::steps::refutation_law();
+}
+
+/// Truth values satisfy the clause form exactly where a structure satisfies the sentence.
+pub fn exactness_law()
+    ensures { ClauseFormIsExact }
+{
+    fol_sig::growth_laws();
+    fol_nnf::exactness();
+    skolem::exactness();
+    structure_back::reading_law();
+    crate::steps::values_law();
+    crate::steps::model_law();
 }

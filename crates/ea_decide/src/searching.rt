@@ -1,6 +1,7 @@
 // The search for truth values, whose refutation goes through a checker line by line.
 ghost use Rattle.std.specs.Prelude.{◌≡◌, ℕ, ◌+◌, ◌≤◌, true, length, IfOk};
 ghost use Rattle.lrat_log.specs.Accepted.{adds_empty};
+ghost use Rattle.lrat_log.specs.Logs.{IsLogOver};
 ghost use Rattle.ea_decide.specs.Searches.{IsSearched};
 
 use crate::decided::Proof;
@@ -36,7 +37,8 @@ pub fn search(alloc: Global, cnf: Cnf, budget: u64) -> Mem<Searched>
 
 // What a checker took refutes its formula.
 fn refuted(checker: Checker) -> Searched
-    requires { adds_empty checker.lines ≡ true }
+    requires refutes { adds_empty checker.lines ≡ true }
+    requires range { IsLogOver checker.formula.variables (length checker.formula.clauses) checker.lines }
     ensures { (budget : ℕ) → IsSearched checker.formula budget result }
 {
     let proof = Proof::new(checker);

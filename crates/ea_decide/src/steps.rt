@@ -1,5 +1,5 @@
 // What leads from one step of a decision to the next. Each function is its contract, and does nothing.
-ghost use Rattle.ea_decide.specs.Steps.{RoomIsWithinLimits, StrataStay, ClausesRefute, ValuesAreReadable};
+ghost use Rattle.ea_decide.specs.Steps.{RoomIsWithinLimits, StrataStay, ClausesRefute, ModelsGiveValues, ValuesAreReadable};
 
 /// Within the limits the terms can be numbered, and the clauses given to a solver.
 pub fn room_law()
@@ -25,6 +25,18 @@ pub fn strata_law()
 /// A structure that satisfies the sentence would give values that satisfy the clauses.
 pub fn refutation_law()
     ensures { ClausesRefute }
+{
+    fol_sig::growth_laws();
+    fol_nnf::exactness();
+    skolem::exactness();
+    ground_expand::instance_laws();
+    equality_axioms::axiom_laws();
+    clause_form::clause_laws();
+}
+
+/// A structure that satisfies the sentence gives values that satisfy the clauses.
+pub fn values_law()
+    ensures { ModelsGiveValues }
 {
     fol_sig::growth_laws();
     fol_nnf::exactness();

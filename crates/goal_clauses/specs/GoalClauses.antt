@@ -1,15 +1,25 @@
--- What the clauses of a goal are.
-use Rattle.std.specs.Prelude.{Some, None}
+-- What the clauses of a goal are, and what they say of it.
+use Rattle.std.specs.Prelude.{◌↔◌, Some, None}
+use Rattle.cnf_base.specs.Formulas.{Formula, IsUnsatisfiable}
 use Rattle.rml_command.specs.Models.{ModelTree}
+use Rattle.rml_command.specs.Goals.{HasNone}
 use Rattle.rml_command.specs.declared.goal.Goal.{Goal}
 use Rattle.ea_decide.specs.GroundForm.{IsClauseForm}
+use Rattle.ea_decide.specs.Laws.{IsSatisfiable}
 use Rattle.ea_decide.specs.Passing.{Ceilings}
 use Rattle.obligation_decide.specs.GoalPassing.{PassesFirst, refuting_sentence}
+use Rattle.goal_clauses.specs.Laws.{HasCounterexample}
 use Rattle.goal_clauses.specs.declared.GoalClauses.{GoalClauses}
 use Rattle.goal_clauses.specs.declared.GoalClauses.TheVariants.{Written, Over}
 
--- the clauses of its refuting sentence, where it passes no limit by its size; or the first limit that it passes
+-- The clauses of the goal's refuting sentence. Truth values satisfy them exactly where the goal has a counterexample;
+-- that none do, whoever shows it, is that the goal has none.
+pub record AreClausesOf (m : ModelTree) (goal : Goal) (f : Formula) : Type 0 where
+  pub form : IsClauseForm m.signature (refuting_sentence m goal) f
+  pub exact : IsSatisfiable f ↔ HasCounterexample m goal
+  pub refute : IsUnsatisfiable f ↔ HasNone m goal
+
+-- they are written where the goal passes no limit by its size; or the first limit that it passes
 abbrev pub AreGoalClauses : Ceilings → ModelTree → Goal → GoalClauses → Type 0
-AreGoalClauses limits m goal (Written f) =
-    PassesFirst limits m goal None × IsClauseForm m.signature (refuting_sentence m goal) f
+AreGoalClauses limits m goal (Written f) = PassesFirst limits m goal None × AreClausesOf m goal f
 AreGoalClauses limits m goal (Over c) = PassesFirst limits m goal (Some c)

@@ -1,1 +1,2 @@
 pub mod GoalClauses
+pub mod Laws

@@ -12,10 +12,13 @@ ghost use Rattle.obligation_decide.specs.GoalPassing.{cause_of as named_cause, r
 ghost use Rattle.obligation_decide.specs.GoalDecisions.{IsDecision};
 ghost use Rattle.goal_clauses.specs.GoalClauses.{AreGoalClauses};
 
+mod laws;
+
 use base::{Mem, Refused};
 use cnf_base::Cnf;
 use ea_decide::{Clauses, Passed};
 use fol_formula::Ea;
+pub use laws::{counterexample_law, exactness_law};
 use lrat_log::Limits;
 use obligation_decide::Decision;
 use rml_command::{Checked, Goal};
@@ -74,9 +77,16 @@ fn clauses_of_sentence(
     ensures { IfOk result (AreGoalClauses (ceilings limits.now) checked.now goal.now) }
 {
     rml_wp::sentence_law();
+    counterexample_law();
+    exactness_law();
     let signature = checked.model().signature();
-    match ea_decide::clauses_of(alloc, signature, checked.strata(), sentence, limits)? {
-        Clauses::Written(cnf) => Ok(GoalClauses::Written(cnf)),
+    let _sorts = signature.sorts();
+    let strata = checked.strata();
+    match ea_decide::clauses_of(alloc, signature, strata, sentence, limits)? {
+        Clauses::Written(cnf) => {
+            let _variables = cnf.variables();
+            Ok(GoalClauses::Written(cnf))
+        }
         Clauses::Over(passed) => Ok(GoalClauses::Over(cause_of(passed))),
     }
 }

@@ -4,6 +4,7 @@ use Rattle.cnf_base.specs.Formulas.{Formula}
 use Rattle.cnf_base.specs.Writing as formulas
 use Rattle.lrat_log.specs.declared.line.Line.{Line}
 use Rattle.lrat_log.specs.Accepted.{IsAccepted, adds_empty}
+use Rattle.lrat_log.specs.Logs.{IsLogOver}
 use Rattle.lrat_log.specs.Writing as logs
 use Rattle.base.specs.Lists.{numbered}
 use Rattle.rml_command.specs.Models.{ModelTree}
@@ -16,6 +17,7 @@ use Rattle.ea_decide.specs.GroundForm.{IsClauseForm}
 use Rattle.ea_decide.specs.Passing.{Ceilings}
 use Rattle.obligation_decide.specs.GoalPassing.{PassesFirst, refuting_sentence}
 use Rattle.obligation_decide.specs.GoalDecisions.{IsFailing, IsLeftOpen}
+use Rattle.goal_clauses.specs.GoalClauses.{AreClausesOf}
 use Rattle.commands.specs.Due.{Due}
 use Rattle.command_line.specs.declared.request.Emission.{Emission}
 use Rattle.command_line.specs.declared.request.What.{What}
@@ -30,15 +32,16 @@ use Rattle.ivy_run.specs.declared.emit.Emitted.TheVariants.{Clauses, Refutation,
 use Rattle.ivy_run.specs.declared.emit.EmitAnswer.{EmitAnswer}
 use Rattle.ivy_run.specs.declared.emit.EmitAnswer.TheVariants as answer
 
--- `cnf`: the clauses of the goal's refuting sentence, where it passes no limit by its size; or the limit that it passes
+-- `cnf`: the clauses of the goal, which say whether it has a counterexample, where it passes no limit by its size; or the
+-- limit that it passes
 abbrev pub AreClausesEmitted : Ceilings → ModelTree → Goal → Emitted → Type 0
 AreClausesEmitted limits m goal (Clauses f) =
-    PassesFirst limits m goal None × IsClauseForm m.signature (refuting_sentence m goal) f
+    PassesFirst limits m goal None × AreClausesOf m goal f
 AreClausesEmitted limits m goal (Undecided c) = PassesFirst limits m goal (Some c)
 AreClausesEmitted limits m goal _ = ⊥
 
 -- The goal passes no limit and has no counterexample, and the log, each line of which is accepted, refutes the clauses
--- of its refuting sentence.
+-- of its refuting sentence; it can be read over them.
 pub record IsRefutationOfGoal (limits : Ceilings) (m : ModelTree) (goal : Goal) (f : Formula) (lines : List Line) : Type
     0 where
   pub within : PassesFirst limits m goal None
@@ -46,6 +49,7 @@ pub record IsRefutationOfGoal (limits : Ceilings) (m : ModelTree) (goal : Goal) 
   pub clauses : IsClauseForm m.signature (refuting_sentence m goal) f
   pub accepted : IsAccepted f lines
   pub refutes : adds_empty lines ≡ true
+  pub range : IsLogOver f.variables (length f.clauses) lines
 
 -- the goal passes no limit, and has a counterexample
 pub record FailsWithin (limits : Ceilings) (m : ModelTree) (goal : Goal) : Type 0 where

@@ -5,3 +5,6 @@ pub mod Numbered
 pub mod Setting
 pub mod Filling
 pub mod Reading
+pub mod Listed
+pub mod Classed
+pub mod Quotients

@@ -65,7 +65,7 @@ more-numbered leaders numbers members new_numbers new_members sizes new_sizes n 
       (cases_lt k n);
 }
 
-lengths-are : (rows : Rows) (ns : List ℕ) → length rows ≡ length ns
+pub lengths-are : (rows : Rows) (ns : List ℕ) → length rows ≡ length ns
     → ((k : ℕ) → k < length rows → length (row_of rows k) ≡ get_or ns k 0) → map length rows ≡ ns
 lengths-are [] [] e h = refl
 lengths-are [] (n ∷ ns) e h = absurd (omega (arith, e))

@@ -67,14 +67,14 @@ module _ (sig : Symbols) (names : Numbering) (a : Atom → Bool) (sizes : List �
   member = looked_up members
 
   -- terms that are equal one by one
-  abbrev Alike : List ℕ → List ℕ → List ℕ → Type 0
+  abbrev pub Alike : List ℕ → List ℕ → List ℕ → Type 0
   Alike [] xs ys = Unit {0}
   Alike (k ∷ ks) [] ys = Unit {0}
   Alike (k ∷ ks) (x ∷ xs) [] = Unit {0}
   Alike (k ∷ ks) (x ∷ xs) (y ∷ ys) = (a (equation k x y) ≡ true) × Alike ks xs ys
 
   -- terms of one class are
-  alike : (ks xs ys : List ℕ) → AreSorts sig.sorts ks → InRange counts ks xs → InRange counts ks ys
+  pub alike : (ks xs ys : List ℕ) → AreSorts sig.sorts ks → InRange counts ks xs → InRange counts ks ys
       → elements_of v ks xs ≡ elements_of v ks ys → Alike ks xs ys
   alike [] xs ys o r s e = tt
   alike (k ∷ ks) [] ys o r s e = tt
@@ -87,7 +87,7 @@ module _ (sig : Symbols) (names : Numbering) (a : Atom → Bool) (sizes : List �
         alike ks xs ys (sorts-tail sig.sorts k ks o) r.1 s.1 tail,
       )
 
-  members-back : (ks cs : List ℕ) → AreSorts sig.sorts ks → InRange sizes ks cs
+  pub members-back : (ks cs : List ℕ) → AreSorts sig.sorts ks → InRange sizes ks cs
       → elements_of v ks (elements_of member ks cs) ≡ cs
   members-back [] [] o r = refl
   members-back [] (c ∷ cs) o r = absurd r
@@ -117,7 +117,7 @@ module _ (sig : Symbols) (names : Numbering) (a : Atom → Bool) (sizes : List �
       eq.transitive (record { 0 = into }) (g (x ∷ xs)) (g (y ∷ xs)) (g (y ∷ ys)) lt (room (x ∷ xs) r)
       (room (y ∷ xs) (s.0, r.1)) (room (y ∷ ys) s) first rest
 
-  along_truth : (ks : List ℕ) (g : List ℕ → Bool)
+  pub along_truth : (ks : List ℕ) (g : List ℕ → Bool)
       → ((i : ℕ) (xs : List ℕ) (y : ℕ) → i < length ks → InRange counts ks xs → y < get_or counts (get_or ks i 0) 0
       → a (equation (get_or ks i 0) (get_or xs i 0) y) ≡ true → g xs ≡ true → g (set xs i y) ≡ true)
       → (xs ys : List ℕ) → InRange counts ks xs → InRange counts ks ys → Alike ks xs ys → g xs ≡ true → g ys ≡ true

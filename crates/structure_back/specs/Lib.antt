@@ -3,3 +3,4 @@ pub mod Rows
 pub mod Leaders
 pub mod Classes
 pub mod Tables
+pub mod Laws

@@ -14,6 +14,7 @@ ghost use Rattle.structure_back.specs.ReadBack.{IsReadBack};
 
 mod classes;
 mod functions;
+mod laws;
 mod leaders;
 mod per_sort;
 mod relations;
@@ -26,6 +27,7 @@ use base::Mem;
 use equality_axioms::equality_laws;
 use fol_sig::{Signature, Structure};
 use ground_terms::{Assignment, Terms, place_laws};
+pub use laws::reading_law;
 use std::alloc::Global;
 
 /// Reads a structure back from an assignment of the atoms over closed lists of terms that satisfies the axioms of

@@ -5,8 +5,8 @@ use Rattle.ea_decide.specs.Searches.{IsSearched}
 use Rattle.ea_decide.proofs.Refuting.{refutes}
 use Rattle.ea_decide.proofs.searching.search.Goals as goal
 
-pub refuted-requires : goal.refuted-requires
-refuted-requires c =
+pub refuted-requires-clause-refutes : goal.refuted-requires-clause-refutes
+refuted-requires-clause-refutes c =
     let f = c.in_ok-checker.checker.formula in
     let lines = c.solve_into.new.sink.lines in
     refutes f c.args.budget lines (subst (IsAnswer f c.args.budget lines) c.in-Unsat.is c.in_ok-values.ensures.answer)

@@ -1,0 +1,45 @@
+#!/usr/bin/env python3
+"""Names the program that the scripts of this folder run: the one that the variable IVYCHECK names, or else the one that
+./ivycheck would run. As a script it prints its path. It ends with 2 where there is none.
+"""
+import functools
+import os
+import subprocess
+import sys
+
+HERE = os.path.dirname(os.path.dirname(os.path.abspath(__file__)))
+
+
+@functools.lru_cache(maxsize=None)
+def program():
+    """Gives the program's path."""
+    named = os.environ.get("IVYCHECK")
+    if named:
+        found = os.path.abspath(named)
+        if not os.path.isfile(found) or not os.access(found, os.X_OK):
+            stop(f"IVYCHECK names {named}, and no program stands there")
+        return found
+    asked = subprocess.run([f"{HERE}/ivycheck", "--which"], capture_output=True, text=True)
+    if asked.returncode:
+        stop(asked.stderr.strip())
+    return asked.stdout.strip()
+
+
+def stop(why):
+    print(f"{os.path.basename(sys.argv[0])}: {why}", file=sys.stderr)
+    sys.exit(2)
+
+
+def split(words):
+    """Parts words at `--`: those before it, and those behind it."""
+    at = words.index("--") if "--" in words else len(words)
+    return words[:at], words[at + 1:]
+
+
+def examples():
+    """Gives the paths of the files of examples/, in order."""
+    return [f"{HERE}/examples/{name}" for name in sorted(os.listdir(f"{HERE}/examples"))]
+
+
+if __name__ == "__main__":
+    print(program())

@@ -1,0 +1,414 @@
+#!/bin/bash
+# Runs each script of this folder on a small input, and on cases that are easy to get wrong: bench/scripts_test.sh
+#
+# IVYCHECK is the program (the one that ./ivycheck runs; with none, what needs one is skipped). Where an answer of the
+# program has to be wrong, or one that it seldom gives, a stand-in gives it; stand-ins for `rt` and minisat are there too.
+# A tool that is missing is named, and what needs it is skipped. The last line is `N passed, M failed`.
+here=$(cd "$(dirname "$0")/.." && pwd)
+room=$(mktemp -d)
+trap 'rm -rf "$room"' EXIT
+export FAKE="$room/fake" PYTHONDONTWRITEBYTECODE=1
+mkdir -p "$room/bin" "$FAKE"
+program=$("$here/bench/program.py" 2>/dev/null)
+passed=0
+failed=0
+skipped=0
+cd "$room" || exit 1
+
+expect() {
+    title=$1
+    shift
+    if "$@"; then
+        passed=$((passed + 1))
+    else
+        failed=$((failed + 1))
+        echo "FAILED: $title: $*"
+        head -n 20 "$room/out" "$room/err" | sed 's/^/    /'
+    fi
+}
+
+# Whether a tool is there; else what needs it is skipped.
+has() {
+    ! command -v "$1" >/dev/null || return 0
+    skipped=$((skipped + 1))
+    echo "skipped, since there is no $1: $2"
+    return 1
+}
+
+bench() {
+    name=$1
+    shift
+    "$here/bench/$name" "$@" >"$room/out" 2>"$room/err" </dev/null
+    status=$?
+}
+
+ended() { [ "$status" = "$1" ]; }
+wrote() { grep -qF -- "$1" "$room/out"; }
+wrote_line() { grep -qxF -- "$1" "$room/out"; }
+wrote_no() { ! wrote "$1"; }
+said() { grep -qF -- "$1" "$room/err"; }
+last_is() { [ "$(tail -n 1 "$room/out")" = "$1" ]; }
+first_is() { [ "$(head -n 1 "$room/out")" = "$1" ]; }
+
+# A stand-in for the program. `answers` has a line for each goal: `holds`, or what `emit .. lrat` says of it behind its
+# number, or `ends` with a status; `report` is what `check` writes, `ends` its status; `refuses` has `lrat` refuse.
+cat >"$room/bin/stand-in" <<'END'
+#!/bin/sh
+echo "$*" >>"$FAKE/calls"
+goals=$(wc -l <"$FAKE/answers")
+answer=$(sed -n "$3p" "$FAKE/answers" 2>/dev/null)
+case $1,$4,$answer in
+    check,*)
+        [ ! -e "$FAKE/fault" ] || { echo 'F1 at 1:1: bad byte' >&2 && exit 4; }
+        cp "$2" "$FAKE/checked" && cat "$FAKE/report" && exit "$(cat "$FAKE/ends")"
+        ;;
+    lrat,*) [ ! -e "$FAKE/refuses" ] && echo 'verdict: refuted' ;;
+    emit,*,ends*) exit "${answer#ends }" ;;
+    emit,*)
+        [ ! -e "$FAKE/fault" ] || { echo 'F1 at 1:1: bad byte' >&2 && exit 4; }
+        [ "$3" -le "$goals" ] || { echo "there are $goals goals" >&2 && exit 4; }
+        case $4,$answer in
+            cnf,holds) printf 'p cnf 1 2\n1 0\n-1 0\n' ;;
+            cnf,*) printf 'p cnf 1 1\n1 0\n' ;;
+            lrat,holds) echo '3 0 1 2 0' ;;
+            *) echo "goal $3 $answer" >&2 && case $answer in fails) exit 1 ;; *) exit 3 ;; esac ;;
+        esac
+        ;;
+esac
+END
+# It finds a model unless there is a clause of the literal -1.
+printf '#!/bin/sh\nfor file; do :; done\n! grep -q "^-1 0" "$file" || exit 20\nexit 10\n' >"$room/bin/minisat-stand-in"
+chmod +x "$room"/bin/*
+
+# begin ANSWER ..: what the stand-in says of the goals; its report is that of a model whose one action breaks `c`.
+begin() {
+    rm -rf "$FAKE" && mkdir "$FAKE" && : >"$FAKE/calls"
+    printf '%s\n' "$@" >"$FAKE/answers"
+    cat >"$FAKE/report" <<'END'
+axioms: consistent
+init abort: holds
+init c: holds
+action a abort: holds
+action a c: fails
+  path 1 of 1
+  least: yes
+final abort: holds
+verdict: not inductive
+END
+    echo 1 >"$FAKE/ends"
+}
+
+stand_in() { IVYCHECK=$room/bin/stand-in bench "$@"; }
+cat >"$room/model.rml" <<'END'
+sort s axiom all: forall X:s. X = X    # init of nothing
+relation p init { p := false } variable v
+: s action a { if p { p := true }; assert p } conjecture c: ~p
+axiom last: v = v
+END
+
+# --- program.py
+
+IVYCHECK=$room/none bench program.py
+expect 'a program that is not there is told' said 'no program stands there'
+expect 'a program that is not there is told' ended 2
+
+# --- spread.sh
+
+begin holds holds holds
+export WORK=$room/work
+stand_in spread.sh model.rml 2
+expect 'spread: all goals hold' last_is 'verdict: inductive'
+expect 'spread: all goals hold' ended 0
+begin holds 'undecided conflicts 5' holds
+stand_in spread.sh model.rml 2
+expect 'spread: a folder that was used before does not answer' last_is 'verdict: undecided'
+expect 'spread: its status is that of the verdict' ended 3
+expect 'spread: a goal that is left open is told' wrote_line 'goal 2 undecided conflicts 5'
+expect 'spread: so is how many hold' wrote_line '2 of 3 goals hold, each by a log that was checked'
+begin holds fails 'undecided conflicts 5'
+stand_in spread.sh model.rml 2
+expect 'spread: a goal that fails settles the verdict' last_is 'verdict: not inductive'
+expect 'spread: its status is that of the verdict' ended 1
+unset WORK
+begin holds holds
+touch "$FAKE/refuses"
+stand_in spread.sh model.rml
+expect 'spread: logs that are not taken give no verdict' last_is 'no verdict: not every goal has an answer'
+expect 'spread: logs that are not taken give no verdict' ended 5
+begin holds 'ends 7'
+stand_in spread.sh model.rml
+expect 'spread: a call that ends early gives no verdict' ended 5
+expect 'spread: a call that ends early is told' wrote 'goal 2 has no answer: status 7'
+begin holds holds
+mkdir -p "$room/the GOAL" && cp "$room/model.rml" "$room/the GOAL/GOAL.rml"
+stand_in spread.sh "$room/the GOAL/GOAL.rml" 1 --conflicts 7
+expect 'spread: a path with GOAL in it is the path' last_is 'verdict: inductive'
+expect 'spread: options go to each call' grep -qxF "emit $room/the GOAL/GOAL.rml 2 lrat --conflicts 7" "$FAKE/calls"
+expect 'spread: the axioms come first' first_is 'axioms: consistent'
+cat >"$room/axioms" <<'END'
+sort s axiom all: forall X:s. X = X    
+relation p variable v
+: s 
+axiom last: v = v
+END
+expect 'spread: they are judged without blocks and conjectures' diff "$room/axioms" "$FAKE/checked"
+begin && : >"$FAKE/answers"
+stand_in spread.sh model.rml
+expect 'spread: a model without goals is inductive' last_is 'verdict: inductive'
+begin && touch "$FAKE/fault"
+stand_in spread.sh model.rml
+expect 'spread: a fault is told as check tells it' said 'F1 at 1:1: bad byte'
+expect 'spread: a fault is told as check tells it' ended 4
+begin holds
+mkdir -p "$room/repo/bench" && cp "$here/bench/spread.sh" "$room/repo/bench/"
+cat >"$room/repo/ivycheck" <<'END'
+#!/bin/sh
+[ "$1" = --which ] || { echo 'ivycheck: building' >&2 && touch "$FAKE/built" && exit; }
+[ ! -e "$FAKE/built" ] || echo "$FAKE/../bin/stand-in"
+[ -e "$FAKE/built" ]
+END
+chmod +x "$room/repo/ivycheck"
+env -u IVYCHECK "$room/repo/bench/spread.sh" model.rml >"$room/out" 2>"$room/err"
+expect 'spread: what a build says is seen' said 'ivycheck: building'
+expect 'spread: what was built answers' last_is 'verdict: inductive'
+
+# --- the recipe of docs/SCALE.md
+
+if has make 'the recipe of docs/SCALE.md'; then
+    begin holds fails
+    mkdir -p "$room/make" && ln -sf "$room/bin/stand-in" "$room/make/ivycheck"
+    sed -n '/^```make$/,/^```$/{/^```/!p}' "$here/docs/SCALE.md" | sed "s|FILE|$room/model.rml|" >"$room/make/Makefile"
+    decided() { grep -c "emit $room/model.rml $1 lrat" "$FAKE/calls"; }
+    for time in first second; do
+        PATH=$room/make:$PATH make -k -C "$room/make" 1.lrat 2.lrat >"$room/out" 2>"$room/err"
+        expect "make: a goal that fails is told the $time time" [ $? = 2 ]
+    done
+    expect 'make: a goal that holds is decided once' [ "$(decided 1)" = 1 ]
+    expect 'make: one that fails is decided each time' [ "$(decided 2)" = 2 ]
+    expect 'make: one that fails has no log' [ ! -e "$room/make/2.lrat" ]
+fi
+
+# --- goals.py, with a stand-in for minisat
+
+mkdir -p "$room/tools" && cp "$room/bin/minisat-stand-in" "$room/tools/minisat"
+cat >"$room/breaks.rml" <<'END'
+relation p
+init { p := false }
+action a { p := true }
+conjecture c: ~p
+END
+with_minisat() { PATH=$room/tools:$PATH stand_in goals.py "$@"; }
+begin holds fails
+with_minisat breaks.rml
+expect 'goals: all is as minisat has it' ended 0
+expect 'goals: how many goals hold' wrote 'breaks.rml: 2 goals, 1 hold'
+begin holds fails
+sed -i 's/^action a c: fails/action a c: holds/; /^  /d; s/not inductive/inductive/' "$FAKE/report"
+echo 0 >"$FAKE/ends"
+with_minisat breaks.rml
+expect 'goals: a report that says otherwise is told' wrote "check says 'action a c: holds', by minisat it is 'action a c: fails"
+expect 'goals: a report that says otherwise is told' ended 1
+begin holds holds
+with_minisat breaks.rml
+expect 'goals: so is one that fails what holds' wrote "check says 'verdict: not inductive', by minisat it is 'verdict: inductive'"
+begin holds fails holds
+with_minisat breaks.rml
+expect 'goals: other goals than those of the text are told' wrote 'emit has 3 goals, the blocks of the text 2'
+begin && touch "$FAKE/fault"
+with_minisat breaks.rml
+expect 'goals: a file with a fault is told' wrote 'breaks.rml: no goals: status 4 F1 at 1:1: bad byte'
+expect 'goals: a file with a fault is told' ended 1
+
+# --- growths.py, on small programs that do not heed what is refused
+
+if has cc 'growths.py and lrat.sh'; then
+    grower() {
+        cat >"$room/grower.c" <<END
+#include <stdio.h>
+#include <stdlib.h>
+#include <string.h>
+#include <sys/mman.h>
+int main(void) {
+    char *p, *q = 0;
+    for (int i = 0; i < 5; i++) {
+        if (!(p = malloc(100))) return 7;
+        p = $1(p, 5, 40);
+        if (!(p = realloc(p, 3000))) return 7;
+        q = p;
+    }
+    p = mmap(0, 60 << 20, PROT_READ | PROT_WRITE, MAP_PRIVATE | MAP_ANONYMOUS, -1, 0);
+    if (p == MAP_FAILED) $2;
+    memset(p, 1, 60 << 20);
+    return puts("done") < 0 || q == p;
+}
+END
+        sed -i '1i static inline char *heeds(char *, int, int), *crashes(char *, int, int);' "$room/grower.c"
+        cat >>"$room/grower.c" <<'END'
+static inline char *heeds(char *old, int m, int n) {
+    char *p = calloc(m, n);
+    if (!p) exit(7);
+    return free(old), p;
+}
+static inline char *crashes(char *old, int m, int n) {
+    char *p = calloc(m, n);
+    *(volatile char *)p = 1;
+    return free(old), p;
+}
+END
+        cc -O1 -fno-builtin -w -o "$room/grower" "$room/grower.c" && IVYCHECK=$room/grower bench growths.py 'a sample'
+    }
+    grower heeds 'return 7'
+    expect 'growths: a program that heeds each' ended 0
+    # (the last is that of the buffer of its standard output)
+    expect 'growths: no run counts that has no growth' wrote '| a sample | 16 | 15 | none |'
+    grower crashes 'return 7'
+    expect 'growths: a calloc is refused too' wrote '-11'
+    expect 'growths: a calloc is refused too' ended 1
+    grower heeds '*(volatile char *)0 = 1'
+    expect 'growths: a crash under a limit of memory is told' wrote '(40, -11)'
+    expect 'growths: a crash under a limit of memory is told' ended 1
+fi
+
+# --- outside.sh
+
+printf '#!/bin/sh\ntrap "" PIPE\necho "verdict: inductive" 2>/dev/null\nexit 0\n' >"$room/bin/heedless"
+chmod +x "$room/bin/heedless"
+IVYCHECK=$room/bin/heedless bench outside.sh
+expect 'outside: a program that heeds no pipe is told' wrote \
+    'standard output is a pipe that nobody reads: status 0, expected 5, differs'
+expect 'outside: a program that heeds no pipe is told' ended 1
+
+# --- gate.py, solve.sh, lrat.sh and room.py, with a stand-in for rt
+
+cat >"$room/tools/rt" <<'END'
+#!/bin/sh
+echo "$*" >>"$FAKE/rt"
+case $1 in
+    version) echo a kit ;;
+    ci) sleep 0.3 && echo 'rt: base is kept: an earlier run' && echo '7 passed, 0 failed' ;;
+    run)
+        cp ../../crates.txt "$FAKE/crates.txt"
+        find ../.. -name out -type d >"$FAKE/outs"
+        mkdir -p out
+        printf '#!/bin/sh\necho refuted true\n' >"out/$(basename "$PWD")"
+        chmod +x "out/$(basename "$PWD")"
+        ;;
+esac
+END
+chmod +x "$room/tools/rt"
+with_tools() { PATH=$room/tools:$PATH bench "$@"; }
+begin
+with_tools gate.py --anew --log "$room/gate.log" --keep "$room/gate.json" --table "$room/GATE.md"
+expect 'gate: --anew goes to the gate' grep -qx 'ci --anew' "$FAKE/rt"
+expect 'gate: it ends as the gate' ended 0
+expect 'gate: the page names the run' grep -q 'a kit.*processors, mean load' "$room/GATE.md"
+expect 'gate: the page has a line for each crate' grep -q '^| `ivy_run` | [0-9]' "$room/GATE.md"
+with_tools gate.py --of "$room/gate.json" "$room/gate.json" --table "$room/both.md"
+expect 'gate: watches are put together' [ "$(grep -c 'mean load' "$room/both.md")" = 2 ]
+sleep 2 &
+with_tools gate.py --pid $! --keep "$room/watched.json"
+expect 'gate: a run that is under way is watched till it ends' grep -q '"whole"' "$room/watched.json"
+
+begin
+printf 'p cnf 1 2\n1 0\n-1 0\n' >"$room/small.cnf"
+REPEAT=1 with_tools solve.sh "$room/small.cnf"
+expect 'solve: a line for the formula' wrote 'small.cnf           refuted'
+lists_as_here() {
+    while read -r line; do
+        grep -qxF "$line" "$here/crates.txt" || case $line in solve_file:* | lrat_time:*) ;; *) return 1 ;; esac
+    done <"$FAKE/crates.txt"
+}
+expect 'solve: the crates are those of this repository' lists_as_here
+
+if command -v cc >/dev/null; then
+    begin
+    mkdir -p "$here/crates/base/out"
+    with_tools lrat.sh library 1
+    expect 'lrat: the library is timed' ended 0
+    expect 'lrat: the crates are those of this repository' lists_as_here
+    expect 'lrat: nothing is copied that was built' [ ! -s "$FAKE/outs" ]
+    printf '#!/bin/sh\necho "verdict: not refuted"\n' >"$room/bin/denies" && chmod +x "$room/bin/denies"
+    IVYCHECK=$room/bin/denies bench lrat.sh 1
+    expect 'lrat: a log that is not taken is told' said 'does not take the log'
+    expect 'lrat: a log that is not taken is told' ended 1
+fi
+
+mkdir -p "$room/proved/crates/low/out/incremental/of"
+head -c 3000000 /dev/zero >"$room/proved/crates/low/out/incremental/of/Rattle-low-proofs.main.Large.f.Lts.oantt"
+head -c 9000 /dev/zero >"$room/proved/crates/low/out/incremental/of/Rattle-low-proofs.main.g.Lts.oantt"
+head -c 9000000 /dev/zero >"$room/proved/crates/low/out/incremental/of/Rattle-low-proofs.main.g.Kinds.oantt"
+bench room.py --root "$room/proved" low
+expect 'room: the function of the largest steps stands first' \
+    grep -qxF '| 3.0 | `low` | `main.Large.f` |' <(sed -n 3p "$room/out")
+bench room.py --root "$room/proved" none
+expect 'room: where nothing was proved it says so' ended 1
+
+# --- formulas and models
+
+bench cnf.py pigeons 2
+expect 'cnf: pigeons' first_is 'p cnf 6 9'
+bench chain.py 4 2 1 chain.cnf chain.lrat
+expect 'chain: a log of its formula' diff chain.lrat <(printf '6 3 0 3 2 1 0\n7 0 5 4 6 0\n')
+bench names.py
+expect 'names: a model of the greatest size' [ "$(wc -c <"$room/out")" = 1048576 ]
+
+bench ivycheck_test.sh
+expect 'the script ivycheck' ended 0
+cat "$room/out"
+
+# --- the program itself
+
+examples=$here/examples
+if [ -z "$program" ]; then
+    skipped=$((skipped + 1))
+    echo 'skipped, since there is no program of these sources: what runs it'
+else
+    export IVYCHECK=$program
+    bench examples.py "$examples/flag.rml" "$examples/quiet.rml" -- --conflicts 9
+    expect 'examples: a line each' wrote '| `flag.rml` | not inductive | 2 |'
+    expect 'examples: a line each' wrote '| `quiet.rml` | inductive | 2 |'
+    expect 'examples: each has a verdict' ended 0
+    bench examples.py "$room/none.rml"
+    expect 'examples: a file without a verdict is told' ended 1
+    bench ground.py "$examples/lock_server.rml"
+    expect 'ground: a line' wrote '| `lock_server.rml` '
+    bench sentences.py "$examples/flag.rml"
+    expect 'sentences: a line each' wrote '| 900 updates |'
+    bench hazards.py --scale 0.02
+    expect 'hazards: no run ends by a signal' ended 0
+    bench outside.sh
+    expect 'outside: each case' ended 0
+    bench prefixes.py flag.rml
+    expect 'prefixes: as its row has it' grep -qxF "$(grep '^each-prefix' "$room/out")" "$here/crates/rows/data/prefixes.txt"
+    "$here/bench/names.py" >"$room/names.rml"
+    "$program" check "$room/names.rml" >"$room/out" 2>"$room/err"
+    expect 'names: its model is read' wrote 'verdict: '
+    "$program" lrat chain.cnf chain.lrat >"$room/out" 2>"$room/err"
+    expect 'chain: its log is taken' last_is 'verdict: refuted'
+    for name in flag quiet lock_server lock_server-weak peterson_flat-weak; do
+        "$program" check "$examples/$name.rml" >"$room/report"
+        wanted=$?
+        bench spread.sh "$examples/$name.rml" 4
+        expect "spread: the verdict of $name" last_is "$(tail -n 1 "$room/report")"
+        expect "spread: the axioms of $name" first_is "$(head -n 1 "$room/report")"
+        expect "spread: the status of $name" ended "$wanted"
+    done
+    if command -v cc >/dev/null; then
+        bench growths.py 'a log that refutes'
+        expect 'growths: a log' ended 0
+        bench lrat.sh 1
+        expect 'lrat: a log of 100,000 hints' ended 0
+    fi
+    if has minisat 'goals.py on the program'; then
+        bench goals.py "$examples/flag.rml" "$examples/lock_server-bug.rml" "$examples/peterson_flat-weak.rml"
+        expect 'goals: as minisat has it' ended 0
+    fi
+    if has acl2 'others.py'; then
+        bench others.py "$examples/lock_server.rml"
+        expect 'others: as ACL2 has it' ended 0
+    fi
+fi
+
+echo "$skipped skipped"
+echo "$passed passed, $failed failed"
+[ "$failed" = 0 ]
