@@ -19,6 +19,7 @@ import subprocess
 import sys
 import tempfile
 
+import rml
 from program import program
 
 
@@ -43,74 +44,20 @@ class Sum:
         return f"{self.seconds:.2f} s, {self.megabytes:.0f} MB"
 
 
-class Blocks:
-    """Reads the blocks of a text that has no fault: for each of their paths, in order, whether it aborts."""
-
-    def __init__(self, text):
-        plain = re.sub(r"#.*", "", text)
-        self.words, self.at = re.findall(r"\w+|<->|->|:=|~=|\S", plain), 0
-        self.stages, self.conjectures = {}, []
-        while self.at < len(self.words):
-            word = self.words[self.at]
-            self.at += 1
-            if word == "conjecture":
-                self.conjectures.append(self.words[self.at])
-            elif word in ("init", "final"):
-                self.stages[word] = self.block()
-            elif word == "action":
-                name = self.words[self.at]
-                self.at += 1
-                self.stages[f"action {name}"] = self.block()
-
-    def take(self, word):
-        assert self.words[self.at] == word, (self.at, word)
-        self.at += 1
-
-    def block(self):
-        self.take("{")
-        paths = [False]
-        while self.words[self.at] != "}":
-            if self.words[self.at] == ";":
-                self.at += 1
-                continue
-            more = self.command()
-            paths = [it for path in paths for it in ([True] if path else more)]
-        self.take("}")
-        return paths
-
-    def command(self):
-        word = self.words[self.at]
-        self.at += 1
-        if word == "choose":
-            paths = self.block()
-            while self.words[self.at] == "or":
-                self.at += 1
-                paths = paths + self.block()
-            return paths
-        while self.words[self.at] not in ("{", "}", ";"):
-            self.at += 1
-        if word == "if":
-            paths = self.block()
-            if self.words[self.at] != "else":
-                return paths + [False]
-            self.at += 1
-            return paths + self.block()
-        return {"abort": [True], "assert": [True, False]}.get(word, [False])
-
-    def groups(self):
-        """Gives for each group of the report its head, how many paths its block has, and the paths of its goals."""
-        actions = [it for it in self.stages if it.startswith("action ")]
-        for stage in ["init", *actions, "final"]:
-            paths = self.stages.get(stage, [False])
-            yield f"{stage} abort", len(paths), [k for k, aborts in enumerate(paths, 1) if aborts]
-            for name in self.conjectures if stage != "final" else []:
-                yield f"{stage} {name}", len(paths), [k for k, aborts in enumerate(paths, 1) if not aborts]
+def groups(model):
+    """Gives for each group of the report its head, how many paths its block has, and the paths of its goals."""
+    for stage, paths in model.stages():
+        aborting = [k for k, path in enumerate(paths, 1) if path and path[-1] == ("abort",)]
+        others = [k for k in range(1, len(paths) + 1) if k not in aborting]
+        yield f"{stage} abort", len(paths), aborting
+        for name, _ in model.conjectures if stage != "final" else []:
+            yield f"{stage} {name}", len(paths), others
 
 
 def wanted(text, fails):
     """Gives the report's lines on groups and the verdict, where these goals fail and all others hold."""
     number, lines = 0, []
-    for head, paths, own in Blocks(text).groups():
+    for head, paths, own in groups(rml.read(text)):
         failing = [path for k, path in enumerate(own, number + 1) if k in fails]
         number += len(own)
         lines.append(f"{head}: fails, path {failing[0]} of {paths}" if failing else f"{head}: holds")
@@ -153,7 +100,7 @@ def compare(file, limits, most):
         theirs_fail |= {goal} if theirs == 10 else set()
         if (ours, theirs) not in ((0, 20), (1, 10)):
             told.append(f"  goal {goal}: emit ended with {ours}, minisat with {theirs} {err}")
-    with open(file, errors="replace") as text:
+    with open(file, encoding="latin-1") as text:
         count, lines = wanted(text.read(), theirs_fail)
     if count != goals:
         told.append(f"  emit has {goals} goals, the blocks of the text {count}")

@@ -58,8 +58,11 @@ fi
 
 mkfifo "$work/fifo"
 cat "$work/good.rml" >"$work/fifo" &
+writer=$!
 "$program" check "$work/fifo" >/dev/null 2>&1
 tell 'the file is a pipe with a whole model' 0 $?
+# (it waits for a reader, where the program read nothing)
+kill "$writer" 2>/dev/null
 "$program" check /dev/null >/dev/null 2>&1
 tell 'the file is empty' 0 $?
 "$program" check /dev/zero >/dev/null 2>&1

@@ -352,6 +352,15 @@ expect 'chain: a log of its formula' diff chain.lrat <(printf '6 3 0 3 2 1 0\n7 
 bench names.py
 expect 'names: a model of the greatest size' [ "$(wc -c <"$room/out")" = 1048576 ]
 
+if python3 -c 'import z3' 2>/dev/null; then
+    bench z3_goals.py "$here/examples/flag.rml"
+    expect 'z3_goals: the group that fails' wrote_line 'action raise down: fails'
+    expect 'z3_goals: its status is that of the verdict' ended 1
+else
+    skipped=$((skipped + 1))
+    echo "skipped, since there is no z3 for Python: z3_goals.py"
+fi
+
 bench ivycheck_test.sh
 expect 'the script ivycheck' ended 0
 cat "$room/out"

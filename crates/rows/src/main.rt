@@ -1,8 +1,25 @@
-//! Runs rows of the whole program: words and files, and what is to come out, to the byte. It says how each row differs
-//! that does. The rows are data, so that a new one needs no proof.
+//! Runs rows of the whole program (`ivy_run::run`) over files and sinks in memory, or over the files of a folder: words
+//! and files, and what is to come out, to the byte. It says how each row differs that does. The rows are data, so that
+//! a new one needs no proof. They show what no clause can: that the definitions are the language that docs/LANGUAGE.md
+//! and docs/FORMATS.md describe. Proved is that the program is safe, and that it does not call two words or texts the
+//! same that differ (`Report::compare`, `compare_bytes`); not that it reads the rows as their format says.
 //!
-//! Each word of the command line names a file of rows. In the files behind the word `differ` each row has to differ:
-//! they show that this program tells.
+//! Each word of the command line names a file of rows; the head of data/rows.txt says their format. In the files behind
+//! the word `differ` each row has to differ: they show that this program tells, since what it says of them is compared.
+//!
+//! - `rows.txt`: texts with the line of their fault (each code from F1 to F20; which one comes first where two meet;
+//!   the limits of a name's length, of nesting, of names and of paths from both sides), reports of models that are
+//!   decided and of models that are not, logs that are accepted, refused and faulty, each prefix of a model, of a
+//!   formula and of a log, words that are no command line, files that are missing, that fail, that are as long as may
+//!   be or a byte longer, and sinks that fail or have no room.
+//! - `examples.txt`: the report of each file of examples/. `prefixes.txt`: how many of the prefixes of each end with
+//!   which status. `samples.txt`: each sample that can be made.
+//! - `wrong.txt`: each row is wrong in one thing.
+//!
+//! By hand: `rt run -- data/rows.txt differ data/wrong.txt`. Want of memory at a given allocation is not a row: `rt try
+//! --fail-alloc N` on a file of one row refuses the Nth, and the row says what came instead. Not shown elsewhere by
+//! themselves are `witness`, `structure_back`, `rml_report` and `verdicts`, whose answers are in the reports here, and
+//! `MemFiles`, `MemSink` and `command_line`, which are called here.
 #![tactic(auto)]
 
 mod judging;

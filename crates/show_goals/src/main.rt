@@ -1,7 +1,10 @@
 //! Prints, of goals of worked models, how large their sentences are, and how large these are once they are ground: the
-//! nodes of the precondition, of the refuting sentence and of its normal form, the sorts of its constants, how many
-//! terms there are, the size that is counted before anything is made, and the variables and clauses of a refutation.
-//! What `stdout` holds was written down from outside: by hand from the definitions, or by another program.
+//! nodes of the precondition and of the refuting sentence, or that they pass the limit of formulas; those of its normal
+//! form, the sorts of its constants; how many terms there are, and the ground size, which are counted before anything
+//! is made; and what `decide` of `ea_decide` answers, with the variables and clauses of a refutation, which a `Clauser`
+//! counts. What `stdout` holds was written down from outside: by hand from the definitions, or by another program; the
+//! figures of `ring_leader` are not by hand. The gate runs the program as two compilers make it, and compares what it
+//! writes to the byte.
 //!
 //! Each line of `goals.txt` names a goal and the file of its model.
 #![tactic(auto)]

@@ -1,6 +1,7 @@
-//! Prints formulas that others become: with constants in the place of existential quantifiers, and by replacements.
-//! What
-//! `stdout` holds was written down from outside: by hand, from the definitions.
+//! Prints formulas that others become, with inputs in the code: with constants in the place of existential quantifiers
+//! (`constants`), and by replacements (`replace_const`, `replace_rel`, `replace_fun`, `shift`). What `stdout` holds was
+//! written down from outside: by hand, from the definitions. The gate runs the program as two compilers make it, and
+//! compares what it writes to the byte.
 #![tactic(auto)]
 
 mod constants;

@@ -1,5 +1,6 @@
-//! Prints where paths of models end that are followed from blank structures, and which conjectures are true there. What
-//! `stdout` holds was written down from outside: by hand, from the definitions.
+//! Prints where paths of models end that are followed from blank structures (`read_model`, `follow`), and which
+//! conjectures are true there (`holds`). What `stdout` holds was written down from outside: by hand, from the
+//! definitions. The gate runs the program as two compilers make it, and compares what it writes to the byte.
 #![tactic(auto)]
 
 mod following;

@@ -1,5 +1,7 @@
-//! Prints what is answered to models: in which fragments their axioms and conjectures lie, the normal forms of these,
-//! and the paths of a block. What `stdout` holds was written down from outside: by hand, from the definitions.
+//! Prints what is answered to models (`resolve`): the nodes, the depth and the fragments of their axioms and
+//! conjectures, and the types that take them; the normal forms of these (`normal`, `negate`); and the paths of a block
+//! (`paths`). What `stdout` holds was written down from outside: by hand, from the definitions. The gate runs the
+//! program as two compilers make it, and compares what it writes to the byte.
 #![tactic(auto)]
 
 mod fragments;

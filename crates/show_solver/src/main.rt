@@ -1,6 +1,8 @@
-//! Prints what is answered to formulas in DIMACS and to logs of refutations: read and written again, checked, and
-//! searched for values. What `stdout` holds was written down from outside, by hand from the definitions, but for how
-//! many lines refute the last formula.
+//! Prints what is answered to formulas in DIMACS and to logs of refutations: read and written again (`read_cnf`,
+//! `write_cnf`, `read_log`, `write_log`), checked (`check_log`), and searched for values (`solve`, under small and
+//! large budgets). What `stdout` holds was written down from outside, by hand from the definitions, but for how many
+//! lines refute the last formula, pigeons. The gate runs the program as two compilers make it, and compares what it
+//! writes to the byte.
 #![tactic(auto)]
 
 mod checks;

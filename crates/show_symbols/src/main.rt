@@ -1,5 +1,7 @@
-//! Prints what is answered to calls on symbols: signatures, structures, the order of sorts, tuples, and the ground
-//! formulas of a sentence. What `stdout` holds was written down from outside: by hand, from the definitions.
+//! Prints what is answered to calls on symbols, with inputs in the code: signatures, structures, the order of sorts or
+//! the first cycle, tuples and their numbers, terms; the instance of a sentence over two constants (`expand`), and the
+//! axioms of equality over them (`axioms`). What `stdout` holds was written down from outside: by hand, from the
+//! definitions. The gate runs the program as two compilers make it, and compares what it writes to the byte.
 #![tactic(auto)]
 
 mod ground;

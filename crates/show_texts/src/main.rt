@@ -1,5 +1,6 @@
-//! Prints what is answered to the texts of models, which become tokens and trees, or have a first fault. What `stdout`
-//! holds was written down from outside: by hand, from the definitions.
+//! Prints what `lex` and `parse` answer to the texts of models, which become tokens and trees, with the place of each
+//! token and node, or have a first fault. What `stdout` holds was written down from outside: by hand, from the
+//! definitions. The gate runs the program as two compilers make it, and compares what it writes to the byte.
 #![tactic(auto)]
 
 mod texts;
