@@ -4,7 +4,16 @@ mod BoundFits
 mod PairTruth
 mod PairFits
 mod ShortBounds
+mod TupleReads
+mod TupleTruth
+mod TupleCounts
+mod TupleFits
+mod TupleTurns
+mod Extending
+mod AtMosts
+mod BoundLaws
 mod Pushing
 mod Bounded
 mod Searching
+mod Tried
 mod Attempts

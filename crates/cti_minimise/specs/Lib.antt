@@ -1,5 +1,8 @@
 pub mod SizeBounds
+pub mod TupleBounds
+pub mod Bounding
 pub mod Saying
+pub mod Extents
 pub mod Minimal
 pub mod Steps
 pub mod Laws

@@ -1,6 +1,6 @@
--- Which sizes are least among the counterexamples of a goal, and where the search for smaller ones stopped.
-use Rattle.std.specs.Prelude.{◌≡◌, ◌⊎◌, ℕ, ◌<◌, List, [], ◌∷◌, ◌++◌, take}
-use Rattle.fol_sig.specs.Tables.{Tables, size_at}
+-- Which counterexamples of a goal are least, and where the search for smaller ones stopped.
+use Rattle.std.specs.Prelude.{◌≡◌, ◌⊎◌, ℕ, ◌-◌, ◌<◌, ◌≤◌, List, [], ◌∷◌, ◌++◌, length, take, get_or, None}
+use Rattle.fol_sig.specs.Tables.{Tables}
 use Rattle.rml_command.specs.Models.{ModelTree}
 use Rattle.rml_command.specs.Goals.{IsCounterexample}
 use Rattle.rml_command.specs.declared.goal.Goal.{Goal}
@@ -8,8 +8,9 @@ use Rattle.rml_report.specs.declared.cause.Cause.{Cause}
 use Rattle.rml_report.specs.declared.cause.Least.{Least}
 use Rattle.rml_report.specs.declared.cause.Least.TheVariants as least
 use Rattle.ea_decide.specs.Passing.{Ceilings}
-use Rattle.obligation_decide.specs.Restricted.{IsLeftOpenWhere}
-use Rattle.cti_minimise.specs.SizeBounds.{size_bounds}
+use Rattle.obligation_decide.specs.Restricted.{RestrictedPassesFirst, IsLeftOpenWhere}
+use Rattle.cti_minimise.specs.Extents.{extent, bound_place, HasBound, lowest}
+use Rattle.cti_minimise.specs.Bounding.{bounds_on}
 
 -- The first list is below the second in the first place where they differ; where one ends, it is not.
 abbrev pub IsSmaller : List ℕ → List ℕ → Type 0
@@ -17,24 +18,40 @@ IsSmaller [] ys = ⊥
 IsSmaller (x ∷ xs) [] = ⊥
 IsSmaller (x ∷ xs) (y ∷ ys) = (x < y) ⊎ ((x ≡ y) × IsSmaller xs ys)
 
--- No counterexample of the goal has smaller sizes, the sorts taken in order of declaration.
+-- No counterexample of the goal has a smaller list of sizes and then of numbers of true tuples.
 abbrev pub HasNoSmaller : ModelTree → Goal → List ℕ → Type 0
-HasNoSmaller m goal sizes =
-    (s : Tables) (elements values : List ℕ) → IsCounterexample m goal s elements values → IsSmaller s.sizes sizes → ⊥
+HasNoSmaller m goal numbers =
+    (s : Tables) (elements values : List ℕ) → IsCounterexample m goal s elements values
+    → IsSmaller (extent s) numbers → ⊥
 
--- the sizes of the sorts before this one, and then this size
-abbrev pub sizes_up_to : Tables → ℕ → ℕ → List ℕ
-sizes_up_to s sort size = take sort s.sizes ++ size ∷ []
+-- the structure's numbers before this place, and then this number
+abbrev pub numbers_up_to : Tables → ℕ → ℕ → List ℕ
+numbers_up_to s place number = take place (extent s) ++ number ∷ []
 
--- Whether this sort may have at most `size` elements is left open: the sort has more; no counterexample has smaller
--- sizes than those of the sorts before it, and this; and the goal with these bounds is left open for this cause.
-pub record IsStoppedAt (limits : Ceilings) (m : ModelTree) (goal : Goal) (s : Tables) (sort size : ℕ) (cause : Cause)
+-- The bound just below each of these numbers, where a structure may have fewer: with it, and with bounds on the numbers
+-- before, the goal passes no limit by its size.
+abbrev pub AreTried : Ceilings → ModelTree → Goal → List ℕ → Type 0
+AreTried limits m goal numbers =
+    (place : ℕ) → place < length numbers → lowest m.signature place < get_or numbers place 0
+    → RestrictedPassesFirst limits m
+        (bounds_on m.signature (take place numbers ++ (get_or numbers place 0 - 1) ∷ [])) goal None
+
+-- no counterexample has smaller numbers than these, and the bounds just below them were tried
+pub record AreLeast (limits : Ceilings) (m : ModelTree) (goal : Goal) (numbers : List ℕ) : Type 0 where
+  pub smaller : HasNoSmaller m goal numbers
+  pub tried : AreTried limits m goal numbers
+
+-- Whether the number at a place may be at most `number` is left open: a structure may have so few, and it is more
+-- there; those before the place, and this, are least; and the goal with the bounds on these is left open for this cause.
+pub record IsStoppedAt (limits : Ceilings) (m : ModelTree) (goal : Goal) (s : Tables) (place number : ℕ) (cause : Cause)
     : Type 0 where
-  pub below : size < size_at s sort
-  pub smaller : HasNoSmaller m goal (sizes_up_to s sort size)
-  pub left_open : IsLeftOpenWhere limits m (size_bounds 0 (sizes_up_to s sort size)) goal cause
+  pub possible : lowest m.signature place ≤ number
+  pub below : number < get_or (extent s) place 0
+  pub least : AreLeast limits m goal (numbers_up_to s place number)
+  pub left_open : IsLeftOpenWhere limits m (bounds_on m.signature (numbers_up_to s place number)) goal cause
 
--- what is said of the sizes of a counterexample's structure
+-- what is said of a counterexample's structure
 abbrev pub IsLeast : Ceilings → ModelTree → Goal → Tables → Least → Type 0
-IsLeast limits m goal s least.Yes = HasNoSmaller m goal s.sizes
-IsLeast limits m goal s (least.Stopped sort size cause) = IsStoppedAt limits m goal s sort.0 size cause
+IsLeast limits m goal s least.Yes = AreLeast limits m goal (extent s)
+IsLeast limits m goal s (least.Stopped at size cause) =
+    HasBound m.signature at × IsStoppedAt limits m goal s (bound_place m.signature at) size cause

@@ -1,5 +1,5 @@
 -- Sentences that bound the sizes of sorts.
-use Rattle.std.specs.Prelude.{ℕ, zero, suc, nat_le, if◌then◌else◌, List, [], ◌∷◌}
+use Rattle.std.specs.Prelude.{ℕ, zero, suc, nat_le, if◌then◌else◌}
 use Rattle.fol_formula.specs.Syntax.{
   FormTree,
   FormTrees,
@@ -50,12 +50,3 @@ most_paired = 6
 -- a bound that needs no constants, where it is on few elements
 abbrev pub short_bound : ℕ → ℕ → FormTree
 short_bound k n = if nat_le n most_paired then pair_bound k n else size_bound k n
-
--- the sorts from k on have at most these sizes, each bound said so
-abbrev pub bounds_by : (ℕ → ℕ → FormTree) → ℕ → List ℕ → List FormTree
-bounds_by said k [] = []
-bounds_by said k (n ∷ ns) = said k n ∷ bounds_by said (suc k) ns
-
--- the sorts from k on have at most these sizes
-abbrev pub size_bounds : ℕ → List ℕ → List FormTree
-size_bounds = bounds_by size_bound

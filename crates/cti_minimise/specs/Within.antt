@@ -1,14 +1,20 @@
--- Bounds on the sizes of sorts, as the sizes that are allowed.
-use Rattle.std.specs.Prelude.{◌≡◌, ℕ, ◌<◌, List, length}
-use Rattle.rml_command.specs.Models.{ModelTree}
-use Rattle.cti_minimise.specs.Minimal.{sizes_up_to}
+-- Bounds, as the numbers that are allowed.
+use Rattle.std.specs.Prelude.{◌≡◌, ℕ, ◌<◌, ◌≤◌, List, [], ◌∷◌, ◌++◌, length, take}
+use Rattle.fol_sig.specs.Tables.{Declared}
+use Rattle.cti_minimise.specs.Extents.{places}
 use Rattle.cti_minimise.specs.declared.bounds.Bounds.{Bounds}
 
--- the sizes of the sorts before the bounded one, and its bound
-abbrev pub sizes_within : Bounds → List ℕ
-sizes_within b = sizes_up_to b.structure.now b.sort b.most
+-- the numbers before the bounded one, and its bound
+abbrev pub numbers_within : Bounds → List ℕ
+numbers_within b = take b.place b.numbers.now ++ b.most ∷ []
 
--- the structure has the sorts of the model, and the bounded one is among them
-pub record AreBoundsFor (m : ModelTree) (b : Bounds) : Type 0 where
-  pub sorts : length b.structure.now.sizes ≡ m.signature.sorts
-  pub sort : b.sort < m.signature.sorts
+-- the signature has a sort or a relation at the bounded place, and as many as there are numbers
+pub record AreBoundsFor (sig : Declared) (b : Bounds) : Type 0 where
+  pub place : b.place < length b.numbers.now
+  pub count : length b.numbers.now ≡ places sig
+
+-- each number of the second list bounds that of the first in its place
+abbrev pub AreAtMost : List ℕ → List ℕ → Type 0
+AreAtMost xs [] = Unit {0}
+AreAtMost [] (y ∷ ys) = ⊥
+AreAtMost (x ∷ xs) (y ∷ ys) = (x ≤ y) × AreAtMost xs ys

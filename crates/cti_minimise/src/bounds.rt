@@ -1,18 +1,25 @@
-// Bounds on the sizes of sorts, as sentences.
-ghost use Rattle.std.specs.Prelude.{◌≡◌, ◌≤◌, ◌<◌, length, map, IfOk, OnOk};
+// Bounds as sentences.
+ghost use Rattle.std.specs.Prelude.{◌≡◌, ◌-◌, ◌≤◌, ◌<◌, ◌^◌, [], map, IfOk, OnOk};
 ghost use Rattle.fol_formula.specs.Syntax.{FormTrees, equal, disjunction, for_all, forms_then, bound as variable};
 ghost use Rattle.fol_formula.specs.View.{form, forms};
+ghost use Rattle.fol_formula.specs.Fits.{FitsForm};
+ghost use Rattle.fol_formula.specs.Fragments.{IsEa};
+ghost use Rattle.fol_sig.specs.Symbols.{symbols};
+ghost use Rattle.std.specs.List.{AllByRecursion};
 ghost use Rattle.cti_minimise.specs.SizeBounds.{equations, for_some_times, size_bound};
 ghost use Rattle.cti_minimise.specs.SizeBounds.{equations_with, pair_equations, for_all_times, pair_bound};
-ghost use Rattle.cti_minimise.specs.SizeBounds.{most_paired, short_bound, bounds_by};
-ghost use Rattle.cti_minimise.specs.Saying.{said_by};
-ghost use Rattle.cti_minimise.specs.Within.{sizes_within};
+ghost use Rattle.cti_minimise.specs.SizeBounds.{most_paired, short_bound};
+ghost use Rattle.cti_minimise.specs.Extents.{places};
+ghost use Rattle.cti_minimise.specs.Bounding.{relation_bound, bound_at, bounds_by};
+ghost use Rattle.cti_minimise.specs.Saying.{short_at, sparse_at, said_by};
+ghost use Rattle.cti_minimise.specs.Within.{numbers_within, AreBoundsFor};
 
-use crate::laws::bound_law;
+use crate::laws::{bound_law, saying_law};
+use crate::tuple_bounds::tuple_bound;
 use base::Mem;
 use fol_formula::{Formula, Sentence, Term};
-use fol_sig::{Sort, Structure};
-use std::alloc::Global;
+use fol_sig::{RelId, Signature, Sort};
+use std::alloc::{AllocError, Global};
 
 /// The most elements on which a bound is said by pairs. On more it would pass any limit: a sort that has more than
 /// seven elements has as many ground terms, and a bound on seven has an instance for each eight of these.
@@ -21,49 +28,157 @@ pub const MOST_PAIRED: u32 = 6;
 /// How bounds are said.
 #[derive(Clone, Copy)]
 pub enum Saying {
-    /// Each element is one of so many that there are: a constant for each of these.
+    /// Each element, or true tuple, is one of so many that there are: a constant for each, or for each of its elements.
     Named,
-    /// Where there are few: of one more elements two are equal. That needs no constants.
+    /// On few elements: of one more elements two are equal. That needs no constants.
     Short,
+    /// The same, and nothing of the relations before the bounded place.
+    Sparse,
 }
 
-/// Bounds: the sorts before this one have at most their sizes in the structure, and this one has at most so many
-/// elements.
+/// Bounds: before a place an extent has at most these numbers, and there at most this.
 #[derive(Clone, Copy)]
 pub struct Bounds<'a> {
-    pub structure: &'a Structure,
-    pub sort: u32,
-    pub most: u32,
+    pub numbers: &'a [u64],
+    pub place: usize,
+    pub most: u64,
 }
 
 /// The sentences that say bounds.
-pub fn size_bounds(alloc: Global, bounds: &Bounds, saying: Saying) -> Mem<Vec<Sentence>>
-    requires { bounds.now.sort < length bounds.now.structure.now.sizes }
-    ensures { IfOk result (λ v. v.items ≡ bounds_by (said_by saying) 0 (sizes_within bounds.now)) }
+pub fn bounds_on(
+    alloc: Global,
+    signature: &Signature,
+    bounds: &Bounds,
+    saying: Saying,
+) -> Mem<Vec<Sentence>>
+    requires { AreBoundsFor signature.now bounds.now }
+    ensures said { IfOk result (λ v. v.items ≡ bounds_by
+        (said_by signature.now saying bounds.now.place) 0 (numbers_within bounds.now)) }
+    ensures fragment { IfOk result (λ v. AllByRecursion IsEa v.items) }
+    ensures fits { IfOk result (λ v. AllByRecursion (FitsForm (symbols signature.now) []) v.items) }
 {
-    let structure = bounds.structure;
-    let mut sentences = Vec::new(alloc);
-    for k in 0..bounds.sort {
-        let size = structure.size(Sort(k));
-        sentences.push(bound(alloc, Sort(k), size, saying)?)?;
-    }
-    sentences.push(bound(alloc, Sort(bounds.sort), bounds.most, saying)?)?;
+    saying_law();
+    let _sorts = signature.sorts();
+    let sentences = sentences(alloc, signature, bounds, saying)?;
     Ok(sentences)
 }
 
-// The sentence that a sort has at most so many elements.
-fn bound(alloc: Global, sort: Sort, most: u32, saying: Saying) -> Mem<Sentence>
-    ensures { IfOk result (λ s. s ≡ said_by saying sort.0 most) }
+// One sentence for each.
+fn sentences(
+    alloc: Global,
+    signature: &Signature,
+    bounds: &Bounds,
+    saying: Saying,
+) -> Mem<Vec<Sentence>>
+    requires { AreBoundsFor signature.now bounds.now }
+    ensures { IfOk result (λ v. v.items ≡ bounds_by (said_by signature.now saying bounds.now.place) 0
+        (numbers_within bounds.now)) }
+{
+    let last = bounds.place;
+    let mut sentences = Vec::new(alloc);
+    for place in 0..last {
+        let most = bounds.numbers[place];
+        sentences.push(said(alloc, signature, saying, last, place, most)?)?;
+    }
+    sentences.push(said(alloc, signature, saying, last, last, bounds.most)?)?;
+    Ok(sentences)
+}
+
+// The sentence that says the bound at a place, where the last bounded place is this.
+fn said(
+    alloc: Global,
+    signature: &Signature,
+    saying: Saying,
+    last: usize,
+    place: usize,
+    most: u64,
+) -> Mem<Sentence>
+    requires { place < places signature.now }
+    ensures { IfOk result (λ s. s ≡ said_by signature.now saying last place most) }
 {
     match saying {
         Saying::Named => {
-            let named = size_bound(alloc, sort, most)?;
+            let named = named(alloc, signature, place, most)?;
             Ok(named)
         }
         Saying::Short => {
-            let short = short_bound(alloc, sort, most)?;
+            let short = short(alloc, signature, place, most)?;
             Ok(short)
         }
+        Saying::Sparse => {
+            let sparse = sparse(alloc, signature, last, place, most)?;
+            Ok(sparse)
+        }
+    }
+}
+
+// By constants.
+fn named(alloc: Global, signature: &Signature, place: usize, most: u64) -> Mem<Sentence>
+    requires { place < places signature.now }
+    ensures { IfOk result (λ s. s ≡ bound_at signature.now place most) }
+{
+    if place < signature.sorts() as usize {
+        let size = size_bound(alloc, Sort(place as u32), few(most)?)?;
+        Ok(size)
+    } else {
+        let tuples = relation_bound(alloc, signature, place, most)?;
+        Ok(tuples)
+    }
+}
+
+// Without constants for few elements of a sort.
+fn short(alloc: Global, signature: &Signature, place: usize, most: u64) -> Mem<Sentence>
+    requires { place < places signature.now }
+    ensures { IfOk result (λ s. s ≡ short_at signature.now place most) }
+{
+    if place < signature.sorts() as usize {
+        let size = short_bound(alloc, Sort(place as u32), few(most)?)?;
+        Ok(size)
+    } else {
+        let tuples = relation_bound(alloc, signature, place, most)?;
+        Ok(tuples)
+    }
+}
+
+// The same, and nothing of the relations before the last place.
+fn sparse(
+    alloc: Global,
+    signature: &Signature,
+    last: usize,
+    place: usize,
+    most: u64,
+) -> Mem<Sentence>
+    requires { place < places signature.now }
+    ensures { IfOk result (λ s. s ≡ sparse_at signature.now last place most) }
+{
+    if place >= signature.sorts() as usize && place < last {
+        Ok(Sentence::of(Formula::True))
+    } else {
+        let short = short(alloc, signature, place, most)?;
+        Ok(short)
+    }
+}
+
+// The bound on the relation at a place behind the sorts.
+fn relation_bound(alloc: Global, signature: &Signature, place: usize, most: u64) -> Mem<Sentence>
+    requires place { place < places signature.now }
+    requires behind { signature.now.sorts ≤ place }
+    ensures { IfOk result (λ s. s ≡ relation_bound signature.now (place - signature.now.sorts) most) }
+{
+    let rel = RelId((place - signature.sorts() as usize) as u32);
+    let bound = tuple_bound(alloc, signature, rel, few(most)?)?;
+    Ok(bound)
+}
+
+// A number of things that a sentence can name. A sentence that names more has no room in memory.
+fn few(most: u64) -> Mem<u32>
+    ensures value { IfOk result (λ n. n ≡ most) }
+    ensures few { IfOk result (λ n. n < 2 ^ 28) }
+{
+    if most < 1 << 28 {
+        Ok(most as u32)
+    } else {
+        Err(AllocError)
     }
 }
 

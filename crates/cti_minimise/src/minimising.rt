@@ -3,44 +3,46 @@ ghost use Rattle.std.specs.Prelude.{◌≡◌, ◌<◌, length, take, IfOk};
 ghost use Rattle.rml_command.specs.Goals.{IsGoal};
 ghost use Rattle.ea_decide.specs.Passing.{ceilings};
 ghost use Rattle.obligation_decide.specs.GoalDecisions.{IsFailing};
-ghost use Rattle.cti_minimise.specs.Minimal.{HasNoSmaller, IsLeast};
+ghost use Rattle.cti_minimise.specs.Extents.{extent, places};
+ghost use Rattle.cti_minimise.specs.Minimal.{AreLeast, IsLeast};
 ghost use Rattle.cti_minimise.specs.Steps.{IsStep, IsDescent};
 
-use crate::bounds::{Bounds, MOST_PAIRED};
+use crate::bounds::Bounds;
+use crate::extents::{bound_of, extent, lowest, places};
 use crate::laws::bound_law;
-use crate::trials::{Attempt, Trial, try_bound, try_short};
+use crate::trials::{Attempt, Trial, try_bounds, try_short};
 use base::Mem;
-use fol_sig::Sort;
 use lrat_log::Limits;
 use rml_command::{Checked, Goal};
 use rml_exec::Counterexample;
 use rml_report::{Cause, Least};
 use std::alloc::Global;
 
-// What the search ends with at one sort.
+// What the search ends with at one place.
 #[derive(Drop)]
 enum Step {
-    // No counterexample has smaller sizes up to the sort.
+    // The numbers up to the place are least.
     Settled(Counterexample),
-    // Whether the sort may have at most `size` elements is left open.
+    // Whether there may be at most `number` at the place is left open.
     Stopped {
         shown: Counterexample,
-        size: u32,
+        number: u64,
         cause: Cause,
     },
 }
 
-// What the search from above ends with at one sort.
+// What the search from above ends with at one place.
 #[derive(Drop)]
 enum Descent {
-    // No counterexample has smaller sizes up to the sort.
+    // The numbers up to the place are least.
     Settled(Counterexample),
-    // Whether one has is left open.
+    // Whether they are is left open.
     Open(Counterexample),
 }
 
-/// A counterexample of the goal, found from this one, with sizes that are least among all counterexamples of the goal,
-/// the sorts taken in order; or where the search for smaller ones stopped.
+/// A counterexample of the goal, found from this one, whose sizes, the sorts taken in order, and then the numbers of
+/// whose true tuples, the relations taken in order, are least among all counterexamples of the goal; or where the search
+/// for smaller ones stopped.
 pub fn least(
     alloc: Global,
     checked: &Checked,
@@ -54,72 +56,80 @@ pub fn least(
     ensures least { IfOk result (λ found.
         IsLeast (ceilings limits.now) checked.now goal.now found.0.structure found.1) }
 {
-    let sorts = checked.model().signature().sorts();
+    let signature = checked.model().signature();
     let mut found = shown;
-    for k in 0..sorts {
-        match least_at(alloc, checked, goal, k, found, limits)? {
+    for place in 0..places(signature) {
+        match least_at(alloc, checked, goal, place, found, limits)? {
             Step::Settled(settled) => found = settled,
-            Step::Stopped { shown, size, cause } => {
-                let sort = Sort(k);
-                let size = size as u64;
-                return Ok((shown, Least::Stopped { sort, size, cause }));
+            Step::Stopped {
+                shown,
+                number,
+                cause,
+            } => {
+                let at = bound_of(signature, place);
+                let size = number;
+                return Ok((shown, Least::Stopped { at, size, cause }));
             }
         }
     }
     Ok((found, Least::Yes))
 }
 
-// Makes a sort least, where no counterexample has smaller sizes before it.
+// Makes the number at a place least, where those before it are.
 fn least_at(
     alloc: Global,
     checked: &Checked,
     goal: &Goal,
-    sort: u32,
+    place: usize,
     shown: Counterexample,
     limits: &Limits,
 ) -> Mem<Step>
     requires goal { IsGoal checked.now goal.now }
-    requires sort { sort < checked.now.signature.sorts }
+    requires place { place < places checked.now.signature }
     requires failing { IsFailing (ceilings limits.now) checked.now goal.now shown }
-    requires before { HasNoSmaller checked.now goal.now (take sort shown.structure.sizes) }
-    ensures { IfOk result (IsStep (ceilings limits.now) checked.now goal.now sort) }
+    requires before { AreLeast (ceilings limits.now) checked.now goal.now (take place (extent shown.structure)) }
+    ensures { IfOk result (IsStep (ceilings limits.now) checked.now goal.now place) }
 {
-    match from_above(alloc, checked, goal, sort, shown, limits)? {
+    match from_above(alloc, checked, goal, place, shown, limits)? {
         Descent::Settled(settled) => Ok(Step::Settled(settled)),
         Descent::Open(shown) => {
-            let step = from_below(alloc, checked, goal, sort, shown, limits)?;
+            let step = from_below(alloc, checked, goal, place, shown, limits)?;
             Ok(step)
         }
     }
 }
 
-// Asks for one element less, in short, as long as a smaller counterexample is found. Each turn lowers the size, which
-// is small, so there are no more turns than elements.
+// Asks for one less, in short, as long as a smaller counterexample is found. Each turn lowers the number, so there are
+// no more turns than the number that the first one has.
 fn from_above(
     alloc: Global,
     checked: &Checked,
     goal: &Goal,
-    sort: u32,
+    place: usize,
     shown: Counterexample,
     limits: &Limits,
 ) -> Mem<Descent>
     requires goal { IsGoal checked.now goal.now }
-    requires sort { sort < checked.now.signature.sorts }
+    requires place { place < places checked.now.signature }
     requires failing { IsFailing (ceilings limits.now) checked.now goal.now shown }
-    requires before { HasNoSmaller checked.now goal.now (take sort shown.structure.sizes) }
-    ensures { IfOk result (IsDescent (ceilings limits.now) checked.now goal.now sort) }
+    requires before { AreLeast (ceilings limits.now) checked.now goal.now (take place (extent shown.structure)) }
+    ensures { IfOk result (IsDescent (ceilings limits.now) checked.now goal.now place) }
 {
     bound_law();
+    let signature = checked.model().signature();
+    let lowest = lowest(signature, place);
+    let turns = extent(alloc, signature, &shown.structure)?[place];
     let mut found = shown;
-    for _turn in 0..MOST_PAIRED {
-        let size = found.structure.size(Sort(sort));
-        if size == 1 {
+    for _turn in 0..turns {
+        let numbers = extent(alloc, signature, &found.structure)?;
+        let number = numbers[place];
+        if number <= lowest {
             return Ok(Descent::Settled(found));
         }
         let bounds = Bounds {
-            structure: &found.structure,
-            sort,
-            most: size - 1,
+            numbers: &numbers,
+            place,
+            most: number - 1,
         };
         match try_short(alloc, checked, goal, &bounds, limits)? {
             Attempt::Refuted => return Ok(Descent::Settled(found)),
@@ -130,36 +140,40 @@ fn from_above(
     Ok(Descent::Open(found))
 }
 
-// Tries the bounds below the size of a sort, the least first.
+// Tries the bounds below the number at a place, the least first.
 fn from_below(
     alloc: Global,
     checked: &Checked,
     goal: &Goal,
-    sort: u32,
+    place: usize,
     shown: Counterexample,
     limits: &Limits,
 ) -> Mem<Step>
     requires goal { IsGoal checked.now goal.now }
-    requires sort { sort < checked.now.signature.sorts }
+    requires place { place < places checked.now.signature }
     requires failing { IsFailing (ceilings limits.now) checked.now goal.now shown }
-    requires before { HasNoSmaller checked.now goal.now (take sort shown.structure.sizes) }
-    ensures { IfOk result (IsStep (ceilings limits.now) checked.now goal.now sort) }
+    requires before { AreLeast (ceilings limits.now) checked.now goal.now (take place (extent shown.structure)) }
+    ensures { IfOk result (IsStep (ceilings limits.now) checked.now goal.now place) }
 {
     bound_law();
-    let size = shown.structure.size(Sort(sort));
-    for most in 1..size {
-        let structure = &shown.structure;
+    let signature = checked.model().signature();
+    let numbers = extent(alloc, signature, &shown.structure)?;
+    for most in lowest(signature, place)..numbers[place] {
         let bounds = Bounds {
-            structure,
-            sort,
+            numbers: &numbers,
+            place,
             most,
         };
-        match try_bound(alloc, checked, goal, &bounds, limits)? {
+        match try_bounds(alloc, checked, goal, &bounds, limits)? {
             Trial::Refuted => {}
             Trial::Found(smaller) => return Ok(Step::Settled(smaller)),
             Trial::Open(cause) => {
-                let size = most;
-                return Ok(Step::Stopped { shown, size, cause });
+                let number = most;
+                return Ok(Step::Stopped {
+                    shown,
+                    number,
+                    cause,
+                });
             }
         }
     }

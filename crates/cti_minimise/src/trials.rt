@@ -1,17 +1,20 @@
-// Trials: whether a goal has a counterexample within bounds on the sizes of sorts.
-ghost use Rattle.std.specs.Prelude.{◌≡◌, ◌≤◌, IfOk};
+// Trials: whether a goal has a counterexample within bounds.
+ghost use Rattle.std.specs.Prelude.{◌≡◌, ◌≤◌, IfOk, None};
 ghost use Rattle.rml_command.specs.Goals.{IsGoal};
 ghost use Rattle.ea_decide.specs.Passing.{ceilings};
-ghost use Rattle.obligation_decide.specs.Restricted.{IsRestrictedDecision};
+ghost use Rattle.obligation_decide.specs.GoalDecisions.{IsFailing};
+ghost use Rattle.obligation_decide.specs.Restricted.{RestrictedPassesFirst, IsRestrictedDecision};
 ghost use Rattle.obligation_decide.specs.Costs.{IsRestrictedMeasured};
-ghost use Rattle.cti_minimise.specs.SizeBounds.{size_bounds, bounds_by};
+ghost use Rattle.cti_minimise.specs.Bounding.{bounds_by, bounds_on};
 ghost use Rattle.cti_minimise.specs.Saying.{said_by};
-ghost use Rattle.cti_minimise.specs.Within.{sizes_within, AreBoundsFor};
+ghost use Rattle.cti_minimise.specs.Within.{numbers_within, AreBoundsFor};
 ghost use Rattle.cti_minimise.specs.Steps.{IsAttempt, IsTrial};
 
-use crate::bounds::{Bounds, MOST_PAIRED, Saying, size_bounds};
-use crate::laws::bound_law;
+use crate::bounds::{Bounds, MOST_PAIRED, Saying, bounds_on};
+use crate::extents::{extent, is_within};
+use crate::laws::{bound_law, saying_law};
 use base::Mem;
+use fol_sig::{RelId, Signature};
 use lrat_log::Limits;
 use obligation_decide::{Decision, Measured, decide_where, measure_where};
 use rml_command::{Checked, Goal};
@@ -41,7 +44,7 @@ pub enum Attempt {
 }
 
 /// Whether the goal has a counterexample within the bounds.
-pub fn try_bound(
+pub fn try_bounds(
     alloc: Global,
     checked: &Checked,
     goal: &Goal,
@@ -49,9 +52,9 @@ pub fn try_bound(
     limits: &Limits,
 ) -> Mem<Trial>
     requires goal { IsGoal checked.now goal.now }
-    requires bounds { AreBoundsFor checked.now bounds.now }
+    requires bounds { AreBoundsFor checked.now.signature bounds.now }
     ensures { IfOk result (IsTrial (ceilings limits.now) checked.now
-        (size_bounds 0 (sizes_within bounds.now)) goal.now) }
+        (bounds_on checked.now.signature (numbers_within bounds.now)) goal.now) }
 {
     match try_short(alloc, checked, goal, bounds, limits)? {
         Attempt::Refuted => return Ok(Trial::Refuted),
@@ -65,7 +68,9 @@ pub fn try_bound(
     }
 }
 
-/// The same by bounds that are said in short, where the trial passes no limit by its size and is no smaller.
+/// The same by bounds that are said in short, where the trial passes no limit by its size and is no smaller. A trial
+/// at a relation is tried without the bounds on those before it at first: what it refutes is refuted, and what it finds
+/// mostly keeps to them.
 pub fn try_short(
     alloc: Global,
     checked: &Checked,
@@ -74,23 +79,96 @@ pub fn try_short(
     limits: &Limits,
 ) -> Mem<Attempt>
     requires goal { IsGoal checked.now goal.now }
-    requires bounds { AreBoundsFor checked.now bounds.now }
+    requires bounds { AreBoundsFor checked.now.signature bounds.now }
     ensures { IfOk result (IsAttempt (ceilings limits.now) checked.now
-        (size_bounds 0 (sizes_within bounds.now)) goal.now) }
+        (bounds_on checked.now.signature (numbers_within bounds.now)) goal.now) }
 {
-    if bounds.most > MOST_PAIRED {
+    let signature = checked.model().signature();
+    if !is_short(signature, bounds, limits) {
         return Ok(Attempt::Open);
     }
     let size = match measure(alloc, checked, goal, bounds, limits)? {
         Measured::Within(size) => size,
         Measured::Over(_) => return Ok(Attempt::Open),
     };
+    if bounds.place > signature.sorts() as usize {
+        match attempt_with(alloc, checked, goal, bounds, Saying::Sparse, limits, size)? {
+            Attempt::Open => {}
+            decided => return Ok(decided),
+        }
+    }
+    let attempt = attempt_with(alloc, checked, goal, bounds, Saying::Short, limits, size)?;
+    Ok(attempt)
+}
+
+// Whether the bound is on few things: a sentence that names more elements of tuples than terms are allowed passes their
+// limit, and for more elements of a sort there is no shorter one.
+fn is_short(signature: &Signature, bounds: &Bounds, limits: &Limits) -> bool
+    requires { AreBoundsFor signature.now bounds.now }
+{
+    let place = bounds.place;
+    let sorts = signature.sorts() as usize;
+    if place < sorts {
+        bounds.most <= MOST_PAIRED as u64
+    } else {
+        let arguments = signature.sorts_of(RelId((place - sorts) as u32)).len() as u64;
+        bounds.most.saturating_mul(arguments) <= limits.terms
+    }
+}
+
+// An attempt with the bounds said so, within this ground size.
+fn attempt_with(
+    alloc: Global,
+    checked: &Checked,
+    goal: &Goal,
+    bounds: &Bounds,
+    saying: Saying,
+    limits: &Limits,
+    size: u64,
+) -> Mem<Attempt>
+    requires goal { IsGoal checked.now goal.now }
+    requires bounds { AreBoundsFor checked.now.signature bounds.now }
+    requires size { size ≤ limits.now.ground_size }
+    requires pass { RestrictedPassesFirst (ceilings limits.now) checked.now
+        (bounds_on checked.now.signature (numbers_within bounds.now)) goal.now None }
+    ensures { IfOk result (IsAttempt (ceilings limits.now) checked.now
+        (bounds_on checked.now.signature (numbers_within bounds.now)) goal.now) }
+{
     bound_law();
+    saying_law();
     let narrowed = narrowed(limits, size);
-    match decide_by(alloc, checked, goal, bounds, Saying::Short, &narrowed)? {
+    match decide_by(alloc, checked, goal, bounds, saying, &narrowed)? {
         Decision::Holds(_) => Ok(Attempt::Refuted),
-        Decision::Fails(smaller) => Ok(Attempt::Found(smaller)),
+        Decision::Fails(found) => {
+            let kept = kept(alloc, checked, goal, bounds, found, limits)?;
+            Ok(kept)
+        }
         Decision::Undecided(_) => Ok(Attempt::Open),
+    }
+}
+
+// What is found, where it is within the bounds: that is looked at.
+fn kept(
+    alloc: Global,
+    checked: &Checked,
+    goal: &Goal,
+    bounds: &Bounds,
+    found: Counterexample,
+    limits: &Limits,
+) -> Mem<Attempt>
+    requires bounds { AreBoundsFor checked.now.signature bounds.now }
+    requires failing { IsFailing (ceilings limits.now) checked.now goal.now found }
+    requires pass { RestrictedPassesFirst (ceilings limits.now) checked.now
+        (bounds_on checked.now.signature (numbers_within bounds.now)) goal.now None }
+    ensures { IfOk result (IsAttempt (ceilings limits.now) checked.now
+        (bounds_on checked.now.signature (numbers_within bounds.now)) goal.now) }
+{
+    bound_law();
+    let numbers = extent(alloc, checked.model().signature(), &found.structure)?;
+    if is_within(&numbers, bounds) {
+        Ok(Attempt::Found(found))
+    } else {
+        Ok(Attempt::Open)
     }
 }
 
@@ -115,12 +193,11 @@ fn measure(
     limits: &Limits,
 ) -> Mem<Measured>
     requires goal { IsGoal checked.now goal.now }
-    requires bounds { AreBoundsFor checked.now bounds.now }
+    requires bounds { AreBoundsFor checked.now.signature bounds.now }
     ensures { IfOk result (IsRestrictedMeasured (ceilings limits.now) checked.now
-        (size_bounds 0 (sizes_within bounds.now)) goal.now) }
+        (bounds_on checked.now.signature (numbers_within bounds.now)) goal.now) }
 {
-    bound_law();
-    let sentences = size_bounds(alloc, bounds, Saying::Named)?;
+    let sentences = bounds_on(alloc, checked.model().signature(), bounds, Saying::Named)?;
     let measured = measure_where(alloc, checked, goal, &sentences, limits)?;
     Ok(measured)
 }
@@ -135,12 +212,11 @@ fn decide_by(
     limits: &Limits,
 ) -> Mem<Decision>
     requires goal { IsGoal checked.now goal.now }
-    requires bounds { AreBoundsFor checked.now bounds.now }
+    requires bounds { AreBoundsFor checked.now.signature bounds.now }
     ensures { IfOk result (IsRestrictedDecision (ceilings limits.now) checked.now
-        (bounds_by (said_by saying) 0 (sizes_within bounds.now)) goal.now) }
+        (bounds_by (said_by checked.now.signature saying bounds.now.place) 0 (numbers_within bounds.now)) goal.now) }
 {
-    bound_law();
-    let sentences = size_bounds(alloc, bounds, saying)?;
+    let sentences = bounds_on(alloc, checked.model().signature(), bounds, saying)?;
     let decision = decide_where(alloc, checked, goal, &sentences, limits)?;
     Ok(decision)
 }

@@ -10,6 +10,7 @@ use Rattle.rml_command.specs.Models.{ModelTree}
 use Rattle.rml_command.specs.Fragment.{IsChecked}
 use Rattle.rml_command.specs.Goals.{IsGoal}
 use Rattle.rml_command.specs.declared.goal.Goal.{Goal}
+use Rattle.rml_wp.specs.declared.premises.Premises.TheVariants.{All}
 use Rattle.rml_wp.specs.Preconditions.{goal_passes_limit}
 use Rattle.rml_report.specs.declared.cause.Cause.{Cause}
 use Rattle.rml_report.specs.declared.cause.Cause.TheVariants as cause
@@ -25,7 +26,7 @@ module _ (laws : AreRead) (skolem : EachIsSkolemised) (limits : Ceilings) (m : M
   sentence-one a b pa pb =
       let p = refuting_sentence m goal in
       let sig = symbols m.signature in
-      let fits = normal-fits laws.normals m goal checked g p (alone laws m goal checked) in
+      let fits = normal-fits laws.normals All m goal checked g p (alone laws m goal checked) in
       let grows = (skolem m.signature (normal true p) fits).grows.grows in
       let more = symbols (skolem_signature m.signature p) in
       let ca = pa.1.terms in

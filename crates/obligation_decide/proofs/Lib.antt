@@ -6,3 +6,4 @@ mod Cycles
 mod OneCount
 mod FirstLimit
 mod Restricting
+mod Holding

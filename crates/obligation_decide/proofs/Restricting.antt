@@ -32,9 +32,11 @@ use Rattle.rml_command.specs.Models.{ModelTree, FitsModel}
 use Rattle.rml_command.specs.Outcomes.{all_of, is_true}
 use Rattle.rml_command.specs.Goals.{IsGoal}
 use Rattle.rml_command.specs.declared.goal.Goal.{Goal}
+use Rattle.rml_wp.specs.declared.premises.Premises.TheVariants.{All}
 use Rattle.rml_wp.specs.Preconditions.{goal_passes_limit, refuting_parts, refuting_of}
-use Rattle.rml_wp.specs.Added.{refuting_all, NoPartsAreAdded}
-use Rattle.rml_wp.specs.Laws.{RefutingIsExact}
+use Rattle.rml_wp.specs.Added.{AreAdded, refuting_all, NoPartsAreAdded}
+use Rattle.rml_wp.specs.Laws.{RefutingIsExact, AllConjecturesHeld}
+use Rattle.rml_exec.specs.declared.trace.Counterexample.{Counterexample}
 use Rattle.rml_report.specs.declared.cause.Cause.{Cause}
 use Rattle.rml_report.specs.declared.cause.Cause.TheVariants as cause
 use Rattle.ea_decide.specs.declared.decided.Passed.{Passed}
@@ -42,9 +44,10 @@ use Rattle.ea_decide.specs.declared.decided.Passed.TheVariants as passed
 use Rattle.ea_decide.specs.Passing.{Ceilings, Passes}
 use Rattle.ea_decide.specs.Decisions.{Refutes, SpendsBudget, IsOver}
 use Rattle.obligation_decide.specs.GoalPassing.{cause_of, first_cause}
-use Rattle.obligation_decide.specs.GoalDecisions.{IsDecision}
+use Rattle.obligation_decide.specs.GoalDecisions.{IsFailing, IsDecision}
 use Rattle.obligation_decide.specs.WithConstants.{HoldsWithConstants}
-use Rattle.obligation_decide.specs.Restricted.{with_parts, IsSentenceDecision, RestrictedSentencePasses}
+use Rattle.obligation_decide.specs.Restricted.{with_parts, IsSentenceFailing, IsSentenceDecision}
+use Rattle.obligation_decide.specs.Restricted.{RestrictedSentencePasses}
 use Rattle.obligation_decide.specs.Restricted.{RestrictedPassesFirst, IsLeftOpenWhere, IsRestrictedDecision}
 use Rattle.obligation_decide.specs.Costs.{IsSentenceMeasured, IsRestrictedMeasured}
 use Rattle.obligation_decide.specs.declared.decision.Decision.{Decision}
@@ -85,6 +88,11 @@ holds-without kept skolem sig p t fits model =
     let w = (skolem sig (normal true p) fits).models.without t model in
     sym (kept (reading (reduct (symbols sig) t)) true p []) ∙ w.holds
 
+-- what is known of refuting sentences
+pub record AreExact : Type 0 where
+  pub all : RefutingIsExact
+  pub same : AllConjecturesHeld
+
 module _ (limits : Ceilings) (m : ModelTree) (goal : Goal) where
   module _ (more : List FormTree) (within : goal_passes_limit m goal ≡ false) where
     passes : (first : Option Cause) → RestrictedSentencePasses limits m more goal first
@@ -110,20 +118,31 @@ module _ (limits : Ceilings) (m : ModelTree) (goal : Goal) where
         → IsSentenceMeasured limits m p d → IsRestrictedMeasured limits m more goal d
     measured_by p d is h = by_measure d (subst (λ (q : FormTree). IsSentenceMeasured limits m q d) is h)
 
-    module _ (exact : RefutingIsExact) (fits : FitsModel m) (g : IsGoal m goal) where
+    module _ (laws : AreExact) (fits : FitsModel m) (g : IsGoal m goal) (added : AreAdded m m.conjectures more) where
+      failing : (shown : Counterexample)
+          → IsSentenceFailing limits m (refuting_all m m.conjectures more goal) goal shown
+          → IsFailing limits m goal shown
+      failing shown h = record {
+        same = h.same;
+        path = h.path;
+        refutes = (laws.same m goal shown.structure shown.trace.havoc shown.values).0
+            (h.refutes m.conjectures more added refl);
+        few = h.few;
+      }
+
       by_sentence : (d : Decision) → IsSentenceDecision limits m (refuting_all m m.conjectures more goal) goal d
           → IsRestrictedDecision limits m more goal d
       by_sentence (Holds proof) h = (
         passes None (None, h.0, refl),
         (λ s elements values counterexample lawful.
-            let parts = (exact m goal s fits g counterexample.structure).1 (elements, values, counterexample) in
+            let parts = (laws.all m goal s fits g counterexample.structure).1 (elements, values, counterexample) in
             h.1 s counterexample.structure (both-true (reading s) (refuting_parts m m.conjectures goal) more parts
             lawful)),
         h.2,
       )
       by_sentence (Fails shown) h = (
         passes None (None, h.0, refl),
-        (h.1, others-true (reading shown.structure) (refuting_parts m m.conjectures goal) more h.2),
+        (failing shown h.1, others-true (reading shown.structure) (refuting_parts m m.conjectures goal) more h.2),
       )
       by_sentence (Undecided c) h = subst (IsLeftOpenWhere limits m more goal) (sym h.1) (over h.0 h.2)
 
@@ -142,13 +161,13 @@ module _ (limits : Ceilings) (m : ModelTree) (goal : Goal) where
         subst
         (λ (q : FormTree). MatchBool (goal_passes_limit m goal) (first ≡ Some cause.Formula)
         ((p : Option Passed) × Passes limits m.signature q p × (first ≡ first_cause p)))
-        (alone m m.conjectures goal) h
+        (alone All m m.conjectures goal) h
 
     pub unrestricted : (d : Decision) → IsRestrictedDecision limits m [] goal d → IsDecision limits m goal d
     unrestricted (Holds proof) h = (
       first-alone None h.0,
       (λ s elements values counterexample. h.1 s elements values counterexample refl),
-      subst (λ (q : FormTree). Refutes m.signature q proof) (alone m m.conjectures goal) h.2,
+      subst (λ (q : FormTree). Refutes m.signature q proof) (alone All m m.conjectures goal) h.2,
     )
     unrestricted (Fails shown) h = (first-alone None h.0, h.1.0)
     unrestricted (Undecided cause.Formula) h = first-alone (Some cause.Formula) h
@@ -157,5 +176,5 @@ module _ (limits : Ceilings) (m : ModelTree) (goal : Goal) where
     unrestricted (Undecided (cause.Conflicts n)) h = (
       first-alone None h.0,
       h.1,
-      subst (λ (q : FormTree). SpendsBudget m.signature q n) (alone m m.conjectures goal) h.2,
+      subst (λ (q : FormTree). SpendsBudget m.signature q n) (alone All m m.conjectures goal) h.2,
     )

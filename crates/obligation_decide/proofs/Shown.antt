@@ -11,14 +11,15 @@ use Rattle.fol_nnf.specs.Normal.{normal}
 use Rattle.skolem.specs.Laws.{HasConstant, ConstantsAreThere}
 use Rattle.rml_command.specs.Models.{ModelTree}
 use Rattle.rml_command.specs.Fragment.{IsChecked}
-use Rattle.rml_command.specs.Goals.{IsGoal, IsCounterexample}
+use Rattle.rml_command.specs.Goals.{IsGoal}
 use Rattle.rml_command.specs.declared.goal.Goal.{Goal}
-use Rattle.rml_wp.specs.Added.{refuting_all, NoPartsAreAdded, ConjecturesAreAdded}
-use Rattle.rml_wp.specs.Laws.{AllConjecturesHeld}
-use Rattle.rml_wp.specs.Witnesses.{witness_places, values_at}
+use Rattle.rml_wp.specs.declared.premises.Premises.{Premises}
+use Rattle.rml_wp.specs.declared.premises.Premises.TheVariants.{All}
+use Rattle.rml_wp.specs.Added.{refuting_all_by, RefutingSentencesFit, NoPartsAreAdded, ConjecturesAreAdded}
+use Rattle.rml_wp.specs.Witnesses.{witness_places_by, values_at}
 use Rattle.witness.specs.Laws.{IsRefutingNormal, RefutingNormalsFit, ModelsGiveCounterexamples}
 use Rattle.obligation_decide.specs.GoalPassing.{refuting_sentence}
-use Rattle.obligation_decide.specs.Restricted.{IsRefutingWith}
+use Rattle.obligation_decide.specs.Restricted.{IsRefutingWith, RefutesAs}
 use Rattle.obligation_decide.specs.WithConstants.{constant_sorts, HoldsWithConstants}
 
 -- what is known of refuting sentences
@@ -34,21 +35,30 @@ pub record AreCounted (m : ModelTree) (p : FormTree) (f n : ℕ) : Type 0 where
   pub few : length m.signature.functions + length (constant_sorts p) < 2 ^ 32
 
 -- the refuting sentence has no further parts
-pub alone : AreRead → (m : ModelTree) (goal : Goal) → IsChecked m → IsRefutingWith m goal (refuting_sentence m goal)
+pub alone : AreRead → (m : ModelTree) (goal : Goal) → IsChecked m → IsRefutingWith All m goal (refuting_sentence m goal)
 alone laws m goal checked = record {
+  held = m.conjectures;
   more = [];
   added = (laws.conjectures m [] checked tt tt).all;
-  is = sym (laws.none m m.conjectures goal);
+  is = sym (laws.none All m m.conjectures goal);
 }
 
-module _ (normals : RefutingNormalsFit) (m : ModelTree) (goal : Goal) (checked : IsChecked m) (g : IsGoal m goal)
-    (p : FormTree) (with : IsRefutingWith m goal p) where
+-- a refuting sentence with further parts is one of the model
+pub given_fits : RefutingSentencesFit → (premises : Premises) (m : ModelTree) (goal : Goal) (p : FormTree) → IsChecked m
+    → IsGoal m goal → IsRefutingWith premises m goal p → FitsForm (symbols m.signature) [] p
+given_fits fit premises m goal p checked g with =
+    subst (λ (q : FormTree). FitsForm (symbols m.signature) [] q) (sym with.is)
+    (fit premises m with.held with.more goal checked g with.added).fits
+
+module _ (normals : RefutingNormalsFit) (premises : Premises) (m : ModelTree) (goal : Goal) (checked : IsChecked m)
+    (g : IsGoal m goal)
+    (p : FormTree) (with : IsRefutingWith premises m goal p) where
   -- the refuting sentence with these parts
-  whole : p ≡ refuting_all m m.conjectures with.more goal
+  whole : p ≡ refuting_all_by premises m with.held with.more goal
   whole = with.is
 
-  normal_fits : IsRefutingNormal m m.conjectures with.more goal
-  normal_fits = normals m m.conjectures with.more goal checked g with.added
+  normal_fits : IsRefutingNormal premises m with.held with.more goal
+  normal_fits = normals premises m with.held with.more goal checked g with.added
 
   pub normal-fits : FitsForm (symbols m.signature) [] (normal true p)
   normal-fits =
@@ -61,7 +71,7 @@ module _ (normals : RefutingNormalsFit) (m : ModelTree) (goal : Goal) (checked :
       subst (λ (q : FormTree). existentials q ≡ length (constant_sorts q)) (sym whole) count
 
   module _ (t : Tables) (model : HoldsWithConstants m.signature p t) (f n : ℕ) (h : AreCounted m p f n) where
-    all-counted : n ≡ length (constant_sorts p)
+    pub all-counted : n ≡ length (constant_sorts p)
     all-counted = let same = constant-count in let e = h.count in let few = h.few in omega (arith, e, same, few)
 
     pub each-there : ConstantsAreThere → (i : ℕ) → i < n → HasConstant t (f + i)
@@ -71,16 +81,16 @@ module _ (normals : RefutingNormalsFit) (m : ModelTree) (goal : Goal) (checked :
         (there m.signature (normal true p) t normal-fits model.structure i within)
 
     -- with the values of the constants it is a counterexample
-    pub is-shown : ModelsGiveCounterexamples → AllConjecturesHeld → (xs : List ℕ)
+    pub is-shown : ModelsGiveCounterexamples → (xs : List ℕ)
         → ((i : ℕ) → i < n → get_or xs i 0 ≡ fun_at t (f + i) [])
-        → IsCounterexample m goal (reduct (symbols m.signature) t)
-        (values_at xs (witness_places m goal).havocs) (values_at xs (witness_places m goal).values)
-    is-shown models same xs values =
+        → RefutesAs premises m goal p (reduct (symbols m.signature) t)
+        (values_at xs (witness_places_by premises m goal).havocs)
+        (values_at xs (witness_places_by premises m goal).values)
+    is-shown models xs values held more added is =
         let each = λ (q : FormTree).
         (i : ℕ) → i < length (constant_sorts q) → get_or xs i 0 ≡ fun_at t (length m.signature.functions + i) [] in
         let read : each p = λ i lt.
         let within : i < n = subst (λ (k : ℕ). i < k) (sym all-counted) lt in
         values i within ∙ ap (λ (k : ℕ). fun_at t (k + i) []) h.functions in
-        let holds = subst (λ (q : FormTree). HoldsWithConstants m.signature q t) whole model in
-        (same m goal _ _ _).0 (models m m.conjectures with.more goal t xs checked g with.added holds
-        (subst each whole read))
+        let holds = subst (λ (q : FormTree). HoldsWithConstants m.signature q t) is model in
+        models premises m held more goal t xs checked g added holds (subst each is read)

@@ -1,10 +1,14 @@
 -- What is answered of a goal, and of the axioms, and what shows it.
-use Rattle.std.specs.Prelude.{◌≡◌, ◌≤◌, sum, Some, None}
+use Rattle.std.specs.Prelude.{◌≡◌, ◌≤◌, ℕ, List, sum, Some, None}
+use Rattle.fol_sig.specs.Tables.{Tables}
+use Rattle.fol_formula.specs.Syntax.{FormTree}
 use Rattle.rml_command.specs.Models.{ModelTree}
 use Rattle.rml_command.specs.Outcomes.{all_of}
 use Rattle.rml_command.specs.Goals.{IsCounterexample, HasNone}
 use Rattle.rml_command.specs.declared.goal.Goal.{Goal}
 use Rattle.rml_exec.specs.declared.trace.Counterexample.{Counterexample}
+use Rattle.rml_wp.specs.Preconditions.{refuting_of}
+use Rattle.rml_wp.specs.Laws.{IsCounterexampleBy}
 use Rattle.rml_report.specs.declared.cause.Cause.{Cause}
 use Rattle.rml_report.specs.declared.cause.Cause.TheVariants as cause
 use Rattle.rml_report.specs.declared.report.Axioms.{Axioms}
@@ -13,7 +17,7 @@ use Rattle.rml_report.specs.Reports.{AxiomsAre}
 use Rattle.ea_decide.specs.declared.decided.Passed.{Passed}
 use Rattle.ea_decide.specs.Passing.{Ceilings, Passes}
 use Rattle.ea_decide.specs.Decisions.{Refutes, SpendsBudget, IsOver}
-use Rattle.obligation_decide.specs.GoalPassing.{cause_of, refuting_sentence, PassesFirst}
+use Rattle.obligation_decide.specs.GoalPassing.{cause_of, refuting_sentence, PassesFirst, PassesFirstBy}
 use Rattle.obligation_decide.specs.declared.decision.Decision.{Decision}
 use Rattle.obligation_decide.specs.declared.decision.Decision.TheVariants.{Holds, Fails, Undecided}
 
@@ -24,12 +28,18 @@ pub record IsFailing (limits : Ceilings) (m : ModelTree) (goal : Goal) (shown : 
   pub refutes : IsCounterexample m goal shown.structure shown.trace.havoc shown.values
   pub few : sum shown.structure.sizes ≤ limits.terms
 
--- A goal is left open: it passes no limit by its size, and the budget of conflicts is spent on its clauses; or it
--- passes this limit.
-abbrev pub IsLeftOpen : Ceilings → ModelTree → Goal → Cause → Type 0
-IsLeftOpen limits m goal (cause.Conflicts n) =
-    PassesFirst limits m goal None × (n ≡ limits.conflicts) × SpendsBudget m.signature (refuting_sentence m goal) n
-IsLeftOpen limits m goal c = PassesFirst limits m goal (Some c)
+module _ (limits : Ceilings) (m : ModelTree) where
+  -- A goal is left open, where these sentences hold before the stage in place of the conjectures: it passes no limit by
+  -- its size, and the budget of conflicts is spent on its clauses; or it passes this limit.
+  abbrev pub IsLeftOpenBy : List FormTree → Goal → Cause → Type 0
+  IsLeftOpenBy held goal (cause.Conflicts n) =
+      PassesFirstBy limits m held goal None × (n ≡ limits.conflicts)
+      × SpendsBudget m.signature (refuting_of m held goal) n
+  IsLeftOpenBy held goal c = PassesFirstBy limits m held goal (Some c)
+
+  -- the same, where all conjectures hold
+  abbrev pub IsLeftOpen : Goal → Cause → Type 0
+  IsLeftOpen goal c = IsLeftOpenBy m.conjectures goal c
 
 -- The answer to a goal under limits.
 abbrev pub IsDecision : Ceilings → ModelTree → Goal → Decision → Type 0
@@ -37,6 +47,28 @@ IsDecision limits m goal (Holds proof) =
     PassesFirst limits m goal None × HasNone m goal × Refutes m.signature (refuting_sentence m goal) proof
 IsDecision limits m goal (Fails shown) = PassesFirst limits m goal None × IsFailing limits m goal shown
 IsDecision limits m goal (Undecided c) = IsLeftOpen limits m goal c
+
+-- The execution is a counterexample of the goal, where these sentences hold before the stage in place of the
+-- conjectures. Its structure has at most so many elements as terms are allowed.
+pub record IsFailingBy (limits : Ceilings) (m : ModelTree) (held : List FormTree) (goal : Goal) (shown : Counterexample)
+    : Type 0 where
+  pub same : shown.goal ≡ goal
+  pub path : shown.trace.path ≡ goal.path
+  pub refutes : IsCounterexampleBy m held goal shown.structure shown.trace.havoc shown.values
+  pub few : sum shown.structure.sizes ≤ limits.terms
+
+-- the goal has no counterexample where these sentences hold before the stage
+abbrev pub HasNoneBy : ModelTree → List FormTree → Goal → Type 0
+HasNoneBy m held goal =
+    (s : Tables) (elements values : List ℕ) → IsCounterexampleBy m held goal s elements values → ⊥
+
+-- The answer to a goal under limits, where these sentences hold before the stage in place of the conjectures.
+abbrev pub IsDecisionBy : Ceilings → ModelTree → List FormTree → Goal → Decision → Type 0
+IsDecisionBy limits m held goal (Holds proof) =
+    PassesFirstBy limits m held goal None × HasNoneBy m held goal × Refutes m.signature (refuting_of m held goal) proof
+IsDecisionBy limits m held goal (Fails shown) =
+    PassesFirstBy limits m held goal None × IsFailingBy limits m held goal shown
+IsDecisionBy limits m held goal (Undecided c) = IsLeftOpenBy limits m held goal c
 
 -- whether some structure satisfies the axioms, decided as a sentence: their conjunction
 abbrev pub AreAxiomsDecided : Ceilings → ModelTree → Axioms → Type 0

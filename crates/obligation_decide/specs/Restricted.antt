@@ -1,6 +1,6 @@
 -- A goal where the structures must satisfy further sentences, as bounds on sizes: what is answered of it, and what of
 -- the sentence by which it is decided.
-use Rattle.std.specs.Prelude.{◌≡◌, ℕ, true, MatchBool, List, ◌∷◌, ◌++◌, Option, Some, None}
+use Rattle.std.specs.Prelude.{◌≡◌, ◌≤◌, ℕ, true, MatchBool, List, ◌∷◌, ◌++◌, sum, Option, Some, None}
 use Rattle.fol_sig.specs.Tables.{Tables}
 use Rattle.fol_formula.specs.Syntax.{FormTree, conjunction, list_of_forms}
 use Rattle.rml_command.specs.Models.{ModelTree}
@@ -9,7 +9,10 @@ use Rattle.rml_command.specs.Goals.{IsCounterexample}
 use Rattle.rml_command.specs.declared.goal.Goal.{Goal}
 use Rattle.rml_exec.specs.declared.trace.Counterexample.{Counterexample}
 use Rattle.rml_wp.specs.Preconditions.{goal_passes_limit}
-use Rattle.rml_wp.specs.Added.{AreAdded, refuting_all}
+use Rattle.rml_wp.specs.declared.premises.Premises.{Premises}
+use Rattle.rml_wp.specs.declared.premises.Premises.TheVariants.{All}
+use Rattle.rml_wp.specs.Added.{AreAdded, refuting_all, refuting_all_by}
+use Rattle.rml_wp.specs.Laws.{IsCounterexampleBy}
 use Rattle.rml_report.specs.declared.cause.Cause.{Cause}
 use Rattle.rml_report.specs.declared.cause.Cause.TheVariants as cause
 use Rattle.ea_decide.specs.declared.decided.Passed.{Passed}
@@ -25,18 +28,35 @@ abbrev pub with_parts : FormTree → List FormTree → FormTree
 with_parts (conjunction ps) more = all_of (list_of_forms ps ++ more)
 with_parts p more = all_of (p ∷ more)
 
--- The sentence is the refuting sentence of the goal with further parts.
-pub record IsRefutingWith (m : ModelTree) (goal : Goal) (p : FormTree) : Type 0 where
+-- The sentence is a refuting sentence of the goal, in which these axioms are premises behind a step, with further
+-- parts, where some sentences hold before the stage in place of the conjectures.
+pub record IsRefutingWith (premises : Premises) (m : ModelTree) (goal : Goal) (p : FormTree) : Type 0 where
+  pub held : List FormTree
   pub more : List FormTree
-  pub added : AreAdded m m.conjectures more
-  pub is : p ≡ refuting_all m m.conjectures more goal
+  pub added : AreAdded m held more
+  pub is : p ≡ refuting_all_by premises m held more goal
+
+-- Whatever holds before the stage where the sentence is such a refuting sentence of the goal, with these elements and
+-- values the structure is a counterexample.
+abbrev pub RefutesAs : Premises → ModelTree → Goal → FormTree → Tables → List ℕ → List ℕ → Type 0
+RefutesAs premises m goal p s elements values =
+    (held more : List FormTree) → AreAdded m held more → p ≡ refuting_all_by premises m held more goal
+    → IsCounterexampleBy m held goal s elements values
+
+-- The execution is one, of a sentence in which all axioms are premises. Private contracts alone cite this.
+pub record IsSentenceFailing (limits : Ceilings) (m : ModelTree) (p : FormTree) (goal : Goal) (shown : Counterexample) :
+    Type 0 where
+  pub same : shown.goal ≡ goal
+  pub path : shown.trace.path ≡ goal.path
+  pub refutes : RefutesAs All m goal p shown.structure shown.trace.havoc shown.values
+  pub few : sum shown.structure.sizes ≤ limits.terms
 
 -- The answer to such a sentence. Private contracts alone cite this.
 abbrev pub IsSentenceDecision : Ceilings → ModelTree → FormTree → Goal → Decision → Type 0
 IsSentenceDecision limits m p goal (Holds proof) =
     Passes limits m.signature p None × HasNoModel m.signature p × Refutes m.signature p proof
 IsSentenceDecision limits m p goal (Fails shown) =
-    Passes limits m.signature p None × IsFailing limits m goal shown × (is_true shown.structure p ≡ true)
+    Passes limits m.signature p None × IsSentenceFailing limits m p goal shown × (is_true shown.structure p ≡ true)
 IsSentenceDecision limits m p goal (Undecided c) =
     (passed : Passed) × (c ≡ cause_of passed) × IsOver limits m.signature p passed
 

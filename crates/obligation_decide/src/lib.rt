@@ -12,15 +12,17 @@ mod measuring;
 mod parts;
 mod walk;
 
-ghost use Rattle.std.specs.Prelude.{◌≡◌, [], IfOk};
+ghost use Rattle.std.specs.Prelude.{◌≡◌, ◌<◌, [], length, All, IfOk};
 ghost use Rattle.std.specs.List.{AllByRecursion};
 ghost use Rattle.fol_sig.specs.Symbols.{symbols};
 ghost use Rattle.fol_formula.specs.Fits.{FitsForm};
 ghost use Rattle.fol_formula.specs.Fragments.{IsEa};
 ghost use Rattle.rml_command.specs.Goals.{IsGoal};
+ghost use Rattle.rml_wp.specs.declared.premises.Premises.TheVariants.{All as AllAxioms};
+ghost use Rattle.rml_wp.specs.Preconditions.{conjectures_of};
 ghost use Rattle.ea_decide.specs.Passing.{ceilings};
 ghost use Rattle.obligation_decide.specs.GoalPassing.{cause_of as named_cause};
-ghost use Rattle.obligation_decide.specs.GoalDecisions.{IsDecision};
+ghost use Rattle.obligation_decide.specs.GoalDecisions.{IsDecision, IsDecisionBy};
 ghost use Rattle.obligation_decide.specs.Restricted.{IsRefutingWith, IsSentenceDecision, IsRestrictedDecision};
 
 pub use axioms::decide_axioms;
@@ -34,8 +36,9 @@ pub use measuring::measure_where;
 use parts::restricted;
 use rml_command::{Checked, Goal};
 use rml_report::Cause;
+use rml_wp::{Premises, refuting_with};
 use std::alloc::{AllocError, Global};
-use walk::read_counterexample;
+pub use walk::read_counterexample;
 
 /// Decides a goal of the model under limits, which are looked at in their order: formula, ground terms, ground size,
 /// conflicts.
@@ -46,6 +49,33 @@ pub fn decide(alloc: Global, checked: &Checked, goal: &Goal, limits: &Limits) ->
     rml_wp::sentence_law();
     let decision = decide_where(alloc, checked, goal, &[], limits)?;
     Ok(decision)
+}
+
+/// Decides a goal of the model where before the stage the conjectures of these numbers hold in place of all, under the
+/// same limits.
+pub fn decide_with(
+    alloc: Global,
+    checked: &Checked,
+    goal: &Goal,
+    held: &[u32],
+    limits: &Limits,
+) -> Mem<Decision>
+    requires goal { IsGoal checked.now goal.now }
+    requires held { All (λ k. k < length checked.now.conjectures) held.now }
+    ensures { IfOk result
+        (IsDecisionBy (ceilings limits.now) checked.now (conjectures_of checked.now held.now) goal.now) }
+{
+    rml_wp::sentence_law();
+    rml_wp::refuting_law();
+    let _checked = checked.model();
+    match refuting_with(alloc, checked, goal, held) {
+        Ok(sentence) => {
+            let decision = decide_sentence(alloc, checked, goal, &sentence, limits)?;
+            Ok(decision)
+        }
+        Err(Refused::NoMemory) => Err(AllocError),
+        Err(Refused::For(_)) => Ok(Decision::Undecided(Cause::Formula)),
+    }
 }
 
 /// Decides whether a goal of the model has a counterexample in a structure that satisfies further sentences, under the
@@ -84,7 +114,7 @@ fn decide_sentence(
     limits: &Limits,
 ) -> Mem<Decision>
     requires goal { IsGoal checked.now goal.now }
-    requires sentence { IsRefutingWith checked.now goal.now sentence.now }
+    requires sentence { IsRefutingWith AllAxioms checked.now goal.now sentence.now }
     ensures { IfOk result (IsSentenceDecision (ceilings limits.now) checked.now sentence.now goal.now) }
 {
     rml_wp::sentence_law();
@@ -97,15 +127,15 @@ fn decide_sentence(
     match ea_decide::decide(alloc, signature, checked.strata(), sentence, &limits)? {
         Decided::Refuted(proof) => Ok(Decision::Holds(proof)),
         Decided::Satisfied(model) => {
-            let shown = read_counterexample(alloc, checked, goal, sentence, model)?;
+            let shown = read_counterexample(alloc, checked, Premises::All, goal, sentence, model)?;
             Ok(Decision::Fails(shown))
         }
         Decided::Over(passed) => Ok(Decision::Undecided(cause_of(passed))),
     }
 }
 
-// A limit, as a report names it.
-fn cause_of(passed: Passed) -> Cause
+/// A limit, as a report names it.
+pub fn cause_of(passed: Passed) -> Cause
     ensures { result ≡ named_cause passed }
 {
     match passed {

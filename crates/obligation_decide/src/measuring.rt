@@ -5,6 +5,7 @@ ghost use Rattle.fol_sig.specs.Symbols.{symbols};
 ghost use Rattle.fol_formula.specs.Fits.{FitsForm};
 ghost use Rattle.fol_formula.specs.Fragments.{IsEa};
 ghost use Rattle.rml_command.specs.Goals.{IsGoal};
+ghost use Rattle.rml_wp.specs.declared.premises.Premises.TheVariants.{All};
 ghost use Rattle.ea_decide.specs.Passing.{ceilings};
 ghost use Rattle.obligation_decide.specs.Restricted.{IsRefutingWith};
 ghost use Rattle.obligation_decide.specs.Costs.{IsSentenceMeasured, IsRestrictedMeasured};
@@ -54,7 +55,7 @@ fn measure_sentence(
     limits: &Limits,
 ) -> Mem<Measured>
     requires goal { IsGoal checked.now goal.now }
-    requires sentence { IsRefutingWith checked.now goal.now sentence.now }
+    requires sentence { IsRefutingWith All checked.now goal.now sentence.now }
     ensures { IfOk result (IsSentenceMeasured (ceilings limits.now) checked.now sentence.now) }
 {
     rml_wp::sentence_law();

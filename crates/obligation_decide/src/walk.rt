@@ -4,8 +4,8 @@ ghost use Rattle.fol_sig.specs.Tables.{fun_at};
 ghost use Rattle.fol_sig.specs.Symbols.{symbols};
 ghost use Rattle.fol_sig.specs.Constants.{reduct};
 ghost use Rattle.skolem.specs.Laws.{HasConstant};
-ghost use Rattle.rml_command.specs.Goals.{IsGoal, IsCounterexample};
-ghost use Rattle.obligation_decide.specs.Restricted.{IsRefutingWith};
+ghost use Rattle.rml_command.specs.Goals.{IsGoal};
+ghost use Rattle.obligation_decide.specs.Restricted.{IsRefutingWith, RefutesAs};
 ghost use Rattle.obligation_decide.specs.WithConstants.{constant_sorts, HoldsWithConstants};
 
 use base::Mem;
@@ -13,7 +13,7 @@ use fol_formula::Ea;
 use fol_sig::{FunId, Structure};
 use rml_command::{Checked, Goal};
 use rml_exec::{Counterexample, Trace};
-use rml_wp::read_witness;
+use rml_wp::{Premises, read_witness_by};
 use std::alloc::Global;
 
 /// The counterexample of a goal that a model of its refuting sentence is, with constants in the place of the
@@ -22,28 +22,29 @@ use std::alloc::Global;
 pub fn read_counterexample(
     alloc: Global,
     checked: &Checked,
+    premises: Premises,
     goal: &Goal,
     sentence: &Ea,
     model: Structure,
 ) -> Mem<Counterexample>
     requires goal { IsGoal checked.now goal.now }
-    requires sentence { IsRefutingWith checked.now goal.now sentence.now }
+    requires sentence { IsRefutingWith premises checked.now goal.now sentence.now }
     requires model { HoldsWithConstants checked.now.signature sentence.now model }
     requires few { length checked.now.signature.functions + length (constant_sorts sentence.now) < 2 ^ 32 }
     ensures goal { IfOk result (λ shown. shown.goal ≡ goal.now) }
     ensures path { IfOk result (λ shown. shown.trace.path ≡ goal.now.path) }
-    ensures refutes { IfOk result (λ s. IsCounterexample checked.now goal.now s.structure s.trace.havoc s.values) }
+    ensures refutes { IfOk result
+        (λ s. RefutesAs premises checked.now goal.now sentence.now s.structure s.trace.havoc s.values) }
     ensures structure { IfOk result (λ s. s.structure ≡ reduct (symbols checked.now.signature) model) }
 {
     skolem::witnesses();
-    rml_wp::refuting_law();
     witness::sentence_law();
     witness::counterexample_law();
     let signature = checked.model().signature();
     let functions = signature.function_count();
     let count = sentence.sentence().formula().existentials() as u32;
     let constants = constants(alloc, &model, functions, count)?;
-    let witness = read_witness(alloc, checked, goal, &constants)?;
+    let witness = read_witness_by(alloc, checked, premises, goal, &constants)?;
     let mut structure = model;
     structure.restrict(signature);
     Ok(Counterexample {

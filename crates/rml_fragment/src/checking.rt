@@ -30,8 +30,13 @@ pub fn check(alloc: Global, model: Model) -> Result<Checked, Refused<Fault>>
     ensures faultless { OnOk result ((fault : OneFault) → IsFault model fault → ⊥) }
     ensures fault { IfErr result (Because (IsFault model)) }
 {
-    let strata = fragment_strata(alloc, &model)?;
-    check_blocks(alloc, model, strata)
+    match fragment_strata(alloc, &model) {
+        Ok(strata) => check_blocks(alloc, model, strata),
+        Err(refused) => {
+            drop(model);
+            Err(refused)
+        }
+    }
 }
 
 // The model is in the fragment.
@@ -46,7 +51,11 @@ fn check_blocks(alloc: Global, model: Model, strata: Strata) -> Result<Checked, 
     let _ = model.signature();
     passing_law();
     match long_block_fault(&model) {
-        Some(fault) => Err(Refused::For(fault)),
+        Some(fault) => {
+            drop(model);
+            drop(strata);
+            Err(Refused::For(fault))
+        }
         None => {
             let checked = with_paths(alloc, model, strata)?;
             Ok(checked)
@@ -61,7 +70,11 @@ fn with_paths(alloc: Global, model: Model, strata: Strata) -> Mem<Checked>
     ensures { IfOk result (λ c. c ≡ model) }
 {
     match block_lists(alloc, &model) {
-        Err(wanting) => Err(wanting),
+        Err(wanting) => {
+            drop(model);
+            drop(strata);
+            Err(wanting)
+        }
         Ok(
             BlockPaths {
                 init,

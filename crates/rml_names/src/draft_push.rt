@@ -162,8 +162,8 @@ impl ModelDraft {
           };
         }) }
     {
-        self.names.axioms.insert(alloc, bytes(text, name))?;
         self.axioms.push(sentence)?;
+        self.names.axioms.insert(alloc, bytes(text, name))?;
         self.places.axioms.push(name.start)?;
         self.places.quantifiers.append(&mut quantifiers)?;
         Ok(())
@@ -191,8 +191,8 @@ impl ModelDraft {
           };
         }) }
     {
-        self.names.conjectures.insert(alloc, bytes(text, name))?;
         self.conjectures.push(sentence)?;
+        self.names.conjectures.insert(alloc, bytes(text, name))?;
         self.places.conjectures.push(name.start)?;
         self.places.quantifiers.append(&mut quantifiers)?;
         Ok(())
@@ -211,8 +211,8 @@ impl ModelDraft {
               { actions = (model_in self.old).places.actions ++ name.start ∷ [] };
         }) }
     {
-        self.names.actions.insert(alloc, bytes(text, name))?;
         self.actions.push(block)?;
+        self.names.actions.insert(alloc, bytes(text, name))?;
         self.places.actions.push(name.start)?;
         Ok(())
     }
@@ -240,17 +240,42 @@ impl ModelDraft {
         requires { IsModel (model_in self) }
         ensures { IfOk result (λ m. m ≡ model_in self) }
     {
-        let names = all_names(alloc, &self.names)?;
-        Ok(Model::new(Parts {
-            signature: self.signature,
+        match all_names(alloc, &self.names) {
+            Ok(names) => Ok(self.with_names(names)),
+            Err(wanting) => {
+                drop(self);
+                Err(wanting)
+            }
+        }
+    }
+
+    // The model, with these lists for the tables of its names.
+    fn with_names(self, names: Names) -> Model
+        requires same { names ≡ names_in self.names }
+        requires model { IsModel (model_in self) }
+        ensures { result ≡ model_in self }
+    {
+        let ModelDraft {
+            signature,
+            names: tables,
+            axioms,
+            conjectures,
+            init,
+            actions,
+            last,
+            places,
+        } = self;
+        drop(tables);
+        Model::new(Parts {
+            signature,
             names,
-            axioms: Row::from_vec(self.axioms),
-            conjectures: Row::from_vec(self.conjectures),
-            init: self.init,
-            actions: Row::from_vec(self.actions),
-            last: self.last,
-            places: all_places(self.places),
-        }))
+            axioms: Row::from_vec(axioms),
+            conjectures: Row::from_vec(conjectures),
+            init,
+            actions: Row::from_vec(actions),
+            last,
+            places: all_places(places),
+        })
     }
 }
 

@@ -4,8 +4,8 @@ use Rattle.std.proofs.Common.{arith}
 use Rattle.std.proofs.lemmas.List.Elements.{All-get_or}
 use Rattle.fol_sig.specs.Tables.{Tables, InRange, IsStructure, IsFullRelation, IsFullFunction, relation_at, function_at}
 use Rattle.rml_report.specs.TableText.{arguments_of, IsCell, HasSymbol, EachTuple}
-use Rattle.rml_report.specs.declared.tables.Symbol.{Symbol}
-use Rattle.rml_report.specs.declared.tables.Symbol.TheVariants as symbol
+use Rattle.rml_report.specs.declared.structures.Symbol.{Symbol}
+use Rattle.rml_report.specs.declared.structures.Symbol.TheVariants as symbol
 
 module _ (s : Tables) where
   in_range_behind : (ks xs : List ℕ) (k x : ℕ) → InRange s.sizes ks xs → x < slice_index s.sizes k

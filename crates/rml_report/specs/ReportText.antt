@@ -14,6 +14,8 @@ use Rattle.rml_command.specs.declared.goal.About.TheVariants as about
 use Rattle.rml_exec.specs.declared.trace.Counterexample.{Counterexample}
 use Rattle.rml_report.specs.Words.{name_at, labelled, cause_text, numbers_line}
 use Rattle.rml_report.specs.TableText.{tables_text, sorts_text}
+use Rattle.rml_report.specs.declared.cause.Bound.{Bound}
+use Rattle.rml_report.specs.declared.cause.Bound.TheVariants as at
 use Rattle.rml_report.specs.declared.cause.Cause.{Cause}
 use Rattle.rml_report.specs.declared.cause.Least.{Least}
 use Rattle.rml_report.specs.declared.cause.Least.TheVariants as least
@@ -43,13 +45,17 @@ head_text names s a = stage_text names s ++ about_text names a
 unfoldable pub path_line : ℕ → ℕ → List ℕ
 path_line path paths = codes "  path " ++ decimal path ++ codes " of " ++ decimal paths ++ codes "\n"
 
-unfoldable pub stopped_text : List ℕ → ℕ → Cause → List ℕ
-stopped_text sort size cause =
-    labelled (codes "stopped ") sort (codes " ") ++ decimal size ++ codes " " ++ cause_text cause
+-- the sort's name; or the word `relation` and the relation's name
+abbrev pub bound_text : Names → Bound → List ℕ
+bound_text names (at.Sort k) = labelled (codes "stopped ") (name_at names.sorts k.0) (codes " ")
+bound_text names (at.Rel r) = labelled (codes "stopped relation ") (name_at names.relations r.0) (codes " ")
+
+unfoldable pub stopped_text : Names → Bound → ℕ → Cause → List ℕ
+stopped_text names bound size cause = bound_text names bound ++ decimal size ++ codes " " ++ cause_text cause
 
 abbrev pub least_text : Names → Least → List ℕ
 least_text names least.Yes = codes "yes"
-least_text names (least.Stopped sort size cause) = stopped_text (name_at names.sorts sort.0) size cause
+least_text names (least.Stopped bound size cause) = stopped_text names bound size cause
 
 unfoldable pub least_line : Names → Least → List ℕ
 least_line names l = codes "  least: " ++ least_text names l ++ codes "\n"
@@ -77,11 +83,15 @@ abbrev pub outcome_text : ModelTree → About → Counterexample → List ℕ
 outcome_text m about.Abort shown = codes "  aborts\n"
 outcome_text m (about.Conjecture k) shown = end_text m shown
 
+-- an execution: the structure in which it begins, the elements of its havocs, and how it ends
+unfoldable pub execution_text : ModelTree → About → Counterexample → List ℕ
+execution_text m a shown =
+    codes "  before\n" ++ sorts_text m.names shown.structure ++ tables_text m.names shown.structure
+    ++ numbers_line (codes "  havoc:") shown.trace.havoc ++ outcome_text m a shown
+
 unfoldable pub block_text : ModelTree → About → ℕ → Least → Counterexample → List ℕ
 block_text m a paths l shown =
-    codes ": fails\n" ++ path_line shown.trace.path paths ++ least_line m.names l
-    ++ codes "  before\n" ++ sorts_text m.names shown.structure ++ tables_text m.names shown.structure
-    ++ numbers_line (codes "  havoc:") shown.trace.havoc ++ outcome_text m a shown
+    codes ": fails\n" ++ path_line shown.trace.path paths ++ least_line m.names l ++ execution_text m a shown
 
 unfoldable pub undecided_text : ℕ → Cause → List ℕ
 undecided_text path cause = codes ": undecided path " ++ decimal path ++ codes " " ++ cause_text cause ++ codes "\n"

@@ -27,6 +27,11 @@ head_of g = record { stage = g.stage; about = g.about }
 abbrev pub goal_at : goals.Group → ℕ → Goal
 goal_at group path = record { stage = group.stage; path = path; about = group.about }
 
+-- An execution along the path of a goal of the model, from a structure of its signature.
+pub record IsExecution (m : ModelTree) (shown : Counterexample) : Type 0 where
+  pub goal : IsGoal m shown.goal
+  pub structure : FitsStructure (symbols m.signature) shown.structure
+
 -- The execution is a counterexample of its goal.
 pub record IsRefutation (m : ModelTree) (shown : Counterexample) : Type 0 where
   pub goal : IsGoal m shown.goal

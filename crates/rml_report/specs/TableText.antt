@@ -5,8 +5,8 @@ use Rattle.fol_sig.specs.Tables.{Tables, InRange, relation_at, function_at, size
 use Rattle.fol_sig.specs.Tuples.{join_below}
 use Rattle.rml_command.specs.declared.names.Names.{Names}
 use Rattle.rml_report.specs.Words.{name_at, labelled, truth_text}
-use Rattle.rml_report.specs.declared.tables.Symbol.{Symbol}
-use Rattle.rml_report.specs.declared.tables.Symbol.TheVariants as symbol
+use Rattle.rml_report.specs.declared.structures.Symbol.{Symbol}
+use Rattle.rml_report.specs.declared.structures.Symbol.TheVariants as symbol
 
 -- the texts of the tuples of these sorts, in lexicographic order, each behind the elements `before`
 abbrev pub each_tuple : List ℕ → (List ℕ → List ℕ) → List ℕ → List ℕ → List ℕ

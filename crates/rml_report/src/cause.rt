@@ -1,5 +1,5 @@
 // Why something was left open, and whether a shown structure is least.
-use fol_sig::Sort;
+use fol_sig::{RelId, Sort};
 
 /// Why a question was left open: its formula is too large, the counted ground terms or the counted
 /// ground size exceed their limit, or the budget of conflicts is spent.
@@ -14,10 +14,18 @@ pub enum Cause {
     Conflicts(u64),
 }
 
-/// Whether no counterexample of the goal has smaller sizes, the sorts taken in order.
+/// What a trial bounds: how many elements a sort has, or of how many tuples a relation is true.
+#[derive(Clone, Copy, Debug, PartialEq, Eq)]
+pub enum Bound {
+    Sort(Sort),
+    Rel(RelId),
+}
+
+/// Whether the sizes of the sorts and then the numbers of true tuples of the relations, each taken in order of
+/// declaration, are least among the counterexamples of the goal.
 #[derive(Clone, Copy, Debug, PartialEq, Eq)]
 pub enum Least {
     Yes,
-    /// Whether this sort may have at most `size` elements was left open.
-    Stopped { sort: Sort, size: u64, cause: Cause },
+    /// Whether there may be at most `size` elements, or true tuples, was left open.
+    Stopped { at: Bound, size: u64, cause: Cause },
 }

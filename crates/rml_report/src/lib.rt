@@ -6,11 +6,13 @@ mod cause;
 mod laws;
 mod rendering;
 mod report;
-mod tables;
+mod structures;
 mod words;
 
-pub use cause::{Cause, Least};
+pub use block::{push_execution, push_path_line};
+pub use cause::{Bound, Cause, Least};
 pub use laws::{rendering_law, report_law};
-pub use rendering::render;
+pub use rendering::{push_head, push_stage, render};
 pub use report::{Answer, Axioms, Group, Report, Verdict};
-pub use words::push_cause;
+pub use structures::{push_sorts, push_tables, tables};
+pub use words::{push_cause, push_labelled, push_name, push_numbers_line};

@@ -22,7 +22,8 @@ fn push_action(out: &mut Vec<u8>, names: &Names, action: u32) -> Mem<()>
     Ok(())
 }
 
-fn push_stage(out: &mut Vec<u8>, names: &Names, stage: Stage) -> Mem<()>
+/// Adds `init`, `action NAME` or `final`.
+pub fn push_stage(out: &mut Vec<u8>, names: &Names, stage: Stage) -> Mem<()>
     ensures { OnOk result (out.new.items ≡ out.old.items ++ stage_text names.now stage) }
 {
     match stage {
@@ -50,8 +51,9 @@ fn push_about(out: &mut Vec<u8>, names: &Names, about: About) -> Mem<()>
     }
 }
 
+/// Adds the head of a group: its stage, and what is forbidden there.
 #[tactic(auto, using(std::proofs::Common::append_assoc), unfolding(crate::specs::ReportText::head_text))]
-fn push_head(out: &mut Vec<u8>, names: &Names, stage: Stage, about: About) -> Mem<()>
+pub fn push_head(out: &mut Vec<u8>, names: &Names, stage: Stage, about: About) -> Mem<()>
     ensures { OnOk result (out.new.items ≡ out.old.items ++ head_text names.now stage about) }
 {
     push_stage(out, names, stage)?;

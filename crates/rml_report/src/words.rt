@@ -6,7 +6,7 @@ use crate::cause::Cause;
 use base::{Mem, push_number, push_text};
 use rml_command::Name;
 
-// The name of this number; nothing where there is none.
+/// Adds the name of this number; nothing where there is none.
 pub fn push_name(out: &mut Vec<u8>, names: &[Name], k: u32) -> Mem<()>
     ensures { OnOk result (out.new.items ≡ out.old.items ++ name_at names.now k) }
 {
@@ -16,7 +16,7 @@ pub fn push_name(out: &mut Vec<u8>, names: &[Name], k: u32) -> Mem<()>
     }
 }
 
-// A name between two words.
+/// Adds a name between two words; nothing stands for one that is not there.
 #[tactic(auto, using(std::proofs::Common::append_assoc), unfolding(crate::specs::Words::labelled))]
 pub fn push_labelled(
     out: &mut Vec<u8>,
@@ -80,7 +80,7 @@ fn push_numbers(out: &mut Vec<u8>, numbers: &[u32]) -> Mem<()>
     Ok(())
 }
 
-// A word, the numbers, and the end of the line.
+/// Adds a word, the numbers, and the end of the line.
 #[tactic(auto, using(std::proofs::Common::append_assoc), unfolding(crate::specs::Words::numbers_line))]
 pub fn push_numbers_line(out: &mut Vec<u8>, word: &str, numbers: &[u32]) -> Mem<()>
     ensures { OnOk result (out.new.items ≡ out.old.items ++ numbers_line word.now numbers.now) }

@@ -12,12 +12,14 @@ use Rattle.rml_command.specs.Goals.{goal_path}
 use Rattle.rml_command.specs.Laws.{GoalPathsFit}
 use Rattle.rml_command.specs.declared.goal.Stage.{Stage}
 use Rattle.rml_command.specs.declared.goal.Stage.TheVariants as stage
-use Rattle.rml_wp.specs.Preconditions.{refuting_parts, target_of, path_or_none, goal_precondition, parts_before}
+use Rattle.rml_wp.specs.Preconditions.{refuting_parts_by, target_of, path_or_none, goal_precondition_by, parts_before}
+use Rattle.rml_wp.specs.Preconditions.{premises_of}
 use Rattle.rml_wp.specs.Laws.{PreconditionStaysInFragment}
-use Rattle.rml_wp.specs.Added.{refuting_all, RefutingSentencesFit, NoPartsAreAdded, ConjecturesAreAdded}
+use Rattle.rml_wp.specs.Added.{refuting_all_by, RefutingSentencesFit, NoPartsAreAdded, ConjecturesAreAdded}
 use Rattle.rml_wp.proofs.StepTruth.{Replaces, all_fit, precondition-fits}
 use Rattle.rml_wp.proofs.Exactly.{target-fits, has_target}
 use Rattle.rml_wp.proofs.Counterexamples.{target-ae}
+use Rattle.rml_wp.proofs.SomeAxioms.{each_of}
 use Rattle.rml_wp.proofs.Fragment.{all-ea}
 use Rattle.rml_wp.proofs.Closed.{universal-ea, all-chosen}
 
@@ -36,7 +38,7 @@ pub record Refutes : Type 0 where
   pub universal_ae : UniversalIsAe
 
 pub sentences_fit : Refutes → RefutingSentencesFit
-sentences_fit laws m held more goal checked g added =
+sentences_fit laws premises m held more goal checked g added =
     let sig = symbols m.signature in
     let p = path_or_none (goal_path m goal) in
     let is_path : goal_path m goal ≡ Some p = g.is_path ∙ ap (λ q. Some (path_or_none q)) (sym g.is_path) in
@@ -45,13 +47,15 @@ sentences_fit laws m held more goal checked g added =
     let target = target_of m goal.about in
     let path = laws.goals.symbols_fit m goal p f is_path in
     let t = target-fits m goal.about f has in
-    let pre = goal_precondition m goal in
+    let pre = goal_precondition_by premises m goal in
+    let behind = premises_of premises m.axioms in
+    let fit_behind = each_of (FitsForm sig []) premises m.axioms f.axioms in
     let ae : IsAe pre =
-    laws.stays sig m.axioms target p f.axioms t path checked.fragment.axioms
+    laws.stays sig behind target p fit_behind t path (each_of IsEa premises m.axioms checked.fragment.axioms)
     (target-ae laws.universal_ae m goal.about checked.fragment.conjectures has)
     (laws.goals.in_fragment m goal p checked is_path) in
-    let fit : FitsForm sig [] pre = precondition-fits laws.replaces sig m.axioms target p f.axioms t path in
-    let whole = refuting_all m held more goal in
+    let fit : FitsForm sig [] pre = precondition-fits laws.replaces sig behind target p fit_behind t path in
+    let whole = refuting_all_by premises m held more goal in
     let ea : IsEa whole =
     all-ea _ (each_part IsEa goal.stage (all_of m.axioms) (all_of held) pre more
     (all-ea m.axioms checked.fragment.axioms) (universal-ea laws.universal held added.universal) ae
@@ -62,7 +66,7 @@ sentences_fit laws m held more goal checked g added =
     record { fragment = ea; fits = all }
 
 pub no_parts : NoPartsAreAdded
-no_parts m held goal = ap all_of (append-nil (refuting_parts m held goal))
+no_parts premises m held goal = ap all_of (append-nil (refuting_parts_by premises m held goal))
 
 pub conjectures_are_added : ConjecturesAreAdded
 conjectures_are_added m more checked e f =

@@ -54,31 +54,31 @@ later false b e = e
 sooner : (a b : Bool) → a ≡ true → (a || b) ≡ true
 sooner a b e = ap (λ z. z || b) e
 
-module _ (sig : Symbols) (axioms : List FormTree) (target : FormTree) where
+module _ (sig : Symbols) (premises : PrimitiveTree → List FormTree) (target : FormTree) where
   abbrev Passes : List PrimitiveTree → FormulaLimit → Type 0
-  Passes ps = λ x. IsTrue (passes_limit sig axioms target ps)
+  Passes ps = λ x. IsTrue (passes_limit sig premises target ps)
 
-  limit-end : (qs : List PrimitiveTree) → is_too_large target ≡ true → passes_limit sig axioms target qs ≡ true
+  limit-end : (qs : List PrimitiveTree) → is_too_large target ≡ true → passes_limit sig premises target qs ≡ true
   limit-end [] e = e
-  limit-end (q ∷ qs) e = later (is_too_large (precondition_of sig axioms target (q ∷ qs))) _ (limit-end qs e)
+  limit-end (q ∷ qs) e = later (is_too_large (precondition_of sig premises target (q ∷ qs))) _ (limit-end qs e)
 
   pub stops_at_end : (given : FormTree) (ps : List PrimitiveTree) (e : Refused FormulaLimit) → given ≡ target
       → Because (λ x. IsTrue (is_too_large given)) e → Because (Passes ps) e
   stops_at_end given ps (For x) same h = limit-end ps (ap is_too_large (sym same) ∙ h)
   stops_at_end given ps NoMemory same h = tt
 
-  limit-append : (front behind : List PrimitiveTree) → passes_limit sig axioms target behind ≡ true
-      → passes_limit sig axioms target (front ++ behind) ≡ true
+  limit-append : (front behind : List PrimitiveTree) → passes_limit sig premises target behind ≡ true
+      → passes_limit sig premises target (front ++ behind) ≡ true
   limit-append [] behind e = e
   limit-append (q ∷ front) behind e =
-      later (is_too_large (precondition_of sig axioms target (q ∷ (front ++ behind)))) _ (limit-append front behind e)
+      later (is_too_large (precondition_of sig premises target (q ∷ (front ++ behind)))) _ (limit-append front behind e)
 
   -- a path was gone back as far as these primitives before, and the formula is the precondition of those behind
   pub record IsBack (path before : List PrimitiveTree) (now : FormTree) : Type 0 where
     pub behind : List PrimitiveTree
     pub split : path ≡ before ++ behind
-    pub tree : now ≡ precondition_of sig axioms target behind
-    pub small : passes_limit sig axioms target behind ≡ false
+    pub tree : now ≡ precondition_of sig premises target behind
+    pub small : passes_limit sig premises target behind ≡ false
 
   pub at_end : (given : FormTree) (path before : List PrimitiveTree) (now : FormTree) → given ≡ target → before ≡ path
       → now ≡ given → is_too_large now ≡ false → IsBack path before now
@@ -91,14 +91,14 @@ module _ (sig : Symbols) (axioms : List FormTree) (target : FormTree) where
       }
 
   pub at_start : (path before : List PrimitiveTree) (now : FormTree) → before ≡ [] → IsBack path before now
-      → now ≡ precondition_of sig axioms target path
+      → now ≡ precondition_of sig premises target path
   at_start path before now none h =
-      h.tree ∙ ap (precondition_of sig axioms target) (sym (h.split ∙ ap (λ z. z ++ h.behind) none))
+      h.tree ∙ ap (precondition_of sig premises target) (sym (h.split ∙ ap (λ z. z ++ h.behind) none))
 
   pub within_limit : (path before : List PrimitiveTree) (now : FormTree) → before ≡ [] → IsBack path before now
-      → passes_limit sig axioms target path ≡ false
+      → passes_limit sig premises target path ≡ false
   within_limit path before now none h =
-      ap (passes_limit sig axioms target) (h.split ∙ ap (λ z. z ++ h.behind) none) ∙ h.small
+      ap (passes_limit sig premises target) (h.split ∙ ap (λ z. z ++ h.behind) none) ∙ h.small
 
   module _ (path before rest : List PrimitiveTree) (q : PrimitiveTree) (now : FormTree) (step : before ≡ rest ++ q ∷ [])
       (fits : FitsPath sig path) (h : IsBack path before now) where
@@ -111,28 +111,31 @@ module _ (sig : Symbols) (axioms : List FormTree) (target : FormTree) where
     pub one-fits : FitsPrimitive sig q
     one-fits = behind-fits.0
 
-    pub formula-fits : Replaces → AllByRecursion (FitsForm sig []) axioms → FitsForm sig [] target
+    pub formula-fits : Replaces → ((p : PrimitiveTree) → AllByRecursion (FitsForm sig []) (premises p))
+        → FitsForm sig [] target
         → FitsForm sig [] now
     formula-fits laws a t =
         subst (FitsForm sig []) (sym h.tree)
-        (precondition-fits laws sig axioms target h.behind a t behind-fits.1)
+        (precondition-fits laws sig premises target h.behind a t behind-fits.1)
 
     pub stops_at : (e : Refused FormulaLimit)
-        → Because (λ x. IsTrue (is_too_large (back_of sig axioms q now))) e → Because (Passes path) e
+        → Because (λ x. IsTrue (is_too_large (back_of sig (premises q) q now))) e → Because (Passes path) e
     stops_at (For x) large =
-        let passes : is_too_large (precondition_of sig axioms target (q ∷ h.behind)) ≡ true =
-        ap (λ r. is_too_large (back_of sig axioms q r)) (sym h.tree) ∙ large in
-        ap (passes_limit sig axioms target) whole
-        ∙ limit-append rest (q ∷ h.behind) (sooner _ (passes_limit sig axioms target h.behind) passes)
+        let passes : is_too_large (precondition_of sig premises target (q ∷ h.behind)) ≡ true =
+        ap (λ r. is_too_large (back_of sig (premises q) q r)) (sym h.tree) ∙ large in
+        ap (passes_limit sig premises target) whole
+        ∙ limit-append rest (q ∷ h.behind) (sooner _ (passes_limit sig premises target h.behind) passes)
     stops_at NoMemory large = tt
 
-    pub goes_back : (next : FormTree) → next ≡ back_of sig axioms q now → is_too_large next ≡ false
+    pub goes_back : (next : FormTree) → next ≡ back_of sig (premises q) q now → is_too_large next ≡ false
         → IsBack path rest next
     goes_back next is small =
-        let tree : next ≡ precondition_of sig axioms target (q ∷ h.behind) = is ∙ ap (back_of sig axioms q) h.tree in
+        let tree : next ≡ precondition_of sig premises target (q ∷ h.behind) = is
+        ∙ ap (back_of sig (premises q) q) h.tree in
         record {
           behind = q ∷ h.behind;
           split = whole;
           tree = tree;
-          small = ap (λ b. b || passes_limit sig axioms target h.behind) (ap is_too_large (sym tree) ∙ small) ∙ h.small;
+          small = ap (λ b. b || passes_limit sig premises target h.behind) (ap is_too_large (sym tree) ∙ small)
+              ∙ h.small;
         }

@@ -10,7 +10,9 @@ use Rattle.rml_command.specs.Models.{ModelTree}
 use Rattle.rml_command.specs.Fragment.{IsChecked}
 use Rattle.rml_command.specs.Goals.{IsGoal}
 use Rattle.rml_command.specs.declared.goal.Goal.{Goal}
-use Rattle.rml_wp.specs.Preconditions.{refuting_parts, refuting_of, conjectures_of}
+use Rattle.rml_wp.specs.declared.premises.Premises.{Premises}
+use Rattle.rml_wp.specs.declared.premises.Premises.TheVariants.{All}
+use Rattle.rml_wp.specs.Preconditions.{refuting_parts_by, refuting_by, conjectures_of}
 
 -- what is asked of sentences that hold before a stage in place of the conjectures, and of further parts of a refuting
 -- sentence
@@ -21,22 +23,28 @@ pub record AreAdded (m : ModelTree) (held more : List FormTree) : Type 0 where
   pub others_fit : AllByRecursion (FitsForm (symbols m.signature) []) more
 
 -- the refuting sentence with these further parts
+abbrev pub refuting_all_by : Premises → ModelTree → List FormTree → List FormTree → Goal → FormTree
+refuting_all_by premises m held more goal = all_of (refuting_parts_by premises m held goal ++ more)
+
+-- with all axioms
 abbrev pub refuting_all : ModelTree → List FormTree → List FormTree → Goal → FormTree
-refuting_all m held more goal = all_of (refuting_parts m held goal ++ more)
+refuting_all m held more goal = refuting_all_by All m held more goal
 
 -- it is an exists-forall sentence of the model
-pub record IsRefutingSentence (m : ModelTree) (held more : List FormTree) (goal : Goal) : Type 0 where
-  pub fragment : IsEa (refuting_all m held more goal)
-  pub fits : FitsForm (symbols m.signature) [] (refuting_all m held more goal)
+pub record IsRefutingSentence (premises : Premises) (m : ModelTree) (held more : List FormTree)
+    (goal : Goal) : Type 0 where
+  pub fragment : IsEa (refuting_all_by premises m held more goal)
+  pub fits : FitsForm (symbols m.signature) [] (refuting_all_by premises m held more goal)
 
 abbrev pub RefutingSentencesFit : Type 0
-RefutingSentencesFit = (m : ModelTree) (held more : List FormTree) (goal : Goal) → IsChecked m → IsGoal m goal
-    → AreAdded m held more → IsRefutingSentence m held more goal
+RefutingSentencesFit = (premises : Premises) (m : ModelTree) (held more : List FormTree) (goal : Goal) → IsChecked m
+    → IsGoal m goal → AreAdded m held more → IsRefutingSentence premises m held more goal
 
 -- Without further parts it is the refuting sentence.
 abbrev pub NoPartsAreAdded : Type 0
 NoPartsAreAdded =
-    (m : ModelTree) (held : List FormTree) (goal : Goal) → refuting_all m held [] goal ≡ refuting_of m held goal
+    (premises : Premises) (m : ModelTree) (held : List FormTree) (goal : Goal)
+    → refuting_all_by premises m held [] goal ≡ refuting_by premises m held goal
 
 -- Conjectures of a checked model may hold in place of all, beside exists-forall sentences of the model.
 pub record AddsConjectures (m : ModelTree) (more : List FormTree) : Type 0 where

@@ -10,11 +10,12 @@ ghost use Rattle.fol_formula.specs.Fragments.{IsEa};
 ghost use Rattle.rml_command.specs.Outcomes.{all_of as all_of_them};
 ghost use Rattle.rml_command.specs.Goals.{IsGoal};
 ghost use Rattle.rml_wp.specs.Preconditions.{goal_precondition, goal_passes_limit, conjectures_of, parts_before};
-ghost use Rattle.rml_wp.specs.Preconditions.{refuting_of};
+ghost use Rattle.rml_wp.specs.Preconditions.{goal_precondition_by, goal_passes_limit_by, refuting_of, refuting_by};
 ghost use Rattle.rml_wp.specs.Held.{held_at};
 
 use crate::laws::fragment_law;
-use crate::steps::{all_of, along};
+use crate::premises::{Premises, all_of};
+use crate::steps::along;
 use base::{Mem, Refused};
 use fol_formula::{Ae, Ea, Formula, Sentence};
 use fol_subst::FormulaLimit;
@@ -34,13 +35,30 @@ pub fn precondition(
     ensures within { OnOk result (goal_passes_limit checked.now goal.now ≡ false) }
     ensures limit { IfErr result (Because (λ _. IsTrue (goal_passes_limit checked.now goal.now))) }
 {
+    let f = precondition_by(alloc, checked, Premises::All, goal)?;
+    Ok(f)
+}
+
+/// The same, where these axioms are premises behind a step. In structures that satisfy the axioms it is true where the
+/// other is.
+pub fn precondition_by(
+    alloc: Global,
+    checked: &Checked,
+    premises: Premises,
+    goal: &Goal,
+) -> Result<Ae, Refused<FormulaLimit>>
+    requires { IsGoal checked.now goal.now }
+    ensures precondition { IfOk result (λ f. f ≡ goal_precondition_by premises checked.now goal.now) }
+    ensures within { OnOk result (goal_passes_limit_by premises checked.now goal.now ≡ false) }
+    ensures limit { IfErr result (Because (λ _. IsTrue (goal_passes_limit_by premises checked.now goal.now))) }
+{
     fol_formula::inclusion();
     fol_formula::indices();
     fol_subst::exactness();
     fragment_law();
     let model = checked.model();
     let path = checked.path(goal);
-    let counted = along(alloc, model, goal.about, &path)?;
+    let counted = along(alloc, model, premises, goal.about, &path)?;
     Ok(Ae::new(Sentence::of(counted.formula)))
 }
 
@@ -51,9 +69,25 @@ pub fn refuting(alloc: Global, checked: &Checked, goal: &Goal) -> Result<Ea, Ref
     ensures within { OnOk result (goal_passes_limit checked.now goal.now ≡ false) }
     ensures limit { IfErr result (Because (λ _. IsTrue (goal_passes_limit checked.now goal.now))) }
 {
+    let sentence = refuting_by(alloc, checked, Premises::All, goal)?;
+    Ok(sentence)
+}
+
+/// The same, where these axioms are premises behind a step: another sentence, which the same structures satisfy.
+pub fn refuting_by(
+    alloc: Global,
+    checked: &Checked,
+    premises: Premises,
+    goal: &Goal,
+) -> Result<Ea, Refused<FormulaLimit>>
+    requires { IsGoal checked.now goal.now }
+    ensures sentence { IfOk result (λ f. f ≡ refuting_by premises checked.now checked.now.conjectures goal.now) }
+    ensures within { OnOk result (goal_passes_limit_by premises checked.now goal.now ≡ false) }
+    ensures limit { IfErr result (Because (λ _. IsTrue (goal_passes_limit_by premises checked.now goal.now))) }
+{
     fol_formula::indices();
     fol_formula::inclusion();
-    let precondition = precondition(alloc, checked, goal)?;
+    let precondition = precondition_by(alloc, checked, premises, goal)?;
     let model = checked.model();
     let held = held_before(alloc, model, goal.stage)?;
     let sentence = with_allowed(alloc, model, held, goal.stage, precondition)?;

@@ -11,13 +11,16 @@ ghost use Rattle.fol_subst.specs.Outcome.{CanReplace};
 ghost use Rattle.rml_command.specs.Trees.{set_rel, set_fun, havoc};
 ghost use Rattle.rml_command.specs.View.{primitive as primitive_view};
 ghost use Rattle.rml_command.specs.Models.{FitsPrimitive, FitsPath};
-ghost use Rattle.rml_command.specs.Outcomes.{all_of as all_of_them};
-ghost use Rattle.rml_wp.specs.Preconditions.{back_of, precondition_of, passes_limit, target_of};
+ghost use Rattle.fol_occurs.specs.Occurs.{the_rel, the_fun};
+ghost use Rattle.rml_wp.specs.Preconditions.{back_of, precondition_of, passes_limit, target_of, premises_at};
+ghost use Rattle.rml_wp.specs.Preconditions.{premises_of};
 ghost use Rattle.rml_wp.specs.Preconditions.{where_lawful as where_lawful_of};
 ghost use Rattle.rml_wp.specs.Laws.{HasTarget};
 
+use crate::premises::Premises;
 use base::{Mem, Refused};
-use fol_formula::{Formula, Sentence, Term};
+use fol_formula::{Formula, Term};
+use fol_occurs::Symbol;
 use fol_sig::{FunId, RelId, Sort};
 use fol_subst::{
     Counted, FormulaLimit, is_own_fun, is_own_rel, replace_const, replace_fun, replace_rel,
@@ -29,6 +32,7 @@ use std::alloc::Global;
 pub fn along(
     alloc: Global,
     model: &Model,
+    premises: Premises,
     about: About,
     path: &Path,
 ) -> Result<Counted, Refused<FormulaLimit>>
@@ -36,12 +40,16 @@ pub fn along(
     requires path { FitsPath (symbols model.now.signature) path.now }
     ensures precondition { IfOk result
         (λ c. form c.formula
-        ≡ precondition_of (symbols model.now.signature) model.now.axioms (target_of model.now about) path.now) }
+        ≡ precondition_of (symbols model.now.signature) (premises_of premises model.now.axioms)
+        (target_of model.now about)
+        path.now) }
     ensures within { OnOk result
-        (passes_limit (symbols model.now.signature) model.now.axioms (target_of model.now about) path.now ≡ false) }
+        (passes_limit (symbols model.now.signature) (premises_of premises model.now.axioms)
+        (target_of model.now about) path.now ≡ false) }
     ensures limit { IfErr result
         (Because (λ _. IsTrue
-        (passes_limit (symbols model.now.signature) model.now.axioms (target_of model.now about) path.now))) }
+        (passes_limit (symbols model.now.signature) (premises_of premises model.now.axioms)
+        (target_of model.now about) path.now))) }
 {
     fol_subst::exactness();
     fol_formula::indices();
@@ -53,7 +61,7 @@ pub fn along(
     };
     let mut before = path.primitives();
     while let Some(primitive) = before.next_back() {
-        now = match step_back(alloc, model, primitive, now) {
+        now = match step_back(alloc, model, premises, primitive, now) {
             Ok(counted) => counted,
             Err(refused) => return Err(refused),
         };
@@ -77,6 +85,7 @@ fn target(alloc: Global, model: &Model, about: About) -> Mem<Formula>
 fn step_back(
     alloc: Global,
     model: &Model,
+    premises: Premises,
     primitive: &Primitive,
     rest: Counted,
 ) -> Result<Counted, Refused<FormulaLimit>>
@@ -84,11 +93,13 @@ fn step_back(
     requires rest { FitsForm (symbols model.now.signature) [] (form rest.formula) }
     ensures back { IfOk result
         (λ c. form c.formula
-        ≡ back_of (symbols model.now.signature) model.now.axioms (primitive_view primitive.now) (form rest.formula)) }
+        ≡ back_of (symbols model.now.signature) (premises_of premises model.now.axioms (primitive_view primitive.now))
+        (primitive_view primitive.now) (form rest.formula)) }
     ensures limit { IfErr result
         (Because (λ _. IsTrue
         (is_too_large
-        (back_of (symbols model.now.signature) model.now.axioms (primitive_view primitive.now) (form rest.formula))))) }
+        (back_of (symbols model.now.signature) (premises_of premises model.now.axioms (primitive_view primitive.now))
+        (primitive_view primitive.now) (form rest.formula))))) }
 {
     match primitive {
         Primitive::Assume(sentence) => {
@@ -96,9 +107,9 @@ fn step_back(
             let counted = under(alloc, assumed, rest)?;
             Ok(counted)
         }
-        Primitive::SetRel(rel, by) => before_set_rel(alloc, model, *rel, by, rest),
-        Primitive::SetFun(fun, by) => before_set_fun(alloc, model, *fun, by, rest),
-        Primitive::Havoc(variable) => before_havoc(alloc, model, *variable, rest.formula),
+        Primitive::SetRel(rel, by) => before_set_rel(alloc, model, premises, *rel, by, rest),
+        Primitive::SetFun(fun, by) => before_set_fun(alloc, model, premises, *fun, by, rest),
+        Primitive::Havoc(variable) => before_havoc(alloc, model, premises, *variable, rest.formula),
         Primitive::Abort => Counted::of(Formula::False),
     }
 }
@@ -120,6 +131,7 @@ fn under(alloc: Global, premise: Formula, rest: Counted) -> Result<Counted, Refu
 fn before_set_rel(
     alloc: Global,
     model: &Model,
+    premises: Premises,
     rel: RelId,
     by: &Formula,
     rest: Counted,
@@ -128,21 +140,23 @@ fn before_set_rel(
     requires rest { FitsForm (symbols model.now.signature) [] (form rest.formula) }
     ensures back { IfOk result
         (λ c. form c.formula
-        ≡ changed_form (change_rel rel.0 (form by.now)) 0 (where_lawful_of model.now.axioms (form rest.formula))) }
+        ≡ changed_form (change_rel rel.0 (form by.now)) 0
+        (where_lawful_of (premises_at premises model.now.axioms (the_rel rel.0)) (form rest.formula))) }
     ensures limit { IfErr result
         (Because (λ _. IsTrue
         (is_too_large
-        (changed_form (change_rel rel.0 (form by.now)) 0 (where_lawful_of model.now.axioms (form rest.formula)))))) }
+        (changed_form (change_rel rel.0 (form by.now)) 0
+        (where_lawful_of (premises_at premises model.now.axioms (the_rel rel.0)) (form rest.formula)))))) }
 {
     fol_subst::conditions();
     fol_subst::own_values();
     let axioms = model.axioms();
+    let lawful = premises.lawful(alloc, axioms, Symbol::Rel(rel))?;
     if is_own_rel(rel, by) {
-        let lawful = all_of(alloc, axioms)?;
         let unchanged = under(alloc, lawful, rest)?;
         return Ok(unchanged);
     }
-    let within = where_lawful(alloc, axioms, rest.formula)?;
+    let within = implies(alloc, lawful, rest.formula)?;
     let replaced = replace_rel(alloc, within, rel, by)?;
     Ok(replaced)
 }
@@ -151,6 +165,7 @@ fn before_set_rel(
 fn before_set_fun(
     alloc: Global,
     model: &Model,
+    premises: Premises,
     fun: FunId,
     by: &Term,
     rest: Counted,
@@ -159,21 +174,23 @@ fn before_set_fun(
     requires rest { FitsForm (symbols model.now.signature) [] (form rest.formula) }
     ensures back { IfOk result
         (λ c. form c.formula
-        ≡ changed_form (change_fun fun.0 (term by.now)) 0 (where_lawful_of model.now.axioms (form rest.formula))) }
+        ≡ changed_form (change_fun fun.0 (term by.now)) 0
+        (where_lawful_of (premises_at premises model.now.axioms (the_fun fun.0)) (form rest.formula))) }
     ensures limit { IfErr result
         (Because (λ _. IsTrue
         (is_too_large
-        (changed_form (change_fun fun.0 (term by.now)) 0 (where_lawful_of model.now.axioms (form rest.formula)))))) }
+        (changed_form (change_fun fun.0 (term by.now)) 0
+        (where_lawful_of (premises_at premises model.now.axioms (the_fun fun.0)) (form rest.formula)))))) }
 {
     fol_subst::conditions();
     fol_subst::own_values();
     let axioms = model.axioms();
+    let lawful = premises.lawful(alloc, axioms, Symbol::Fun(fun))?;
     if is_own_fun(fun, by) {
-        let lawful = all_of(alloc, axioms)?;
         let unchanged = under(alloc, lawful, rest)?;
         return Ok(unchanged);
     }
-    let within = where_lawful(alloc, axioms, rest.formula)?;
+    let within = implies(alloc, lawful, rest.formula)?;
     let replaced = replace_fun(alloc, within, fun, by)?;
     Ok(replaced)
 }
@@ -181,6 +198,7 @@ fn before_set_fun(
 fn before_havoc(
     alloc: Global,
     model: &Model,
+    premises: Premises,
     variable: FunId,
     rest: Formula,
 ) -> Result<Counted, Refused<FormulaLimit>>
@@ -188,15 +206,19 @@ fn before_havoc(
     requires rest { FitsForm (symbols model.now.signature) [] (form rest) }
     ensures back { IfOk result
         (λ c. form c.formula
-        ≡ back_of (symbols model.now.signature) model.now.axioms (havoc variable.0) (form rest)) }
+        ≡ back_of (symbols model.now.signature) (premises_at premises model.now.axioms (the_fun variable.0))
+        (havoc variable.0) (form rest)) }
     ensures limit { IfErr result
         (Because (λ _. IsTrue
-        (is_too_large (back_of (symbols model.now.signature) model.now.axioms (havoc variable.0) (form rest))))) }
+        (is_too_large (back_of (symbols model.now.signature) (premises_at premises model.now.axioms
+        (the_fun variable.0))
+        (havoc variable.0) (form rest))))) }
 {
     fol_subst::conditions();
     fol_formula::indices();
     let axioms = model.axioms();
-    let within = where_lawful(alloc, axioms, rest)?;
+    let lawful = premises.lawful(alloc, axioms, Symbol::Fun(variable))?;
+    let within = implies(alloc, lawful, rest)?;
     let replaced = replace_const(alloc, within, variable, 0)?;
     let nodes = replaced.nodes.saturating_add(1);
     let depth = replaced.depth.saturating_add(1);
@@ -216,22 +238,4 @@ fn implies(alloc: Global, p: Formula, q: Formula) -> Mem<Formula>
 {
     let p = Box::new(alloc, p)?;
     Ok(Formula::Implies(p, Box::new(alloc, q)?))
-}
-
-fn where_lawful(alloc: Global, axioms: &[Sentence], rest: Formula) -> Mem<Formula>
-    ensures { IfOk result (λ f. form f ≡ where_lawful_of axioms.now (form rest)) }
-{
-    let f = implies(alloc, all_of(alloc, axioms)?, rest)?;
-    Ok(f)
-}
-
-/// The And of sentences.
-pub fn all_of(alloc: Global, sentences: &[Sentence]) -> Mem<Formula>
-    ensures { IfOk result (λ f. form f ≡ all_of_them sentences.now) }
-{
-    let mut all = Vec::new(alloc);
-    for sentence in sentences {
-        all.push(sentence.formula().copy(alloc)?)?;
-    }
-    Ok(Formula::And(all))
 }

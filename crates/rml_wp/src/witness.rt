@@ -4,16 +4,18 @@ ghost use Rattle.fol_formula.specs.View.{form};
 ghost use Rattle.fol_formula.specs.Counts.{saturated};
 ghost use Rattle.rml_command.specs.View.{primitive as primitive_view};
 ghost use Rattle.rml_command.specs.Goals.{IsGoal};
-ghost use Rattle.rml_command.specs.Outcomes.{all_of};
+ghost use Rattle.rml_wp.specs.declared.premises.Premises.TheVariants.{All};
 ghost use Rattle.rml_wp.specs.Preconditions.{target_of};
-ghost use Rattle.rml_wp.specs.Witnesses.{witness_places, values_at};
-ghost use Rattle.rml_wp.specs.Consumed.{next_of, behind_of, read_havocs, behind_path, read_values};
+ghost use Rattle.rml_wp.specs.Witnesses.{witness_places, witness_places_by, values_at};
+ghost use Rattle.rml_wp.specs.Consumed.{next_of, behind_of, counts_of, read_havocs, behind_path, read_values};
 ghost use Rattle.rml_wp.specs.Laws.{HasTarget};
 ghost use Rattle.rml_wp.specs.WitnessLaws.{GivesCounterexamples};
 
 use crate::laws::witness_law;
+use crate::premises::Premises;
 use base::{Mem, Row};
-use fol_formula::{Formula, existentials_of_all};
+use fol_formula::{Formula, Sentence, existentials_of_all};
+use fol_occurs::Symbol;
 use rml_command::{About, Checked, Goal, Model, Path, Primitive};
 use std::alloc::Global;
 
@@ -39,15 +41,35 @@ pub fn read_witness(
     ensures values { IfOk result
         (λ w. w.values ≡ values_at witnesses.now (witness_places checked.now goal.now).values) }
     ensures counterexamples { IfOk result
-        (λ w. GivesCounterexamples checked.now goal.now witnesses.now w.havoc w.values) }
+        (λ w. GivesCounterexamples All checked.now goal.now witnesses.now w.havoc w.values) }
+{
+    let witness = read_witness_by(alloc, checked, Premises::All, goal, witnesses)?;
+    Ok(witness)
+}
+
+/// The same for the refuting sentence in which these axioms are premises behind a step.
+pub fn read_witness_by(
+    alloc: Global,
+    checked: &Checked,
+    premises: Premises,
+    goal: &Goal,
+    witnesses: &[u32],
+) -> Mem<Witness>
+    requires { IsGoal checked.now goal.now }
+    ensures havoc { IfOk result
+        (λ w. w.havoc ≡ values_at witnesses.now (witness_places_by premises checked.now goal.now).havocs) }
+    ensures values { IfOk result
+        (λ w. w.values ≡ values_at witnesses.now (witness_places_by premises checked.now goal.now).values) }
+    ensures counterexamples { IfOk result
+        (λ w. GivesCounterexamples premises checked.now goal.now witnesses.now w.havoc w.values) }
 {
     witness_law();
     let path = checked.path(goal);
     let model = checked.model();
-    let axioms = existentials_of_all(model.axioms());
-    let start = skip(witnesses, axioms);
-    let havoc = havocs(alloc, &path, axioms, start)?;
-    let behind = behind_all(&path, axioms, start);
+    let axioms = model.axioms();
+    let start = skip(witnesses, existentials_of_all(axioms));
+    let havoc = havocs(alloc, &path, premises, axioms, start)?;
+    let behind = behind_all(&path, premises, axioms, start);
     let values = values_for(alloc, model, goal.about, behind)?;
     Ok(Witness {
         havoc: Row::from_vec(havoc),
@@ -56,8 +78,14 @@ pub fn read_witness(
 }
 
 // As far as an abort, behind which nothing is done.
-fn havocs(alloc: Global, path: &Path, axioms: u64, start: &[u32]) -> Mem<Vec<u32>>
-    ensures { IfOk result (λ v. v.items ≡ read_havocs axioms path.now start.now) }
+fn havocs(
+    alloc: Global,
+    path: &Path,
+    premises: Premises,
+    axioms: &[Sentence],
+    start: &[u32],
+) -> Mem<Vec<u32>>
+    ensures { IfOk result (λ v. v.items ≡ read_havocs (counts_of premises axioms.now) path.now start.now) }
 {
     let mut havoc = Vec::new(alloc);
     let mut rest = start;
@@ -67,33 +95,48 @@ fn havocs(alloc: Global, path: &Path, axioms: u64, start: &[u32]) -> Mem<Vec<u32
             Primitive::Havoc(_) => havoc.push(next(rest))?,
             _ => {}
         }
-        rest = behind(primitive, axioms, rest);
+        rest = behind(primitive, premises, axioms, rest);
     }
     Ok(havoc)
 }
 
-fn behind_all<'a>(path: &Path, axioms: u64, start: &'a [u32]) -> &'a [u32]
-    ensures { result.now ≡ behind_path axioms path.now start.now }
+fn behind_all<'a>(
+    path: &Path,
+    premises: Premises,
+    axioms: &[Sentence],
+    start: &'a [u32],
+) -> &'a [u32]
+    ensures { result.now ≡ behind_path (counts_of premises axioms.now) path.now start.now }
 {
     let mut rest = start;
     for primitive in path.primitives() {
         if let Primitive::Abort = primitive {
             return rest;
         }
-        rest = behind(primitive, axioms, rest);
+        rest = behind(primitive, premises, axioms, rest);
     }
     rest
 }
 
 // What is left behind the existentials of a primitive.
-fn behind<'a>(primitive: &Primitive, axioms: u64, rest: &'a [u32]) -> &'a [u32]
-    ensures { result.now ≡ behind_of axioms (primitive_view primitive.now) rest.now }
+fn behind<'a>(
+    primitive: &Primitive,
+    premises: Premises,
+    axioms: &[Sentence],
+    rest: &'a [u32],
+) -> &'a [u32]
+    ensures { result.now
+        ≡ behind_of (counts_of premises axioms.now (primitive_view primitive.now)) (primitive_view primitive.now)
+        rest.now }
 {
     match primitive {
         Primitive::Assume(p) => skip(rest, p.formula().existentials()),
-        Primitive::SetRel(_, _) => skip(rest, axioms),
-        Primitive::SetFun(_, _) => skip(rest, axioms),
-        Primitive::Havoc(_) => skip(skip(rest, 1), axioms),
+        Primitive::SetRel(rel, _) => skip(rest, premises.existentials(axioms, Symbol::Rel(*rel))),
+        Primitive::SetFun(fun, _) => skip(rest, premises.existentials(axioms, Symbol::Fun(*fun))),
+        Primitive::Havoc(variable) => {
+            let count = premises.existentials(axioms, Symbol::Fun(*variable));
+            skip(skip(rest, 1), count)
+        }
         Primitive::Abort => rest,
     }
 }

@@ -1,14 +1,26 @@
-use Rattle.std.proofs.Common.{◌≡◌, ◌≤◌, true, sum, refl, sym, subst, arith}
-use Rattle.fol_sig.specs.Tables.{Tables}
+use Rattle.std.proofs.Common.{◌≡◌, ◌≤◌, true, [], sum, refl, sym, subst, arith}
+use Rattle.fol_sig.specs.Tables.{Declared, Tables}
+use Rattle.fol_sig.specs.Symbols.{symbols}
+use Rattle.fol_formula.specs.Fits.{FitsForm}
 use Rattle.fol_nnf.specs.Normal.{normal}
 use Rattle.rml_command.specs.Outcomes.{is_true}
+use Rattle.rml_wp.specs.declared.premises.Premises.TheVariants.{All}
 use Rattle.ea_decide.specs.Passing.{ceilings}
 use Rattle.obligation_decide.specs.WithConstants.{constant_sorts}
 use Rattle.obligation_decide.proofs.SameAnswer.{signature_of, same_answer}
-use Rattle.obligation_decide.proofs.Shown.{normal-fits}
+use Rattle.obligation_decide.proofs.Shown.{normal-fits, given_fits}
 use Rattle.obligation_decide.proofs.FewConstants.{few}
 use Rattle.obligation_decide.proofs.Restricting.{holds-without}
 use Rattle.obligation_decide.proofs.decide_sentence.Goals as goal
+
+pub decide-requires-clause-fits : goal.decide-requires-clause-fits
+decide-requires-clause-fits c =
+    let m = c.args.checked.now in
+    let p = c.args.sentence.now in
+    let sig = signature_of _ _ m c.signature-signature.ensures.value c.model.ensures.value in
+    subst (λ (z : Declared). FitsForm (symbols z) [] p) (sym sig)
+    (given_fits c.sentence_law.ensures.fit All m c.args.goal.now p c.model.ensures.checked c.requires.goal
+    c.requires.sentence)
 
 pub read_counterexample-requires-clause-few : goal.read_counterexample-requires-clause-few
 read_counterexample-requires-clause-few c =
@@ -16,7 +28,8 @@ read_counterexample-requires-clause-few c =
     let p = c.args.sentence.now in
     let limits = ceilings c.args.limits.now in
     let checked = c.model.ensures.checked in
-    let fits = normal-fits c.sentence_law-2.ensures m c.args.goal.now checked c.requires.goal p c.requires.sentence in
+    let fits = normal-fits c.sentence_law-2.ensures All m c.args.goal.now checked c.requires.goal p c.requires.sentence
+    in
     let skolem = c.exactness.ensures.models m.signature (normal true p) fits in
     let sig = signature_of _ _ m c.signature-signature.ensures.value c.model.ensures.value in
     let decided = same_answer limits _ m.signature p p _ _ sig refl c.in-Satisfied.is c.in_ok-proof.ensures in
@@ -39,7 +52,8 @@ returns-in_ok-shown-in-Satisfied c =
     let checked = c.model.ensures.checked in
     let t = c.in-Satisfied.model in
     let shown = c.in_ok-shown-in-Satisfied.ensures in
-    let fits = normal-fits c.sentence_law-2.ensures m c.args.goal.now checked c.requires.goal p c.requires.sentence in
+    let fits = normal-fits c.sentence_law-2.ensures All m c.args.goal.now checked c.requires.goal p c.requires.sentence
+    in
     let sig = signature_of _ _ m c.signature-signature.ensures.value c.model.ensures.value in
     let decided = same_answer limits _ m.signature p p _ _ sig refl c.in-Satisfied.is c.in_ok-proof.ensures in
     let holds = holds-without c.exactness-2.ensures.truth c.exactness.ensures.models m.signature p t fits

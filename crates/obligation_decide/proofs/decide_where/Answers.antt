@@ -1,9 +1,25 @@
 use Rattle.ea_decide.specs.Passing.{ceilings}
-use Rattle.obligation_decide.proofs.Restricting.{restricted_by}
+use Rattle.obligation_decide.proofs.Restricting.{AreExact, restricted_by}
 use Rattle.obligation_decide.proofs.decide_where.Goals as goal
+
+pub decide_sentence-requires-clause-sentence : goal.decide_sentence-requires-clause-sentence
+decide_sentence-requires-clause-sentence c =
+    let m = c.args.checked.now in
+    record {
+      held = m.conjectures;
+      more = c.args.more.now;
+      added = (c.sentence_law.ensures.conjectures m c.args.more.now c.model-checked.ensures.checked c.requires.fragment
+          c.requires.fits).all;
+      is = c.in-Ok.ensures.sentence;
+    }
 
 pub returns-in_ok-decision-in-Ok : goal.returns-in_ok-decision-in-Ok
 returns-in_ok-decision-in-Ok c =
-    restricted_by (ceilings c.args.limits.now) c.args.checked.now c.args.goal.now c.args.more.now
-    c.in-Ok.ensures.within c.refuting_law.ensures.all c.model-checked.ensures.checked.model.fits c.requires.goal
+    let m = c.args.checked.now in
+    let checked = c.model-checked.ensures.checked in
+    let exact : AreExact = record { all = c.refuting_law.ensures.all; same = c.refuting_law.ensures.same } in
+    let added = (c.sentence_law.ensures.conjectures m c.args.more.now checked c.requires.fragment c.requires.fits).all
+    in
+    restricted_by (ceilings c.args.limits.now) m c.args.goal.now c.args.more.now
+    c.in-Ok.ensures.within exact checked.model.fits c.requires.goal added
     _ _ c.in-Ok.ensures.sentence c.in_ok-decision-in-Ok.ensures

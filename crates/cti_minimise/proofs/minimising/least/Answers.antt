@@ -1,31 +1,35 @@
 use Rattle.std.proofs.Common.{◌≡◌, ◌+◌, ℕ, suc, take, ap, ◌∙◌, subst, arith}
 use Rattle.std.proofs.lemmas.List.{take_all}
-use Rattle.fol_sig.specs.Tables.{Declared}
 use Rattle.rml_command.specs.Models.{ModelTree}
-use Rattle.cti_minimise.specs.Minimal.{HasNoSmaller}
-use Rattle.cti_minimise.proofs.Searching.{at-first}
+use Rattle.ea_decide.specs.Passing.{ceilings}
+use Rattle.cti_minimise.specs.Extents.{extent, places}
+use Rattle.cti_minimise.specs.Minimal.{AreLeast}
+use Rattle.cti_minimise.proofs.Extending.{length-extent}
+use Rattle.cti_minimise.proofs.Tried.{at-start}
 use Rattle.cti_minimise.proofs.minimising.least.Goals as goal
 
-pub loop-k-init : goal.loop-k-init
-loop-k-init c =
-    (c.requires.failing, at-first c.args.checked.now c.args.goal.now c.args.shown.structure.sizes)
+pub loop-place-init : goal.loop-place-init
+loop-place-init c =
+    (c.requires.failing, at-start (ceilings c.args.limits.now) c.args.checked.now c.args.goal.now)
 
-pub loop-k-preserved : goal.loop-k-preserved
-loop-k-preserved c =
+pub loop-place-preserved : goal.loop-place-preserved
+loop-place-preserved c =
     let is = rw c.in-Settled.is at c.in_ok-settled.ensures in
-    let next : suc c.loop-k.k ≡ c.loop-k.k + 1 = omega arith in (
+    let next : suc c.loop-place.place ≡ c.loop-place.place + 1 = omega arith in (
       is.0,
-      subst (λ (n : ℕ). HasNoSmaller c.args.checked.now c.args.goal.now (take n c.in-Settled.settled.structure.sizes))
+      subst
+          (λ (n : ℕ).
+          AreLeast (ceilings c.args.limits.now) c.args.checked.now c.args.goal.now
+          (take n (extent c.in-Settled.settled.structure)))
           next is.1,
     )
 
 pub returns-clause-least : goal.returns-clause-least
 returns-clause-least c =
     let m = c.args.checked.now in
-    let sizes = c.loop-k.found.structure.sizes in
-    let known : c.sorts-sorts.result ≡ m.signature.sorts =
-    c.sorts-sorts.ensures.value ∙ ap (λ (sig : Declared). sig.sorts) c.signature.ensures.value
-    ∙ ap (λ (n : ModelTree). n.signature.sorts) c.model.ensures.value in
-    let sorts = c.loop-k.invariant.0.refutes.structure.sorts in
-    let all = take_all c.loop-k.k sizes (omega (arith, known, sorts)) in
-    subst (HasNoSmaller m c.args.goal.now) all c.loop-k.invariant.1
+    let s = c.loop-place.found.structure in
+    let same = c.signature-signature.ensures.value ∙ ap (λ (n : ModelTree). n.signature) c.model.ensures.value in
+    let known = c.places-place-end.ensures ∙ ap places same in
+    let count = length-extent m.signature s c.loop-place.invariant.0.refutes.structure in
+    let all = take_all c.loop-place.place (extent s) (omega (arith, known, count)) in
+    subst (AreLeast (ceilings c.args.limits.now) m c.args.goal.now) all c.loop-place.invariant.1

@@ -1,15 +1,49 @@
-use Rattle.std.proofs.Common.{◌≡◌, ℕ, ◌+◌, ◌<◌, List, [], get_or, sym, ap, ◌∙◌, subst}
+use Rattle.std.proofs.Common.{◌≡◌, ℕ, ◌+◌, ◌<◌, List, [], get_or, sym, ap, ◌∙◌, subst, arith}
 use Rattle.fol_sig.specs.Tables.{Declared, Tables, fun_at}
 use Rattle.fol_sig.specs.Constants.{reduct}
 use Rattle.fol_sig.specs.Symbols.{symbols}
 use Rattle.fol_formula.specs.Syntax.{FormTree}
 use Rattle.fol_formula.specs.Counts.{saturated}
 use Rattle.fol_formula.specs.Witnesses.{existentials}
-use Rattle.rml_command.specs.Goals.{IsCounterexample}
-use Rattle.rml_wp.specs.Witnesses.{witness_places, values_at}
+use Rattle.rml_wp.specs.Witnesses.{witness_places_by, values_at}
+use Rattle.obligation_decide.specs.Restricted.{RefutesAs}
 use Rattle.obligation_decide.proofs.SameAnswer.{signature_of, functions_of}
-use Rattle.obligation_decide.proofs.Shown.{AreCounted, each-there, is-shown}
+use Rattle.obligation_decide.proofs.Shown.{AreCounted, each-there, is-shown, all-counted}
 use Rattle.obligation_decide.proofs.walk.read_counterexample.Goals as goal
+
+pub overflow_cast-count : goal.overflow_cast-count
+overflow_cast-count c =
+    let m = c.args.checked.now in
+    let p = c.args.sentence.now in
+    let sig = signature_of _ _ m c.signature-signature.ensures.value c.model.ensures.value in
+    let same = c.formula.ensures.value ∙ c.sentence.ensures.value in
+    let counted : AreCounted m p c.function_count-functions.result c.existentials-count.result = record {
+      functions = functions_of _ _ m c.function_count-functions.ensures sig;
+      count = c.existentials-count.ensures ∙ ap (λ (q : FormTree). saturated (existentials q)) same;
+      few = c.requires.few;
+    } in
+    let e = all-counted c.sentence_law.ensures c.args.premises m c.args.goal.now c.model.ensures.checked c.requires.goal
+    p
+    c.requires.sentence c.args.model c.requires.model _ _ counted in
+    let few = c.requires.few in
+    omega (arith, e, few)
+
+pub constants-requires-clause-few : goal.constants-requires-clause-few
+constants-requires-clause-few c =
+    let m = c.args.checked.now in
+    let p = c.args.sentence.now in
+    let sig = signature_of _ _ m c.signature-signature.ensures.value c.model.ensures.value in
+    let same = c.formula.ensures.value ∙ c.sentence.ensures.value in
+    let counted : AreCounted m p c.function_count-functions.result c.existentials-count.result = record {
+      functions = functions_of _ _ m c.function_count-functions.ensures sig;
+      count = c.existentials-count.ensures ∙ ap (λ (q : FormTree). saturated (existentials q)) same;
+      few = c.requires.few;
+    } in
+    let e = all-counted c.sentence_law.ensures c.args.premises m c.args.goal.now c.model.ensures.checked c.requires.goal
+    p
+    c.requires.sentence c.args.model c.requires.model _ _ counted in
+    let few = c.requires.few in
+    let functions = counted.functions in omega (arith, e, few, functions)
 
 pub constants-requires-clause-there : goal.constants-requires-clause-there
 constants-requires-clause-there c =
@@ -22,7 +56,8 @@ constants-requires-clause-there c =
       count = c.existentials-count.ensures ∙ ap (λ (q : FormTree). saturated (existentials q)) same;
       few = c.requires.few;
     } in
-    each-there c.sentence_law.ensures m c.args.goal.now c.model.ensures.checked c.requires.goal p c.requires.sentence
+    each-there c.sentence_law.ensures c.args.premises m c.args.goal.now c.model.ensures.checked c.requires.goal p
+    c.requires.sentence
     c.args.model c.requires.model _ _ counted c.witnesses.ensures.there
 
 pub returns-clause-refutes : goal.returns-clause-refutes
@@ -35,7 +70,7 @@ returns-clause-refutes c =
     let f = c.function_count-functions.result in
     let n = c.existentials-count.result in
     let xs = c.deref.result.now in
-    let places = witness_places m g in
+    let places = witness_places_by c.args.premises m g in
     let sig = signature_of _ _ m c.signature-signature.ensures.value c.model.ensures.value in
     let same = c.formula.ensures.value ∙ c.sentence.ensures.value in
     let counted : AreCounted m p f n = record {
@@ -45,11 +80,13 @@ returns-clause-refutes c =
     } in
     let read : (i : ℕ) → i < n → get_or xs i 0 ≡ fun_at t (f + i) [] =
     λ i lt. ap (λ (l : List ℕ). get_or l i 0) c.deref.ensures.value ∙ c.in_ok-constants.ensures i lt in
-    let shown = is-shown c.sentence_law.ensures m g c.model.ensures.checked c.requires.goal p c.requires.sentence
-    t c.requires.model f n counted c.counterexample_law.ensures.models c.refuting_law.ensures.same xs read in
+    let shown = is-shown c.sentence_law.ensures c.args.premises m g c.model.ensures.checked c.requires.goal p
+    c.requires.sentence
+    t c.requires.model f n counted c.counterexample_law.ensures.models xs read in
     let s = reduct (symbols m.signature) t in
     let structure : c.restrict.new.self ≡ s = c.restrict.ensures ∙ ap (λ (z : Declared). reduct (symbols z) t) sig in
-    subst (λ (r : Tables). IsCounterexample m g r w.havoc w.values) (sym structure)
-    (subst (λ (v : List ℕ). IsCounterexample m g s w.havoc v) (sym c.in_ok-witness.ensures.values)
-    (subst (λ (h : List ℕ). IsCounterexample m g s h (values_at xs places.values)) (sym c.in_ok-witness.ensures.havoc)
+    subst (λ (r : Tables). RefutesAs c.args.premises m g p r w.havoc w.values) (sym structure)
+    (subst (λ (v : List ℕ). RefutesAs c.args.premises m g p s w.havoc v) (sym c.in_ok-witness.ensures.values)
+    (subst (λ (h : List ℕ). RefutesAs c.args.premises m g p s h (values_at xs places.values))
+    (sym c.in_ok-witness.ensures.havoc)
     shown))
