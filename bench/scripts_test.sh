@@ -352,6 +352,9 @@ expect 'chain: a log of its formula' diff chain.lrat <(printf '6 3 0 3 2 1 0\n7 
 bench names.py
 expect 'names: a model of the greatest size' [ "$(wc -c <"$room/out")" = 1048576 ]
 
+bench samples.py
+expect 'samples: the rows that stand there' diff "$room/out" "$here/crates/rows/data/samples.txt"
+
 if python3 -c 'import z3' 2>/dev/null; then
     bench z3_goals.py "$here/examples/flag.rml"
     expect 'z3_goals: the group that fails' wrote_line 'action raise down: fails'
