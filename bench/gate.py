@@ -27,6 +27,7 @@ import re
 import subprocess
 import sys
 import tempfile
+import textwrap
 import time
 
 HERE = os.path.dirname(os.path.dirname(os.path.abspath(__file__)))
@@ -229,27 +230,32 @@ def table(costs, marked):
     yield f"| {' | '.join(map(str, ['all', *whole, totals[0], totals[1], count, totals[2]]))} |"
 
 
+def wrapped(text):
+    return textwrap.wrap(text, 120, subsequent_indent="  " if text.startswith("- ") else "", break_on_hyphens=False)
+
+
 def page(runs):
     """Gives the lines of the page."""
     costs, marked = merged(runs, sums(HERE))
     yield "# What the gate costs"
     yield ""
-    yield "Written whole by `bench/gate.py`, from runs of `rt ci` that it watched: lines of text, must-fail edits, and"
-    yield "processor minutes of each crate's proofs, of its proofs with tests, and of its edits with the check that they"
-    yield "begin with. Processor time goes up with the load: on processors that were busy, times are up to twice those on"
-    yield "quiet ones."
+    yield from wrapped("Written whole by `bench/gate.py`, from runs of `rt ci` that it watched: lines of text, must-fail "
+                       "edits, and processor minutes of each crate's proofs, of its proofs with tests, and of its edits "
+                       "with the check that they begin with. Processor time goes up with the load: on processors that "
+                       "were busy, times are up to twice those on quiet ones.")
     yield ""
     for run in runs:
-        yield (f"- {run['date']}, `{run['version']}`, {run['machine']}, {run['processors']} processors, mean load "
-               f"{run['load']:.1f}: {run['minutes']:.0f} minutes,")
-        yield (f"  {run['whole'] / 60:.1f} processor minutes, of which {run['seen'] / 60:.1f} were seen by crate"
-               f"{'; ' + run['said'] if run['said'] else ''}.")
-        if run["kept"]:
-            yield f"  Taken from earlier runs, so without time here: {len(run['kept'])} crates and sets of edits."
+        kept = f" Taken from earlier runs, so without time here: {len(run['kept'])} crates and sets of edits."
+        yield from wrapped(
+            f"- {run['date']}, `{run['version']}`, {run['machine']}, {run['processors']} processors, mean load "
+            f"{run['load']:.1f}: {run['minutes']:.0f} minutes, {run['whole'] / 60:.1f} processor minutes, of which "
+            f"{run['seen'] / 60:.1f} were seen by crate{'; ' + run['said'] if run['said'] else ''}."
+            f"{kept if run['kept'] else ''}")
     if len(runs) > 1:
         yield ""
         yield "Of a crate's proofs and tests the last that ended counts, of its edits all of the present text."
     if marked:
+        yield ""
         yield "With `*`: figures of an earlier text of the crate, or of one below it."
     yield ""
     yield from table(costs, marked)
