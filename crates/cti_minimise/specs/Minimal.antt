@@ -34,7 +34,7 @@ abbrev pub AreTried : Ceilings → ModelTree → Goal → List ℕ → Type 0
 AreTried limits m goal numbers =
     (place : ℕ) → place < length numbers → lowest m.signature place < get_or numbers place 0
     → RestrictedPassesFirst limits m
-        (bounds_on m.signature (take place numbers ++ (get_or numbers place 0 - 1) ∷ [])) goal None
+    (bounds_on m.signature (take place numbers ++ (get_or numbers place 0 - 1) ∷ [])) goal None
 
 -- no counterexample has smaller numbers than these, and the bounds just below them were tried
 pub record AreLeast (limits : Ceilings) (m : ModelTree) (goal : Goal) (numbers : List ℕ) : Type 0 where

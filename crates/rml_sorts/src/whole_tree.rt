@@ -6,7 +6,7 @@ ghost use Rattle.rml_lex.specs.Tokens.{StandsBy};
 ghost use Rattle.rml_syntax.specs.Tree.{file_tree, item_trees};
 ghost use Rattle.rml_syntax.specs.Within.{TreeWithin};
 ghost use Rattle.rml_syntax.specs.Shape.{IsShaped};
-ghost use Rattle.rml_sorts.specs.Items.{no_items, items_demands, model_of, fault_of};
+ghost use Rattle.rml_sorts.specs.Items.{no_items, with_items, items_demands, model_of, fault_of};
 ghost use Rattle.rml_names.specs.Drafts.{model_in};
 ghost use Rattle.rml_sorts.specs.Progress.{draft_of};
 ghost use Rattle.rml_names.specs.Sound.{IsSound};
@@ -34,6 +34,27 @@ impl Progress {
     }
 }
 
+// The items, from the first to the last, behind those that were read.
+fn add_items(
+    alloc: Global,
+    text: &[u8],
+    progress: &mut Progress,
+    items: &[Item],
+) -> Result<(), Refused<Fault>>
+    requires within { TreeWithin (length text.now) (item_trees items.now) }
+    requires shape { IsShaped (item_trees items.now) }
+    requires sound { IsSound (draft_of progress.old).model }
+    ensures draft { Answers (λ _. draft_of progress.new) result
+        (items_demands text.now (draft_of progress.old) (item_trees items.now))
+        (with_items text.now (draft_of progress.old) (item_trees items.now)) }
+    ensures sound { OnOk result (IsSound (draft_of progress.new).model) }
+{
+    for item in items {
+        add_item(alloc, text, progress, item)?;
+    }
+    Ok(())
+}
+
 // The draft of all items.
 fn read_items(alloc: Global, text: &[u8], items: &[Item]) -> Result<ModelDraft, Refused<Fault>>
     requires within { TreeWithin (length text.now) (item_trees items.now) }
@@ -43,10 +64,13 @@ fn read_items(alloc: Global, text: &[u8], items: &[Item]) -> Result<ModelDraft, 
     ensures sound { IfOk result (λ d. IsSound (model_in d)) }
 {
     let mut progress = Progress::new(alloc);
-    for item in items {
-        add_item(alloc, text, &mut progress, item)?;
+    match add_items(alloc, text, &mut progress, items) {
+        Ok(()) => Ok(progress.draft),
+        Err(refused) => {
+            drop(progress);
+            Err(refused)
+        }
     }
-    Ok(progress.draft)
 }
 
 /// The model of a tree, or the fault of its names and sorts: of the demands that are not met, the first in the order of

@@ -179,7 +179,7 @@ fn run_over<F: Files>(alloc: Global, row: &Row, files: &mut F) -> Parsed<Actual>
         Written::All => "all",
         Written::Failed => "failed",
     };
-    Ok(Actual {
+    let actual = Actual {
         status: ended.status,
         outcome: name_of(&ended.outcome),
         written,
@@ -187,7 +187,9 @@ fn run_over<F: Files>(alloc: Global, row: &Row, files: &mut F) -> Parsed<Actual>
         stands_in_text: stands_in_text(&ended),
         out,
         err,
-    })
+    };
+    drop(ended);
+    Ok(actual)
 }
 
 /// Runs the program on a row, with a front of one of its files in the place of this file.

@@ -31,6 +31,7 @@ fn size_of(alloc: Global, signature: &Signature, strata: &Strata, sentence: &Ea)
     let counts = count(alloc, signature, strata, sentence)?;
     let terms = counts.total();
     let nodes = ground_size(signature, &counts, sentence);
+    drop(counts);
     Ok(Size { terms, nodes })
 }
 
@@ -44,14 +45,18 @@ fn constants_of(alloc: Global, signature: &Signature, sentence: &Normal) -> Mem<
     }
     let made = constants(alloc, signature, sentence)?;
     let sorts = made.constants.as_slice();
-    format!(in alloc; "{nodes} nodes in normal form, constants of {sorts:?}")
+    let answer = format!(in alloc; "{nodes} nodes in normal form, constants of {sorts:?}");
+    drop(made);
+    answer
 }
 
 fn normal_form(alloc: Global, signature: &Signature, sentence: &Ea) -> Mem<String>
     requires { FitsForm (symbols signature.now) [] sentence.now }
 {
     let normal = normal(alloc, sentence)?;
-    constants_of(alloc, signature, &normal)
+    let answer = constants_of(alloc, signature, &normal);
+    drop(normal);
+    answer
 }
 
 fn limits() -> Limits {
@@ -70,9 +75,13 @@ fn decided(alloc: Global, signature: &Signature, strata: &Strata, sentence: &Ea)
         Decided::Refuted(proof) => {
             let cnf = proof.formula();
             let (variables, clauses) = (cnf.variables(), cnf.clauses().len());
+            drop(proof);
             format!(in alloc; "refuted over {variables} variables and {clauses} clauses")
         }
-        Decided::Satisfied(_) => String::from_str(alloc, "satisfied"),
+        Decided::Satisfied(satisfied) => {
+            drop(satisfied);
+            String::from_str(alloc, "satisfied")
+        }
         Decided::Over(passed) => format!(in alloc; "over {passed:?}"),
     }
 }

@@ -32,7 +32,11 @@ fn told(alloc: Global, checked: &Checked, goal: Goal) -> Mem<String> {
 
 fn answer_of(alloc: Global, goal: Goal, model: &[u8]) -> Mem<String> {
     match read_model(alloc, model) {
-        Ok(checked) => told(alloc, &checked, goal),
+        Ok(checked) => {
+            let answer = told(alloc, &checked, goal);
+            drop(checked);
+            answer
+        }
         Err(Refused::For(_)) => String::from_str(alloc, "a fault of the model"),
         Err(Refused::NoMemory) => Err(AllocError),
     }

@@ -16,7 +16,9 @@ fn precondition_nodes(
     requires { IsGoal checked.now goal.now }
 {
     let precondition = precondition(alloc, checked, goal)?;
-    Ok(precondition.sentence().nodes())
+    let nodes = precondition.sentence().nodes();
+    drop(precondition);
+    Ok(nodes)
 }
 
 fn refuting_of(alloc: Global, checked: &Checked, goal: &Goal) -> Mem<String>
@@ -31,7 +33,9 @@ fn refuting_of(alloc: Global, checked: &Checked, goal: &Goal) -> Mem<String>
                 checked.model().signature(),
                 checked.strata(),
                 &sentence,
-            )?;
+            );
+            drop(sentence);
+            let ground = ground?;
             let ground = ground.as_str();
             format!(in alloc; "refuting {nodes} nodes, {ground}")
         }

@@ -102,7 +102,11 @@ fn end(
     requires start { FitsStructure (symbols checked.now.signature) start.now }
 {
     match follow(alloc, checked, path, trace, start)? {
-        Followed::Ended(structure) => truths(alloc, checked, &structure),
+        Followed::Ended(structure) => {
+            let answer = truths(alloc, checked, &structure);
+            drop(structure);
+            answer
+        }
         Followed::Aborted => String::from_str(alloc, "aborted"),
         Followed::Blocked => String::from_str(alloc, "blocked"),
     }
@@ -133,7 +137,11 @@ impl Call for Runs {
             return String::from_str(alloc, "no sizes, path, elements and model");
         };
         match read_model(alloc, input.model.as_bytes()) {
-            Ok(checked) => follow_input(alloc, &checked, input),
+            Ok(checked) => {
+                let answer = follow_input(alloc, &checked, input);
+                drop(checked);
+                answer
+            }
             Err(Refused::For(_)) => String::from_str(alloc, "a fault of the model"),
             Err(Refused::NoMemory) => Err(AllocError),
         }

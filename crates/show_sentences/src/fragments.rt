@@ -78,7 +78,11 @@ pub struct Fragments;
 impl Call for Fragments {
     fn answer(alloc: Global, input: &str) -> Mem<String> {
         match model_of(alloc, input.as_bytes()) {
-            Ok(model) => fragments_told(alloc, &model),
+            Ok(model) => {
+                let answer = fragments_told(alloc, &model);
+                drop(model);
+                answer
+            }
             Err(refused) => fault_of(alloc, refused),
         }
     }

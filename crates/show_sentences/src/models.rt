@@ -9,8 +9,12 @@ use std::alloc::{AllocError, Global};
 /// The model of a text, or the first fault of its bytes, its grammar, or its names and sorts.
 pub fn model_of(alloc: Global, text: &[u8]) -> Result<Model, Refused<Fault>> {
     let tokens = lex(alloc, text)?;
-    let tree = parse(alloc, text, &tokens)?;
-    resolve(alloc, text, &tree)
+    let tree = parse(alloc, text, &tokens);
+    drop(tokens);
+    let tree = tree?;
+    let model = resolve(alloc, text, &tree);
+    drop(tree);
+    model
 }
 
 /// The number of a fault and where it stands, or want of memory.

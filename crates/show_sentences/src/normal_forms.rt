@@ -52,7 +52,11 @@ pub struct NormalForms;
 impl Call for NormalForms {
     fn answer(alloc: Global, input: &str) -> Mem<String> {
         match model_of(alloc, input.as_bytes()) {
-            Ok(model) => normal_forms(alloc, &model),
+            Ok(model) => {
+                let answer = normal_forms(alloc, &model);
+                drop(model);
+                answer
+            }
             Err(refused) => fault_of(alloc, refused),
         }
     }

@@ -44,7 +44,11 @@ fn listed(alloc: Global, all: &Paths) -> Mem<String> {
 
 fn init_paths(alloc: Global, model: &Model) -> Mem<String> {
     match paths(alloc, model.init()) {
-        Ok(all) => listed(alloc, &all),
+        Ok(all) => {
+            let list = listed(alloc, &all);
+            drop(all);
+            list
+        }
         Err(Refused::For(_)) => String::from_str(alloc, "too many paths"),
         Err(Refused::NoMemory) => Err(AllocError),
     }
@@ -56,7 +60,11 @@ pub struct BlockPaths;
 impl Call for BlockPaths {
     fn answer(alloc: Global, input: &str) -> Mem<String> {
         match model_of(alloc, input.as_bytes()) {
-            Ok(model) => init_paths(alloc, &model),
+            Ok(model) => {
+                let answer = init_paths(alloc, &model);
+                drop(model);
+                answer
+            }
             Err(refused) => fault_of(alloc, refused),
         }
     }
