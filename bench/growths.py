@@ -113,8 +113,12 @@ def growths_of(library, words, folder):
     """Gives how many growths a run with ample memory makes."""
     counted = os.path.join(folder, "counted")
     run(words, {**os.environ, "LD_PRELOAD": library, "COUNTED": counted})
+    if not os.path.exists(counted) or os.path.getsize(counted) < 2:
+        sys.exit("growths.py: the growths of this program cannot be counted: it takes memory by no call of the C library")
     with open(counted) as it:
-        return int(it.read())
+        count = int(it.read())
+    os.remove(counted)
+    return count or sys.exit("growths.py: this program makes no growth that could be refused")
 
 
 def refuse_in_turn(library, words, ample, limit, folder):

@@ -1,6 +1,6 @@
 -- Truth values by a function, and by the list of its values at the variables of a formula, satisfy the same clauses.
 use Rattle.std.proofs.Common.{◌≡◌, ◌<◌, ◌≤◌, ◌+◌, ◌-◌, ℕ, zero, suc, Bool, true, false, not, List, [], ◌∷◌, length}
-use Rattle.std.proofs.Common.{Some, if◌then◌else◌, ◌||◌, inl, inr, slice_index_or, refl, sym, ap, subst, ◌∙◌, arith}
+use Rattle.std.proofs.Common.{Some, if◌then◌else◌, inl, inr, slice_index_or, refl, sym, ap, subst, ◌∙◌, arith}
 use Rattle.std.specs.Prelude.{eqb}
 use Rattle.std.specs.List.{slice_get}
 use Rattle.std.proofs.lemmas.Bool.{or_cases, eqb-true}
@@ -8,7 +8,7 @@ use Rattle.cnf_base.specs.declared.cnf.Entry.{Entry}
 use Rattle.cnf_base.specs.declared.cnf.Entry.TheVariants.{Clause, True}
 use Rattle.cnf_base.specs.Literals.{variable_of, is_positive, is_true, member, IsLiteral, AreLiterals}
 use Rattle.cnf_base.specs.Clauses.{IsEntry, SatisfiesEntry}
-use Rattle.cnf_base.specs.Formulas.{Formula, IsFormula, AreEntries, IsModel, IsUnsatisfiable, Satisfies, value_of}
+use Rattle.cnf_base.specs.Formulas.{Formula, IsFormula, AreEntries, IsUnsatisfiable, Satisfies, value_of}
 use Rattle.ea_decide.specs.Laws.{IsSatisfiable}
 
 -- the values of n variables from k on
@@ -60,8 +60,10 @@ pub some_list : (f : Formula) (value : ℕ → Bool) → IsFormula f → Satisfi
 unfolding listed
 some_list f value is h = (
   listed value f.variables,
-  count value 1 f.variables,
-  λ k e at. satisfies value f.variables e (entry value f.variables f.clauses k e is at) (h k e at),
+  (
+    count value 1 f.variables,
+    λ k e at. satisfies value f.variables e (entry value f.variables f.clauses k e is at) (h k e at),
+  ),
 )
 
 pub none_satisfies : (f : Formula) → IsFormula f → (IsSatisfiable f → ⊥) → IsUnsatisfiable f
