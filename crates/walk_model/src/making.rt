@@ -74,13 +74,14 @@ fn with_paths(alloc: Global, model: Model) -> Mem<Checked>
             drop(model);
             Err(wanting)
         }
-        Ok(
-            Found {
-                strata,
-                init,
-                last,
-            },
-        ) => Ok(Checked::new(alloc, model, strata, init, Row::new(alloc), last)),
+        Ok(Found { strata, init, last }) => Ok(Checked::new(
+            alloc,
+            model,
+            strata,
+            init,
+            Row::new(alloc),
+            last,
+        )),
     }
 }
 
