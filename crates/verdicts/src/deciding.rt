@@ -10,8 +10,8 @@ ghost use Rattle.verdicts.specs.Earliest.{earlier_of, answer_of};
 use crate::listing::group_goals;
 use base::Mem;
 use cti_minimise::least;
+use lean_decide::{Settled, settle};
 use lrat_log::Limits;
-use obligation_decide::{Decision, decide};
 use rml_command::{About, Checked, Goal, Stage};
 use rml_report::{Answer, Cause, Group};
 use std::alloc::Global;
@@ -56,9 +56,9 @@ fn decide_goals(
 {
     let mut earliest = None;
     for goal in goals {
-        match decide(alloc, checked, goal, limits)? {
-            Decision::Holds(_) => {}
-            Decision::Fails(shown) => {
+        match settle(alloc, checked, goal, limits)? {
+            Settled::Holds => {}
+            Settled::Fails(shown) => {
                 let (shown, least) = least(alloc, checked, goal, shown, limits)?;
                 return Ok(Answer::Fails {
                     paths,
@@ -66,7 +66,7 @@ fn decide_goals(
                     shown,
                 });
             }
-            Decision::Undecided(cause) => {
+            Settled::Undecided(cause) => {
                 let path = goal.path;
                 earliest = earlier_of(earliest, OpenGoal { path, cause });
             }

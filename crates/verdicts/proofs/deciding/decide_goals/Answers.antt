@@ -20,7 +20,7 @@ returns-in-Fails c =
     let limits = ceilings c.args.limits.now in
     let here = next limits c.args.checked.now c.args.paths c.args.goals.now c.loop-goal.earliest c.loop-goal.goal-index
     none c.loop-goal-test.true c.loop-goal.invariant.whole in
-    let decided = rw c.in-Fails.is at c.in_ok-shown.ensures in
+    let decided = rw c.in-Fails.is at c.in_ok-settle.ensures in
     let sized = c.in_ok-shown-in-Fails.ensures in
     let f : Failure = record { shown = c.in_ok-shown-in-Fails.shown; least = c.in_ok-shown-in-Fails.least } in
     at_failing limits c.args.checked.now c.args.paths c.args.goals.now c.loop-goal.earliest _ _ f here
@@ -39,14 +39,14 @@ loop-goal-preserved c =
           (IsGoal m) c.loop-goal.goal-index none c.loop-goal-test.true c.loop-goal.invariant.each;
       whole = elim c.match-branch-2.branch [
         | in-Holds w ↦
-            let is = rw w.in-Holds.is at c.in_ok-shown.ensures in
+            let is = rw w.in-Holds.is at c.in_ok-settle.ensures in
             subst (λ (e : Option OpenGoal). Completes limits m c.args.paths c.args.goals.now e rest) (sym w.earliest-is)
             (behind_safe limits m c.args.paths c.args.goals.now c.loop-goal.earliest next_goal rest here (is.0, is.1))
         | in-Undecided w ↦
             subst (λ (e : Option OpenGoal). Completes limits m c.args.paths c.args.goals.now e rest)
             (sym (w.earliest-is ∙ w.earlier_of-earliest.ensures))
             (behind_open limits m c.args.paths c.args.goals.now c.loop-goal.earliest next_goal rest w.in-Undecided.cause
-            here (rw w.in-Undecided.is at c.in_ok-shown.ensures))
+            here (rw w.in-Undecided.is at c.in_ok-settle.ensures))
       ];
     }
 
