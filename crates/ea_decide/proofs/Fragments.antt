@@ -1,5 +1,5 @@
 -- The sentence with constants, step by step.
-use Rattle.std.proofs.Common.{◌≡◌, ℕ, true, List, [], length}
+use Rattle.std.proofs.Common.{ℕ, true, List, [], length}
 use Rattle.fol_sig.specs.Tables.{Declared}
 use Rattle.fol_sig.specs.Symbols.{AreSorted, symbols}
 use Rattle.fol_sig.specs.Strata.{IsStrata}

@@ -1,5 +1,5 @@
 -- A sink that was handed two lists of calls, one after the other.
-use Rattle.std.proofs.Common.{◌≡◌, List, [], ◌++◌, sym, ◌∙◌, subst}
+use Rattle.std.proofs.Common.{List, [], ◌++◌, sym, ◌∙◌, subst}
 use Rattle.std.proofs.lemmas.List.{append-nil}
 use Rattle.ground_terms.specs.Calls.{Call}
 use Rattle.ground_terms.specs.Taking.{TakesAll}

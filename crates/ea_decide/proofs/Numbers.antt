@@ -1,34 +1,9 @@
 -- Within the limits there is room: the terms can be numbered, and the clauses given to a solver.
-use Rattle.std.proofs.Common.{
-  ◌≡◌,
-  ℕ,
-  ◌+◌,
-  ◌*◌,
-  ◌<◌,
-  ◌≤◌,
-  ◌^◌,
-  Bool,
-  true,
-  false,
-  List,
-  [],
-  ◌∷◌,
-  length,
-  Option,
-  Some,
-  None,
-  get_or,
-  refl,
-  sym,
-  ap,
-  ◌∙◌,
-  subst,
-  arith,
-}
+use Rattle.std.proofs.Common.{◌≡◌, ℕ, ◌+◌, ◌*◌, ◌<◌, ◌≤◌, ◌^◌, Bool, true, false, List, [], length, Option, Some, None, refl, sym, subst, arith}
 use Rattle.std.specs.Prelude.{nat_lt, if◌then◌else◌, sum}
 use Rattle.std.proofs.lemmas.Bool.{ltb-false}
 use Rattle.fol_sig.specs.Tables.{Declared}
-use Rattle.fol_sig.specs.Symbols.{Symbols, symbols}
+use Rattle.fol_sig.specs.Symbols.{Symbols}
 use Rattle.fol_formula.specs.Syntax.{FormTree}
 use Rattle.fol_formula.specs.Counts.{saturated}
 use Rattle.fol_nnf.specs.Normal.{normal}
@@ -36,10 +11,8 @@ use Rattle.skolem.specs.Constants.{new_sorts}
 use Rattle.ground_terms.specs.Terms.{Lists, AreClosed, term_counts}
 use Rattle.ground_terms.specs.TermCounts.{AreCounts, CountsAreOne, CountsTellFew, HasFewTerms}
 use Rattle.ground_terms.specs.Trees.{Trees, nodes_all, trees_of}
-use Rattle.equality_axioms.specs.Axioms.{equality_axioms}
 use Rattle.clause_form.specs.Clauses.{clause_form}
-use Rattle.ground_size.specs.Counting.{skolem_signature}
-use Rattle.ground_size.specs.Sizes.{instance_nodes, axiom_count, size_of}
+use Rattle.ground_size.specs.Sizes.{size_of}
 use Rattle.ground_size.specs.Laws.{InstancesAreCounted, AxiomsAreCounted}
 use Rattle.ea_decide.specs.declared.decided.Passed.{Passed}
 use Rattle.ea_decide.specs.declared.decided.Passed.TheVariants.{Terms, GroundSize}

@@ -26,7 +26,7 @@ use Rattle.std.proofs.lemmas.Bool.{cases_lt, cond-true, eq-eqb}
 use Rattle.std.proofs.lemmas.List.Sums.{sum_by-cons}
 use Rattle.fol_sig.specs.Tables.{tuple_count}
 use Rattle.fol_sig.specs.Symbols.{Symbols, AreSorted}
-use Rattle.ground_terms.specs.TermCounts.{sum_below, or_one, application_count, term_count, AreCounts}
+use Rattle.ground_terms.specs.TermCounts.{sum_below, or_one, application_count, AreCounts}
 
 sum-sum : (n : ℕ) (f g : ℕ → ℕ) → sum_below n (λ x. f x + g x) ≡ sum_below n f + sum_below n g
 sum-sum zero f g = refl

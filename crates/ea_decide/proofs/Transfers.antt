@@ -1,17 +1,15 @@
 -- What is known of a sentence's form with constants, told of the sentence.
-use Rattle.std.proofs.Common.{◌≡◌, ℕ, ◌+◌, ◌≤◌, Bool, true, List, [], ◌∷◌, length, refl, sym, ap, ◌∙◌, subst, arith}
-use Rattle.std.specs.Prelude.{sum}
+use Rattle.std.proofs.Common.{◌≡◌, ℕ, Bool, true, List, [], sym, ap, ◌∙◌, subst, arith}
 use Rattle.fol_sig.specs.Tables.{Declared, Tables}
 use Rattle.fol_sig.specs.Symbols.{symbols}
 use Rattle.fol_formula.specs.Syntax.{FormTree}
 use Rattle.cnf_base.specs.Formulas.{Formula, IsModel, Satisfies, IsUnsatisfiable, value_of}
 use Rattle.lrat_log.specs.declared.line.Line.{Line}
 use Rattle.lrat_log.specs.Refutations.{IsSpent}
-use Rattle.ground_terms.specs.Terms.{Lists, AreClosed, term_counts}
-use Rattle.ground_terms.specs.Trees.{Tree, all_true, trees_of}
+use Rattle.ground_terms.specs.Terms.{Lists, AreClosed}
+use Rattle.ground_terms.specs.Trees.{all_true, trees_of}
 use Rattle.ground_terms.specs.Same.{holds_in}
 use Rattle.ground_terms.specs.declared.atom.Atom.{Atom}
-use Rattle.ground_expand.specs.Instance.{instance_of}
 use Rattle.equality_axioms.specs.Axioms.{equality_axioms}
 use Rattle.clause_form.specs.Clauses.{clause_form}
 use Rattle.clause_form.specs.Meaning.{atoms_of, true_atoms}

@@ -3,7 +3,7 @@ use Rattle.std.specs.Prelude.{◌≡◌, ℕ, nat_lt, List, sum, Option, Some, N
 use Rattle.fol_sig.specs.Tables.{Declared}
 use Rattle.fol_formula.specs.Syntax.{FormTree}
 use Rattle.fol_formula.specs.Counts.{saturated}
-use Rattle.lrat_log.specs.declared.answer.Limits.{Limits}
+use Rattle.lrat_log.specs.declared.limits.Limits.{Limits}
 use Rattle.ground_size.specs.Counting.{AreTermCounts}
 use Rattle.ground_size.specs.Sizes.{size_of}
 use Rattle.ea_decide.specs.declared.decided.Passed.{Passed}

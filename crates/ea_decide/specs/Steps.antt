@@ -1,5 +1,5 @@
 -- What the steps of a decision hand on. Private contracts alone cite this.
-use Rattle.std.specs.Prelude.{◌≡◌, ℕ, ◌+◌, ◌<◌, ◌≤◌, ◌^◌, Bool, true, List, [], ◌∷◌, length, sum, None}
+use Rattle.std.specs.Prelude.{◌≡◌, ℕ, ◌+◌, ◌<◌, ◌≤◌, ◌^◌, Bool, true, List, [], length, sum, None}
 use Rattle.fol_sig.specs.Tables.{Declared, Tables, reading}
 use Rattle.fol_sig.specs.Symbols.{Symbols, AreSorted, FitsStructure, symbols}
 use Rattle.fol_sig.specs.Strata.{IsStrata}

@@ -4,7 +4,7 @@ ghost use Rattle.fol_sig.specs.Tables.{numbers, AreSorts, InRange, tuple_count, 
 ghost use Rattle.fol_sig.specs.Tables.{function_at};
 ghost use Rattle.fol_sig.specs.Tables.{blank_relation, blank_function, blank, IsStructure};
 ghost use Rattle.fol_sig.specs.Symbols.{Symbols, FitsStructure, symbols};
-ghost use Rattle.fol_sig.specs.Constants.{constant_table, constant_tables, with_constants, reduct};
+ghost use Rattle.fol_sig.specs.Constants.{reduct};
 ghost use Rattle.fol_sig.specs.Updates.{SetsRelation, SetsFunction, with_rel_at, with_fun_at};
 ghost use Rattle.fol_sig.specs.Updates.{with_relation_cells, with_function_cells};
 
@@ -78,23 +78,6 @@ impl Structure {
             relations,
             functions,
         })
-    }
-
-    /// The structure of these sizes and tables.
-    pub fn of_tables(
-        sizes: Vec<u32>,
-        relations: Vec<Table<bool>>,
-        functions: Vec<Function>,
-    ) -> Structure
-        requires { IsStructure
-            (record { sizes = sizes.items; relations = relations.items; functions = functions.items }) }
-        ensures { result ≡ record { sizes = sizes.items; relations = relations.items; functions = functions.items } }
-    {
-        Structure {
-            sizes,
-            relations,
-            functions,
-        }
     }
 
     /// A second structure with the same sizes and tables.
@@ -210,33 +193,6 @@ impl Structure {
         self.functions[fun.0 as usize].table.set_cells(cells);
     }
 
-    /// Adds a function without arguments behind the others. The structure is as before where the memory
-    /// is wanting.
-    pub fn add_constant(&mut self, alloc: Global, sort: Sort, value: u32) -> Mem<()>
-        requires known { sort.0 < length self.old.sizes }
-        requires within { value < size_at self.old sort.0 }
-        ensures added { OnOk result
-            (self.new ≡ record self.old { functions = self.old.functions ++ constant_table sort.0 value ∷ [] }) }
-        ensures kept { OnErr result (self.new ≡ self.old) }
-    {
-        let table = Table::filled(alloc, &self.sizes, &Sorts::new(alloc), value)?;
-        self.functions.push(Function { table, into: sort })?;
-        Ok(())
-    }
-
-    /// Adds functions without arguments behind the others, with these values. The structure is as before
-    /// where the memory is wanting.
-    pub fn add_constants(&mut self, alloc: Global, sorts: &[Sort], values: &[u32]) -> Mem<()>
-        requires known { AreSorts (length self.old.sizes) (numbers sorts.now) }
-        requires in_range { InRange self.old.sizes (numbers sorts.now) values.now }
-        ensures added { OnOk result (self.new ≡ with_constants self.old (numbers sorts.now) values.now) }
-        ensures kept { OnErr result (self.new ≡ self.old) }
-    {
-        let mut constants = constants(alloc, &self.sizes, sorts, values)?;
-        self.functions.append(&mut constants)?;
-        Ok(())
-    }
-
     /// Drops the relations and functions behind those of the signature.
     pub fn restrict(&mut self, signature: &Signature)
         ensures { self.new ≡ reduct (symbols signature.now) self.old }
@@ -244,22 +200,6 @@ impl Structure {
         self.relations.truncate(signature.relation_count() as usize);
         self.functions.truncate(signature.function_count() as usize);
     }
-}
-
-// The tables of functions without arguments that have these values.
-fn constants(alloc: Global, sizes: &[u32], sorts: &[Sort], values: &[u32]) -> Mem<Vec<Function>>
-    requires { length sorts.now ≡ length values.now }
-    ensures { IfOk result (λ ts. ts.items ≡ constant_tables (numbers sorts.now) values.now) }
-{
-    let mut all = Vec::new(alloc);
-    for i in 0..sorts.len() {
-        let table = Table::filled(alloc, sizes, &Sorts::new(alloc), values[i])?;
-        all.push(Function {
-            table,
-            into: sorts[i],
-        })?;
-    }
-    Ok(all)
 }
 
 fn blank_relations(alloc: Global, sizes: &[u32], declared: &[Sorts]) -> Mem<Vec<Table<bool>>>

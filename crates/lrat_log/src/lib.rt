@@ -3,9 +3,9 @@
 //! is accepted, and what an accepted log shows.
 #![tactic(auto)]
 
-mod answer;
 mod fault_code;
 mod laws;
+mod limits;
 mod line;
 mod outcome;
 mod reader;
@@ -14,9 +14,9 @@ mod sink;
 mod text;
 mod writer;
 
-pub use answer::{Limits, Spent};
 pub use fault_code::LogFaultCode;
 pub use laws::{code_laws, growth_laws, learnt_laws, range_laws, round_trip, soundness};
+pub use limits::Limits;
 pub use line::{Line, Log};
 pub use outcome::{Effect, Outcome};
 pub use reader::read_log;

@@ -13,7 +13,7 @@ use fol_formula::Ea;
 use fol_sig::{FunId, Structure};
 use rml_command::{Checked, Goal};
 use rml_exec::{Counterexample, Trace};
-use rml_wp::{Premises, read_witness_by};
+use rml_wp::{Premises, read_witness};
 use std::alloc::Global;
 
 /// The counterexample of a goal that a model of its refuting sentence is, with constants in the place of the
@@ -44,7 +44,7 @@ pub fn read_counterexample(
     let functions = signature.function_count();
     let count = sentence.sentence().formula().existentials() as u32;
     let constants = constants(alloc, &model, functions, count)?;
-    let witness = read_witness_by(alloc, checked, premises, goal, &constants)?;
+    let witness = read_witness(alloc, checked, premises, goal, &constants)?;
     let mut structure = model;
     structure.restrict(signature);
     Ok(Counterexample {

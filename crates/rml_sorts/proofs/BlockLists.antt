@@ -2,7 +2,7 @@
 use Rattle.std.proofs.Common.{◌≡◌, ◌++◌, ◌+◌, ◌<◌, ◌≤◌, ℕ, zero, suc, List, [], ◌∷◌, length, map, drop, get_or, None}
 use Rattle.std.proofs.Common.{refl, sym, ap, subst, ◌∙◌, append_assoc, arith}
 use Rattle.std.specs.Global.{Vec}
-use Rattle.std.proofs.lemmas.List.{drop_all, append-nil, map-append}
+use Rattle.std.proofs.lemmas.List.{drop_all, map-append}
 use Rattle.base.proofs.Lists.{drop_read}
 use Rattle.rml_syntax.specs.declared.tree.Command.{Command}
 use Rattle.rml_syntax.specs.declared.tree.Command.TheVariants as variants

@@ -28,7 +28,7 @@ use Rattle.rml_syntax.specs.Tree.{Quantified, no_expr, and_expr, Block, Blocks, 
 use Rattle.rml_syntax.specs.Tree.{Insert, Remove, Put, Assign, no_command, and_command, no_block, and_block, ItemTree}
 use Rattle.rml_syntax.specs.Tree.{CommandTree, Relation, Function, Variable, Axiom, Conjecture, Init, Action, Final}
 use Rattle.rml_syntax.specs.Tree.{block_of}
-use Rattle.rml_syntax.specs.Places.{AscendBetween, Ascend, name_places, places_in, places_of_exprs, places_of_expr}
+use Rattle.rml_syntax.specs.Places.{AscendBetween, name_places, places_in, places_of_exprs, places_of_expr}
 use Rattle.rml_syntax.specs.Places.{places_of_side, places_of_command, places_of_block, places_of_blocks}
 use Rattle.rml_syntax.specs.Places.{places_of_item, places_of_items}
 use Rattle.rml_command.specs.Models.{ModelTree}
@@ -37,7 +37,7 @@ use Rattle.rml_names.specs.Meanings.{BoundName, bytes_of, meaning_of, symbol_of,
 use Rattle.rml_names.specs.Meanings.{term_sort, with_parameters}
 use Rattle.rml_sort_check.specs.declared.wanted.Wanted.{Wanted}
 use Rattle.rml_sort_check.specs.declared.wanted.Wanted.TheVariants.{Formula, Term}
-use Rattle.rml_sort_check.specs.Demands.{Demand, asks, first_fault, name_demands, compound, second_sort, binder_demands}
+use Rattle.rml_sort_check.specs.Demands.{Demand, first_fault, name_demands, second_sort, binder_demands}
 use Rattle.rml_sort_check.specs.Demands.{demands, formula_demands, argument_demands, parameter_demands, side_of}
 use Rattle.rml_sort_check.specs.Demands.{side_demands, command_demands, block_demands, blocks_demands, expr_count}
 use Rattle.rml_sorts.specs.Items.{Draft, no_items, sort_known, sort_demands, item_demands, items_demands, with_item}

@@ -15,7 +15,7 @@ use Rattle.rml_lex.specs.declared.fault_code.FaultCode.TheVariants as fault_code
 use Rattle.rml_syntax.specs.declared.tree.Name.{Name}
 use Rattle.rml_syntax.specs.Tree as syntax
 use Rattle.rml_syntax.specs.Tree.{ExprTree, ItemTree, Relation, Function, Variable, Axiom, Conjecture, Init, Action}
-use Rattle.rml_syntax.specs.Tree.{Final, Block, no_command, and_command, block_of}
+use Rattle.rml_syntax.specs.Tree.{Final, block_of}
 use Rattle.rml_syntax.specs.Shape.{BlockNests, CommandsNest, ItemNests}
 use Rattle.rml_command.specs.Trees.{CommandTree, EachPrimitive, HasBranches}
 use Rattle.rml_command.specs.Models.{ModelTree, EachBlock, FitsCommand, IsNamed, IsWritten, HasPlainSides, IsPlainModel}

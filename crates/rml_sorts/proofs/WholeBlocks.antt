@@ -8,11 +8,10 @@ use Rattle.fol_formula.specs.Syntax.{TermTree, TermTrees, no_terms, term_then}
 use Rattle.fol_formula.specs.Fits.{FitsForm}
 use Rattle.fol_formula.specs.Fragments.{HasPlainTerms, AreQuantifierFree, IsQuantifierFreeTerm, AreQuantifierFreeTerms}
 use Rattle.rml_syntax.specs.declared.tree.Name.{Name}
-use Rattle.rml_syntax.specs.Tree.{ExprTree, ExprTrees, Block, Blocks, Skip, Abort, Assume, Assert, If, Choose, Insert}
+use Rattle.rml_syntax.specs.Tree.{ExprTree, Block, Blocks, Skip, Abort, Assume, Assert, If, Choose, Insert}
 use Rattle.rml_syntax.specs.Tree.{Remove, Put, Assign, no_command, and_command, no_block, and_block}
 use Rattle.rml_syntax.specs.Tree as syntax
 use Rattle.rml_syntax.specs.Shape.{CommandNests, BlockNests, BlocksNest}
-use Rattle.base.specs.Lists.{SomeOf}
 use Rattle.rml_command.specs.Trees.{PrimitiveTree, assume, set_rel, set_fun, havoc, abort, CommandTrees, EachPrimitive}
 use Rattle.rml_command.specs.Trees.{EachPrimitiveOf, HasBranches, HaveBranches}
 use Rattle.rml_command.specs.Models.{ModelTree, IsNamed, FitsPrimitive, IsWritten, HasPlainSides}

@@ -7,7 +7,7 @@ use Rattle.rml_syntax.specs.declared.tree.Name.{Name}
 use Rattle.rml_syntax.specs.Tree as syntax
 use Rattle.rml_syntax.specs.Tree.{ItemTree, Relation, Function, Variable, Axiom, Conjecture, Init, Action, Final}
 use Rattle.rml_syntax.specs.Tree.{block_of}
-use Rattle.rml_command.specs.Trees.{CommandTree, seq, no_commands}
+use Rattle.rml_command.specs.Trees.{CommandTree, seq}
 use Rattle.rml_command.specs.Models.{ModelTree}
 use Rattle.rml_command.specs.declared.places.Places.{Places}
 use Rattle.rml_sort_check.specs.declared.wanted.Wanted.TheVariants.{Formula}

@@ -53,32 +53,9 @@ use Rattle.rml_lex.specs.declared.token.Sign.TheVariants.{
 use Rattle.rml_syntax.specs.declared.tree.Quantifier.TheVariants as quantifier
 use Rattle.rml_syntax.specs.Piece.{Piece, nothing, ◌⊗◌, ◌⇒◌}
 use Rattle.rml_syntax.specs.Tree as node
-use Rattle.rml_syntax.specs.Tree.{
-  ExprTree,
-  CommandTree,
-  ItemTree,
-  name_of,
-  or_none,
-  applied,
-  conditional,
-  compared,
-  negated,
-  joined,
-  implied,
-  equivalent,
-  binder_of,
-  quantified,
-  assumed,
-  asserted,
-  branched,
-  choice,
-  inserted,
-  removed,
-  putting,
-  assigned,
-}
+use Rattle.rml_syntax.specs.Tree.{name_of, or_none, applied, conditional, compared, negated, joined, implied, equivalent, binder_of, quantified, assumed, asserted, branched, choice, inserted, removed, putting, assigned}
 use Rattle.rml_syntax.specs.Grammar as g
-use Rattle.rml_syntax.specs.Grammar.{Inner, between, after, separated, named, level, no_inner, file}
+use Rattle.rml_syntax.specs.Grammar.{Inner, after, separated, named, level, no_inner, file}
 use Rattle.rml_syntax.specs.Reading.{
   Inners,
   piece,

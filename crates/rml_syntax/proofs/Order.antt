@@ -10,21 +10,7 @@ use Rattle.rml_syntax.specs.declared.tree.Binder.{Binder}
 use Rattle.rml_syntax.specs.declared.tree.Quantifier.{Quantifier}
 use Rattle.rml_syntax.specs.Language.{Tokens}
 use Rattle.rml_syntax.specs.Tree as node
-use Rattle.rml_syntax.specs.Tree.{
-  ExprTree,
-  ExprTrees,
-  CommandTree,
-  ItemTree,
-  exprs_of,
-  block_of,
-  blocks_of,
-  compared,
-  joined,
-  implied,
-  equivalent,
-  nested,
-  quantified,
-}
+use Rattle.rml_syntax.specs.Tree.{ExprTree, ExprTrees, CommandTree, ItemTree, exprs_of, block_of, blocks_of, compared, joined, implied, equivalent, nested}
 use Rattle.rml_syntax.specs.Grammar.{max_levels}
 use Rattle.rml_syntax.specs.Faults.{IsTree}
 use Rattle.rml_syntax.specs.Places.{

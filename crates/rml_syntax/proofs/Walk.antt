@@ -7,7 +7,7 @@ use Rattle.std.proofs.Common.{sym, subst, ap, ◌∙◌}
 use Rattle.std.specs.List.{AllByRecursion}
 use Rattle.rml_lex.specs.declared.token.Token.{Token}
 use Rattle.rml_lex.specs.declared.token.Kind.{Kind}
-use Rattle.rml_lex.specs.declared.token.Kind.TheVariants.{Word, Sign}
+use Rattle.rml_lex.specs.declared.token.Kind.TheVariants.{Sign}
 use Rattle.rml_lex.specs.declared.token.Kind.TheVariants as kind
 use Rattle.rml_lex.specs.declared.token.Sign.TheVariants.{OpenParen, CloseParen, Not as Tilde}
 use Rattle.rml_syntax.specs.declared.tree.Name.{Name}

@@ -4,9 +4,8 @@ ghost use Rattle.fol_formula.specs.View.{form};
 ghost use Rattle.fol_formula.specs.Counts.{saturated};
 ghost use Rattle.rml_command.specs.View.{primitive as primitive_view};
 ghost use Rattle.rml_command.specs.Goals.{IsGoal};
-ghost use Rattle.rml_wp.specs.declared.premises.Premises.TheVariants.{All};
 ghost use Rattle.rml_wp.specs.Preconditions.{target_of};
-ghost use Rattle.rml_wp.specs.Witnesses.{witness_places, witness_places_by, values_at};
+ghost use Rattle.rml_wp.specs.Witnesses.{witness_places_by, values_at};
 ghost use Rattle.rml_wp.specs.Consumed.{next_of, behind_of, counts_of, read_havocs, behind_path, read_values};
 ghost use Rattle.rml_wp.specs.Laws.{HasTarget};
 ghost use Rattle.rml_wp.specs.WitnessLaws.{GivesCounterexamples};
@@ -29,26 +28,8 @@ pub struct Witness {
 
 /// What stands at the goal's places in the values of the existentials of its refuting sentence, which are
 /// in the order of its normal form: the elements and values of a counterexample, wherever the values satisfy
-/// the sentence.
+/// the sentence in which these axioms are premises behind a step.
 pub fn read_witness(
-    alloc: Global,
-    checked: &Checked,
-    goal: &Goal,
-    witnesses: &[u32],
-) -> Mem<Witness>
-    requires { IsGoal checked.now goal.now }
-    ensures havoc { IfOk result (λ w. w.havoc ≡ values_at witnesses.now (witness_places checked.now goal.now).havocs) }
-    ensures values { IfOk result
-        (λ w. w.values ≡ values_at witnesses.now (witness_places checked.now goal.now).values) }
-    ensures counterexamples { IfOk result
-        (λ w. GivesCounterexamples All checked.now goal.now witnesses.now w.havoc w.values) }
-{
-    let witness = read_witness_by(alloc, checked, Premises::All, goal, witnesses)?;
-    Ok(witness)
-}
-
-/// The same for the refuting sentence in which these axioms are premises behind a step.
-pub fn read_witness_by(
     alloc: Global,
     checked: &Checked,
     premises: Premises,

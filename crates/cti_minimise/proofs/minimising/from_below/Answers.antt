@@ -1,10 +1,10 @@
-use Rattle.std.proofs.Common.{◌≡◌, ◌<◌, ◌≤◌, ℕ, true, List, [], ◌∷◌, ◌++◌, length, take, get_or, sym, ap, ◌∙◌, subst}
+use Rattle.std.proofs.Common.{◌≡◌, ◌<◌, ℕ, true, List, [], ◌∷◌, ◌++◌, length, take, get_or, sym, ap, ◌∙◌, subst}
 use Rattle.std.proofs.Common.{arith}
 use Rattle.std.proofs.lemmas.Grind.{get_or_default_zero}
 use Rattle.rml_command.specs.Models.{ModelTree}
 use Rattle.rml_command.specs.Outcomes.{satisfies}
 use Rattle.ea_decide.specs.Passing.{ceilings}
-use Rattle.obligation_decide.specs.Restricted.{HasNoneWhere, IsLeftOpenWhere}
+use Rattle.obligation_decide.specs.Restricted.{HasNoneWhere}
 use Rattle.cti_minimise.specs.Bounding.{bounds_on}
 use Rattle.cti_minimise.specs.Extents.{extent, lowest}
 use Rattle.cti_minimise.specs.Minimal.{AreLeast, numbers_up_to}

@@ -1,4 +1,3 @@
-use Rattle.std.proofs.Common.{◌∷◌}
 use Rattle.fol_sig.specs.Symbols.{symbols}
 use Rattle.ground_terms.specs.Calls.{calls_of}
 use Rattle.ground_terms.specs.Taking.{calls_of_each}

@@ -1,8 +1,5 @@
-// What the layers that decide share: limits, and what shows that a budget was spent.
+// The limits that the layers that decide share.
 ghost use Rattle.std.specs.Prelude.{◌≤◌, ◌<◌};
-
-use crate::Log;
-use cnf_base::Cnf;
 
 /// The limits of a decision: the number of ground terms, the size of the ground formula, and the
 /// number of clauses that the solver may learn.
@@ -14,12 +11,4 @@ pub struct Limits {
     ghost terms_in_range: { (0 < terms) × (terms ≤ 100000) },
     ghost ground_size_in_range: { (0 < ground_size) × (ground_size ≤ 50000000) },
     ghost conflicts_in_range: { (0 < conflicts) × (conflicts ≤ 100000000) },
-}
-
-/// A budget of learnt clauses that was spent, with the clauses and the log that show it.
-#[derive(Drop)]
-pub struct Spent {
-    pub budget: u64,
-    pub cnf: Cnf,
-    pub log: Log,
 }
