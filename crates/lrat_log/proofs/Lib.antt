@@ -2,6 +2,7 @@ pub mod Sound
 pub mod Growth
 pub mod Ranges
 pub mod Resolvent
+pub mod Bounds
 pub mod Readings
 pub mod Standing
 pub mod Grammar

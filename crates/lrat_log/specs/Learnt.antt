@@ -72,3 +72,7 @@ AreLearntFrom variables held last (Delete id ids ∷ lines) = ⊥
 
 abbrev pub AreLearnt : Formula → List Line → Type 0
 AreLearnt f lines = AreLearntFrom f.variables (held_of f) (length f.clauses) lines
+
+-- each literal of the one clause stands in the other
+abbrev pub IsWithin : List ℕ → List ℕ → Type 0
+IsWithin c d = (l : ℕ) → member l c ≡ true → member l d ≡ true

@@ -1,12 +1,15 @@
 // What follows from the definitions alone. Crates above call these, since no proof of one crate names one of another.
-ghost use Rattle.std.specs.Prelude.{ℕ, Bool, true, List, [], ◌∷◌, ◌++◌, ◌||◌, ◌==◌, ◌≤◌, length, Ok, ◌≡◌};
+ghost use Rattle.std.specs.Prelude.{ℕ, Bool, true, List, [], ◌∷◌, ◌++◌, ◌||◌, ◌==◌, ◌≤◌, ◌<◌, ◌^◌, length, Ok, ◌≡◌};
+ghost use Rattle.std.specs.Prelude.{Some, slice_get};
+ghost use Rattle.cnf_base.specs.declared.cnf.Entry.TheVariants.{Clause};
 ghost use Rattle.cnf_base.specs.Clauses.{SatisfiesClause};
 ghost use Rattle.cnf_base.specs.Formulas.{Formula, IsUnsatisfiable};
 ghost use Rattle.lrat_log.specs.declared.line.Line.{Line};
 ghost use Rattle.lrat_log.specs.Held.{Held, SatisfiesHeld, after_line, after_lines};
 ghost use Rattle.lrat_log.specs.Accepted.{outcome_of, outcome_of_addition, last_id, IsFit, IsAccepted};
 ghost use Rattle.lrat_log.specs.Accepted.{IsAcceptedFrom, adds_empty};
-ghost use Rattle.lrat_log.specs.Learnt.{IsResolvent, IsLearnt, AreLearnt, AreLearntFrom};
+ghost use Rattle.lrat_log.specs.Learnt.{IsResolvent, IsLearnt, AreLearnt, AreLearntFrom, IsWithin};
+ghost use Rattle.lrat_log.specs.Refutations.{IsSpent};
 ghost use Rattle.lrat_log.specs.declared.outcome.Outcome.TheVariants.{Accepted};
 ghost use Rattle.lrat_log.specs.declared.line.Line.TheVariants.{Add, Delete};
 ghost use Rattle.lrat_log.specs.Logs.{IsLog, IsLineOver, IsLogOver};
@@ -42,6 +45,22 @@ pub fn learnt_laws()
         → outcome_of_addition held ls hints ≡ Accepted }
     ensures log { (f : Formula) (lines : List Line) → AreLearnt f lines → IsAccepted f lines }
 {}
+
+/// What is learnt is new. A learnt addition contains no clause that is held, and so none that was learnt before it:
+/// no two have the same literals. Of the clauses over V variables that have no opposite literals and are not empty
+/// there are `3 ^ V - 1`, so fewer than `3 ^ V` are learnt, and a budget of `3 ^ V` or more is never spent.
+pub fn bound_law()
+    ensures new { (held : Held) (ls hints : List ℕ) (id : ℕ) (c : List ℕ) → IsLearnt held ls hints
+        → held id ≡ Some (Clause c) → IsWithin c ls → ⊥ }
+    ensures different { (f : Formula) (lines : List Line) (j k m n : ℕ) (c d gs hs : List ℕ) → AreLearnt f lines
+        → j < k → slice_get lines j ≡ Some (Add m c gs) → slice_get lines k ≡ Some (Add n d hs)
+        → IsWithin c d → ⊥ }
+    ensures log { (f : Formula) (lines : List Line) → AreLearnt f lines → length lines < 3 ^ f.variables }
+    ensures budget { (f : Formula) (budget : ℕ) (lines : List Line) → IsSpent f budget lines
+        → budget < 3 ^ f.variables }
+{
+    opposite_laws();
+}
 
 /// One more line behind a log: what is held, the greatest id, whether an addition without literals is
 /// among the lines, and that the longer log is in range, accepted, or learnt.

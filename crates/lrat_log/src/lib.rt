@@ -15,7 +15,7 @@ mod text;
 mod writer;
 
 pub use fault_code::LogFaultCode;
-pub use laws::{code_laws, growth_laws, learnt_laws, range_laws, round_trip, soundness};
+pub use laws::{bound_law, code_laws, growth_laws, learnt_laws, range_laws, round_trip, soundness};
 pub use limits::Limits;
 pub use line::{Line, Log};
 pub use outcome::{Effect, Outcome};
