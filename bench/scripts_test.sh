@@ -405,6 +405,20 @@ else
         expect "spread: the axioms of $name" first_is "$(head -n 1 "$room/report")"
         expect "spread: the status of $name" ended "$wanted"
     done
+    bench models.py 50
+    expect 'models: none of fifty differs' ended 0
+    # `lie` has the program's reports pass through a filter: `models.py` has to see what it changes.
+    lie() {
+        printf '#!/bin/bash\nset -o pipefail\n"%s" "$@" | %s\n' "$program" "$1" >"$room/bin/liar"
+        chmod +x "$room/bin/liar"
+        IVYCHECK=$room/bin/liar bench models.py 8
+    }
+    lie "sed '/^  /d; s/fails/holds/'"
+    expect 'models: what fails and is said to hold is told' wrote ' holds, and fails on path '
+    lie "sed 's/^\(    relation [a-z0-9]*:\)$/\1 (0)/'"
+    expect 'models: a tuple too many is told' wrote ' tuples are enough'
+    lie "sed 's/^  values: 0/  values: 1/'"
+    expect 'models: values that are no elements are told' wrote 'the report cannot be read: '
     if command -v cc >/dev/null; then
         bench growths.py 'a log that refutes'
         expect 'growths: a log' ended 0

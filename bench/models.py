@@ -1,0 +1,410 @@
+#!/usr/bin/env python3
+"""Holds `check` to brute force: random small models, and every structure of up to three elements a sort.
+
+    bench/models.py [COUNT [SEED]]      IVYCHECK is the program (the one that ./ivycheck runs); 1000 models from seed 1
+
+The judge knows nothing of the program's way: no precondition, no clause. It makes every structure of every size that
+has at most 20,000 structures, keeps those that satisfy the axioms (and, but for init, the conjectures), and follows
+each path of each block from each, element by element. Of each group it asks:
+
+- where `check` says `holds`, that no structure it made is a counterexample;
+- where it says `fails`, that the printed structure may stand before the block, that the path with the printed elements
+  ends in the printed structure, where the conjecture is false at the printed values, or that it aborts; that no path
+  before it fails; that no structure with lexicographically smaller sizes fails on it; and, behind `least: yes`, that
+  none of the same sizes has a lexicographically smaller list of numbers of true tuples.
+
+The last line says how many groups held, failed and were left open, how many of the failing ones had their sizes among
+those that were made, and how many differ. The status is 1 where one differs; the model of such a one is printed.
+"""
+import itertools
+import multiprocessing
+import random
+import re
+import subprocess
+import sys
+import tempfile
+from collections import Counter
+
+import rml
+from program import program
+
+MOST = 20_000
+
+
+# -- The generator ------------------------------------------------------------
+
+class Maker:
+    """Writes a random model that keeps to the rules of the language."""
+
+    def __init__(self, seed):
+        self.random = random.Random(seed)
+        pick = self.random
+        self.sorts = ["a", "b"][:pick.choice([1, 1, 2])]
+        self.relations = {f"r{i}": [pick.choice(self.sorts) for _ in range(pick.choice([0, 1, 1, 1, 2]))]
+                          for i in range(pick.choice([1, 2, 2, 3]))}
+        self.functions = {"f": (["a"], "b")} if len(self.sorts) == 2 and pick.random() < 0.5 else {}
+        self.variables = {f"v{i}": pick.choice(self.sorts) for i in range(pick.choice([0, 1, 1, 2]))}
+
+    def term(self, sort, env, deep=1):
+        pick = self.random
+        found = [x for x, s in env.items() if s == sort] + [v for v, s in self.variables.items() if s == sort]
+        if deep and pick.random() < 0.1 and found:
+            return f"ite({self.matrix(env, 0)}, {pick.choice(found)}, {pick.choice(found)})"
+        for f, (sorts, into) in self.functions.items():
+            if into == sort and (not found or pick.random() < 0.4):
+                args = [self.term(s, env, 0) for s in sorts]
+                if None not in args:
+                    return f"{f}({', '.join(args)})"
+        return pick.choice(found) if found else None
+
+    def atom(self, env):
+        pick = self.random
+        for _ in range(6):
+            if pick.random() < 0.3:
+                sort = pick.choice(self.sorts)
+                sides = [self.term(sort, env), self.term(sort, env)]
+                if None not in sides:
+                    return f"{sides[0]} {pick.choice(['=', '~='])} {sides[1]}"
+            else:
+                r = pick.choice(list(self.relations))
+                args = [self.term(s, env) for s in self.relations[r]]
+                if None not in args:
+                    return pick.choice(["", "~"]) + (f"{r}({', '.join(args)})" if args else r)
+        return pick.choice(["true", "false"])
+
+    def matrix(self, env, deep=2):
+        pick = self.random
+        if deep == 0 or pick.random() < 0.35:
+            return self.atom(env)
+        sign = pick.choice(["&", "|", "->", "<->", "&", "|"])
+        return f"({self.matrix(env, deep - 1)} {sign} {self.matrix(env, deep - 1)})"
+
+    def bound(self, word, names, inside, env):
+        sorts = {x: self.random.choice(self.sorts) for x in names}
+        binders = ", ".join(f"{x}:{s}" for x, s in sorts.items())
+        return f"{word} {binders}. {inside(env | sorts)}"
+
+    def universal(self, most):
+        names = ["X", "Y", "Z"][:self.random.randint(0, most)]
+        return self.bound("forall", names, self.matrix, {}) if names else self.matrix({})
+
+    def exists_forall(self):
+        if self.random.random() < 0.3:
+            return self.bound("exists", ["W"], lambda env: self.bound("forall", ["X"], self.matrix, env), {})
+        return self.either()
+
+    def either(self):
+        if self.random.random() < 0.4:
+            return self.bound(self.random.choice(["exists", "forall"]), ["X"], self.matrix, {})
+        return self.matrix({})
+
+    def command(self, deep):
+        pick = self.random
+        what = pick.choice(["assume", "set", "set", "insert", "remove", "havoc", "if", "choose", "put", "assert"])
+        if what == "assume":
+            return f"assume {self.exists_forall()}"
+        if what == "assert":
+            return f"assert {self.either()}" if pick.random() < 0.4 else "skip"
+        if what in ("if", "choose") and deep:
+            blocks = self.block(deep - 1), self.block(deep - 1)
+            if what == "if":
+                return f"if {self.either()} {blocks[0]}" + (f" else {blocks[1]}" if pick.random() < 0.5 else "")
+            return f"choose {blocks[0]} or {blocks[1]}"
+        if what == "havoc" and self.variables:
+            return f"{pick.choice(list(self.variables))} := *"
+        if what == "put" and self.functions:
+            args = self.term("a", {}, 0), self.term("b", {}, 0)
+            return f"put f({args[0]}) = {args[1]}" if None not in args else "skip"
+        if what in ("insert", "remove"):
+            r = pick.choice(list(self.relations))
+            args = [self.term(s, {}) for s in self.relations[r]]
+            if None not in args:
+                return f"{what} {r}" + (f"({', '.join(args)})" if args else "")
+            return "skip"
+        return self.update()
+
+    def update(self):
+        pick = self.random
+        if self.variables and pick.random() < 0.3:
+            v, sort = pick.choice(list(self.variables.items()))
+            return f"{v} := {self.term(sort, {})}"
+        r = pick.choice(list(self.relations))
+        names = ["P", "Q"][:len(self.relations[r])]
+        head = f"{r}({', '.join(names)})" if names else r
+        return f"{head} := {self.matrix(dict(zip(names, self.relations[r])))}"
+
+    def block(self, deep, most=3):
+        count = self.random.randint(0 if deep == 0 else 1, most)
+        return "{ " + "; ".join(self.command(deep) for _ in range(count)) + " }"
+
+    def text(self):
+        lines = [f"sort {s}" for s in self.sorts]
+        lines += [f"relation {r}" + (f"({', '.join(sorts)})" if sorts else "") for r, sorts in self.relations.items()]
+        lines += [f"function {f} : {', '.join(sorts)} -> {into}" for f, (sorts, into) in self.functions.items()]
+        lines += [f"variable {v} : {sort}" for v, sort in self.variables.items()]
+        lines += [f"axiom ax: {self.exists_forall()}"] * (self.random.random() < 0.3)
+        lines += [f"init {self.block(1)}"]
+        lines += [f"action act{i} {self.block(1)}" for i in range(self.random.choice([1, 1, 2]))]
+        lines += [f"final {self.block(1)}"] * (self.random.random() < 0.2)
+        lines += [f"conjecture c{i}: {self.universal(2)}" for i in range(self.random.choice([1, 1, 2]))]
+        return "\n".join(lines) + "\n"
+
+
+# -- The judge ----------------------------------------------------------------
+
+class World:
+    """The structures of a model with these sizes. A structure is a dictionary from symbols to their values by tuples."""
+
+    def __init__(self, model, sizes):
+        self.model, self.sizes = model, dict(zip(model.sorts, sizes))
+        self.takes = {r: (sorts, None) for r, sorts in model.relations.items()} | model.functions
+        self.made = {}
+
+    def tuples(self, symbol):
+        return list(itertools.product(*(range(self.sizes[s]) for s in self.takes[symbol][0])))
+
+    def values(self, symbol):
+        into = self.takes[symbol][1]
+        return range(self.sizes[into]) if into else (False, True)
+
+    def count(self):
+        found = 1
+        for symbol in self.takes:
+            found *= len(self.values(symbol)) ** len(self.tuples(symbol))
+            if found > MOST:
+                return found
+        return found
+
+    def structures(self):
+        tables = [[dict(zip(self.tuples(symbol), values))
+                   for values in itertools.product(self.values(symbol), repeat=len(self.tuples(symbol)))]
+                  for symbol in self.takes]
+        for chosen in itertools.product(*tables):
+            yield dict(zip(self.takes, chosen))
+
+    def code(self, e):
+        """Gives Python's text of an expression over a structure `s`; bound names are variables."""
+        word = e[0]
+        if word in ("rel", "app"):
+            return f"s[{e[1]!r}][{''.join(self.code(t) + ',' for t in e[2]).join('()')}]"
+        if word == "bound":
+            return name_of(e[1])
+        if word in ("true", "false"):
+            return word.title()
+        if word in ("and", "or"):
+            return "(" + f" {word} ".join(map(self.code, e[1])) + ")" if e[1] else str(word == "and")
+        if word in ("forall", "exists"):
+            loops = " ".join(f"for {name_of(x)} in range({self.sizes[sort]})" for x, sort in e[1])
+            return f"{'all' if word == 'forall' else 'any'}({self.code(e[2])} {loops})"
+        parts = [self.code(p) for p in e[1:]]
+        if word == "not":
+            return f"(not {parts[0]})"
+        if word == "implies":
+            return f"(not {parts[0]} or {parts[1]})"
+        if word == "ite":
+            return f"({parts[1]} if {parts[0]} else {parts[2]})"
+        return f"({parts[0]} == {parts[1]})"
+
+    def function(self, e, names=()):
+        key = repr((e, tuple(names)))
+        if key not in self.made:
+            words = "".join(f", {name_of(x)}" for x in names)
+            self.made[key] = eval(f"lambda s{words}: {self.code(e)}")
+        return self.made[key]
+
+    def holds(self, sentences, s):
+        return all(self.function(p)(s) for _, p in sentences)
+
+    def steps(self, primitive, s, elements=None):
+        """Gives the structures behind a primitive that neither assumes nor aborts, and in which the axioms hold."""
+        symbol = primitive[1]
+        if primitive[0] == "havoc":
+            values = self.values(symbol) if elements is None else [elements.pop(0)]
+            tables = [{(): x} for x in values]
+        else:
+            side = self.function(primitive[3], primitive[2])
+            tables = [{t: side(s, *t) for t in self.tuples(symbol)}]
+        for table in tables:
+            new = s | {symbol: table}
+            if self.holds(self.model.axioms, new):
+                yield new
+
+    def ends(self, path, s, elements=None):
+        """Gives the structures where the path ends, and None for an abort; havocs take these elements, or any."""
+        if not path:
+            yield s
+        elif path[0][0] == "abort":
+            yield None
+        elif path[0][0] == "assume":
+            if self.function(path[0][1])(s):
+                yield from self.ends(path[1:], s, elements)
+        else:
+            for new in self.steps(path[0], s, elements):
+                yield from self.ends(path[1:], new, elements)
+
+    def tally(self, s):
+        return [sum(s[r].values()) for r in self.model.relations]
+
+
+def name_of(bound):
+    return "x_" + bound.replace("@", "at")
+
+
+def counterexamples(model):
+    """Gives for each goal, by stage, path and conjecture, the least numbers of tuples by sizes; and which sizes were
+    made."""
+    found, made = {}, []
+    for sizes in itertools.product((1, 2, 3), repeat=len(model.sorts)):
+        world = World(model, sizes)
+        if world.count() > MOST:
+            continue
+        made.append(sizes)
+        for s in world.structures():
+            if world.holds(model.axioms, s):
+                for goal in broken(world, s, world.holds(model.conjectures, s)):
+                    least = found.setdefault(goal, {})
+                    least[sizes] = min(least.get(sizes, world.tally(s)), world.tally(s))
+    return found, made
+
+
+def broken(world, s, is_kept):
+    """Gives the goals of which a structure is a counterexample."""
+    for stage, paths in world.model.stages():
+        if stage == "init" or is_kept:
+            for number, path in enumerate(paths, 1):
+                for end in world.ends(path, s):
+                    if end is None:
+                        yield stage, number, "abort"
+                    elif stage != "final":
+                        for name, c in world.model.conjectures:
+                            if not world.function(c)(end):
+                                yield stage, number, name
+
+
+# -- The report ---------------------------------------------------------------
+
+def groups_of(report):
+    """Gives each group as (stage, conjecture or abort, answer, the lines shown)."""
+    groups = []
+    for line in report.splitlines():
+        if line.startswith(" "):
+            groups[-1][3].append(line.strip())
+        elif not line.startswith(("axioms:", "verdict:")):
+            head, _, answer = line.partition(": ")
+            stage, _, name = head.rpartition(" ")
+            groups.append((stage, name, answer, []))
+    return groups
+
+
+class Shown:
+    """A printed counterexample."""
+
+    def __init__(self, model, lines):
+        self.model = model
+        self.path = int(lines[0].split()[1])
+        self.is_least = lines[1] == "least: yes"
+        at = next(i for i, line in enumerate(lines) if line.startswith("havoc:"))
+        before = lines[3:at]
+        self.sizes = tuple(int(line.split()[2]) for line in before if line.startswith("sort "))
+        self.world = World(model, self.sizes)
+        self.before = self.structure([line for line in before if not line.startswith("sort ")])
+        self.havoc = [int(x) for x in lines[at].split()[1:]]
+        self.aborts = lines[at + 1] == "aborts"
+        self.after = None if self.aborts else self.structure(lines[at + 2:-1])
+        self.values = [] if self.aborts else [int(x) for x in lines[-1].split()[1:]]
+
+    def structure(self, lines):
+        s = {}
+        for line in lines:
+            kind, name, rest = re.match(r"(\w+) (\w+):(.*)", line).groups()
+            if kind == "variable":
+                s[name] = {(): int(rest)}
+            elif kind == "relation" and not self.world.takes[name][0]:
+                s[name] = {(): rest.strip() == "true"}
+            else:
+                pairs = re.findall(r"\(([\d,]*)\)(?:->(\d+))?", rest)
+                told = {tuple(map(int, t.split(","))): int(x) if x else True for t, x in pairs}
+                s[name] = {t: told.get(t, False) for t in self.world.tuples(name)}
+        return s
+
+    def faults(self, stage, name, path):
+        """Gives what is wrong with it as a counterexample, if something is."""
+        world = self.world
+        if not world.holds(self.model.axioms, self.before):
+            yield "an axiom is false before"
+        if stage != "init" and not world.holds(self.model.conjectures, self.before):
+            yield "a conjecture is false before"
+        ends = list(world.ends(path, self.before, list(self.havoc)))
+        if ends != [self.after]:
+            yield "the path does not end as printed"
+        elif not self.aborts:
+            conjecture = dict(self.model.conjectures)[name]
+            names = []
+            while conjecture[0] == "forall":
+                names += [x for x, _ in conjecture[1]]
+                conjecture = conjecture[2]
+            if len(names) != len(self.values) or world.function(conjecture, names)(self.after, *self.values):
+                yield "the conjecture is true at the printed values"
+
+
+def differences(model, report, tallies):
+    """Gives what of the report brute force denies."""
+    found, made = counterexamples(model)
+    paths_of = dict(model.stages())
+    for stage, name, answer, lines in groups_of(report):
+        failing = {number: found[stage, number, name] for number in range(1, len(paths_of[stage]) + 1)
+                   if (stage, number, name) in found}
+        tallies[answer.split()[0]] += 1
+        if answer == "holds" and failing:
+            yield f"{stage} {name} holds, and fails on path {min(failing)}: {failing}"
+        if answer != "fails":
+            continue
+        shown = Shown(model, lines)
+        for fault in shown.faults(stage, name, paths_of[stage][shown.path - 1]):
+            yield f"{stage} {name}: {fault}"
+        if min(failing, default=shown.path) < shown.path:
+            yield f"{stage} {name}: path {min(failing)} fails before path {shown.path}"
+        least = failing.get(shown.path, {})
+        if least and min(least) < shown.sizes and shown.is_least:
+            yield f"{stage} {name}: sizes {min(least)} fail too"
+        if shown.sizes in made:
+            tallies["compared"] += 1
+            if shown.sizes not in least:
+                yield f"{stage} {name}: no structure of sizes {shown.sizes} fails"
+            elif shown.is_least and least[shown.sizes] != shown.world.tally(shown.before):
+                yield f"{stage} {name}: {least[shown.sizes]} tuples are enough"
+
+
+def judged(seed):
+    """Gives what differs of the model of a seed, with its text, and the tallies of its groups."""
+    text, tallies = Maker(seed).text(), Counter()
+    with tempfile.NamedTemporaryFile("w", suffix=".rml") as it:
+        it.write(text)
+        it.flush()
+        ran = subprocess.run([program(), "check", it.name], capture_output=True, text=True)
+    if ran.returncode not in (0, 1, 3) or not ran.stdout.startswith("axioms:"):
+        told = [f"status {ran.returncode}: {(ran.stdout + ran.stderr).strip()}"]
+    else:
+        try:
+            told = list(differences(rml.read(text), ran.stdout, tallies))
+        except (KeyError, IndexError, ValueError, StopIteration, AttributeError) as fault:
+            told = [f"the report cannot be read: {fault!r}"]
+    return [f"model {seed}:", *told, text] if told else [], tallies
+
+
+def main():
+    count, first = [int(word) for word in sys.argv[1:]] + [1000, 1][len(sys.argv) - 1:]
+    program()
+    tallies, differ = Counter(), 0
+    with multiprocessing.Pool() as pool:
+        for told, more in pool.imap(judged, range(first, first + count)):
+            tallies += more
+            differ += bool(told)
+            print(*told, sep="\n", end="\n" if told else "")
+    print(f"{count} models: {tallies['holds']} groups hold, {tallies['fails']} fail ({tallies['compared']} of them "
+          f"compared by size), {tallies['undecided']} left open; {differ} models differ")
+    sys.exit(differ > 0)
+
+
+if __name__ == "__main__":
+    main()
