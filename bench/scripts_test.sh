@@ -352,6 +352,23 @@ expect 'chain: a log of its formula' diff chain.lrat <(printf '6 3 0 3 2 1 0\n7 
 bench names.py
 expect 'names: a model of the greatest size' [ "$(wc -c <"$room/out")" = 1048576 ]
 
+bench edits.py
+expect 'edits: each can be applied' ended 0
+mkdir -p tree/crates/c/src tree/crates/c/must-fail
+printf 'let a = 1;\nlet b = 1;\n' >tree/crates/c/src/lib.rt
+printf 'file: src/lib.rt\nold: let a = 1;\nnew: let a = 2;\n' >tree/crates/c/must-fail/right.edit
+bench edits.py "$room/tree"
+expect 'edits: one that can be applied' last_is '1 edits, 0 cannot be applied'
+printf 'file: src/lib.rt\nold: = 1;\nnew: = 2;\n' >tree/crates/c/must-fail/twice.edit
+printf 'file: src/lib.rt\nold: let c = 1;\nnew: let c = 2;\n' >tree/crates/c/must-fail/gone.edit
+printf 'file: src/gone.rt\nold: let a = 1;\nnew: let a = 2;\n' >tree/crates/c/must-fail/no_file.edit
+bench edits.py "$room/tree"
+expect 'edits: a line that stands twice' wrote 'twice.edit: it stands 2 times: = 1;'
+expect 'edits: a line that is gone' wrote 'gone.edit: it stands 0 times: let c = 1;'
+expect 'edits: a file that is gone' wrote 'no_file.edit: there is no src/gone.rt'
+expect 'edits: they are counted' last_is '4 edits, 3 cannot be applied'
+expect 'edits: one cannot' ended 1
+
 bench samples.py
 expect 'samples: the rows that stand there' diff "$room/out" "$here/crates/rows/data/samples.txt"
 
