@@ -70,6 +70,18 @@ fn text_of(alloc: Global, counts: &[u64]) -> Mem<String> {
     Ok(text)
 }
 
+// How the run on a front of a file ends, where it is answered.
+fn status_on(alloc: Global, row: &Row, cut: Cut) -> Parsed<Option<u8>> {
+    let actual = run_on_memory(alloc, row, Some(cut))?;
+    let status = if is_answered(&actual) {
+        Some(actual.status)
+    } else {
+        None
+    };
+    drop(actual);
+    Ok(status)
+}
+
 // How often the runs on the proper prefixes of this file, which has that length, end with each status. The second
 // number is that of a prefix that is not answered, if there is one.
 fn count_statuses(
@@ -80,11 +92,10 @@ fn count_statuses(
 ) -> Parsed<(Vec<u64>, Option<usize>)> {
     let mut counts = vec![in alloc; 0u64; STATUSES]?;
     for end in 0..length {
-        let actual = run_on_memory(alloc, row, Some(Cut { file, end }))?;
-        if !is_answered(&actual) {
+        let Some(status) = status_on(alloc, row, Cut { file, end })? else {
             return Ok((counts, Some(end)));
-        }
-        if let Some(count) = counts.get_mut(usize::from(actual.status)) {
+        };
+        if let Some(count) = counts.get_mut(usize::from(status)) {
             *count = count.saturating_add(1);
         }
     }
@@ -122,5 +133,7 @@ pub fn judge(alloc: Global, system: HostRuntime, row: &Row) -> Parsed<Report> {
     } else {
         run_on_memory(alloc, row, None)?
     };
-    compare(alloc, row, &actual)
+    let report = compare(alloc, row, &actual);
+    drop(actual);
+    report
 }

@@ -101,13 +101,25 @@ fn load_files(rt: HostRuntime, alloc: Global, rows: &mut [Row]) -> io::Result<()
     Ok(())
 }
 
+fn tell_read(
+    rt: HostRuntime,
+    alloc: Global,
+    name: &str,
+    rows: &mut [Row],
+    has_to_differ: bool,
+) -> io::Result<bool> {
+    load_files(rt, alloc, &mut *rows)?;
+    tell_rows(rt, alloc, name, rows, has_to_differ)
+}
+
 fn tell_file(rt: HostRuntime, alloc: Global, name: &str, has_to_differ: bool) -> io::Result<bool> {
     let text = fs::read_to_string(&rt, name)?;
     match read_rows(alloc, text.as_str()) {
         Ok(rows) => {
             let mut rows = rows;
-            load_files(rt, alloc, &mut rows)?;
-            tell_rows(rt, alloc, name, &rows, has_to_differ)
+            let told = tell_read(rt, alloc, name, &mut rows, has_to_differ);
+            drop(rows);
+            told
         }
         Err((line, cause)) => {
             complain(&rt, name, line, cause)?;

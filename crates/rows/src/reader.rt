@@ -97,24 +97,31 @@ impl Reader {
         }
     }
 
-    // A row of a table, whose model was read.
-    fn row_of_table(&mut self, line: u64) -> Parsed<Row> {
+    // Adds a row of a table, whose model was read. It is filled where it stands: a row that a function holds at a `?`
+    // would end there, with all that is in it.
+    fn add_row_of_table(&mut self, line: u64) -> Parsed<&mut Row> {
         match self.place {
             Place::Model => {}
             _ => return Err(Refused::For("an answer stands behind a model of a table")),
         }
+        self.rows
+            .push(Row::new(self.alloc, self.table.as_str(), line)?)?;
+        let Some(row) = self.rows.last_mut() else {
+            return Err(NO_ROW);
+        };
         let model = mem::replace(&mut self.model, Vec::new(self.alloc));
-        Ok(Row::of_model(self.alloc, self.table.as_str(), line, model)?)
+        row.check_model(self.alloc, model)?;
+        Ok(row)
     }
 
     // An answer in a table: the model has that fault.
     fn add_fault(&mut self, fault: &str, line: u64) -> Parsed<()> {
-        let mut row = self.row_of_table(line)?;
-        row.expected.status = Some(String::from_str(self.alloc, "4")?);
-        row.expected.outcome = Some(String::from_str(self.alloc, "fault")?);
+        let alloc = self.alloc;
+        let row = self.add_row_of_table(line)?;
+        row.expected.status = Some(String::from_str(alloc, "4")?);
+        row.expected.outcome = Some(String::from_str(alloc, "fault")?);
         row.err.expected.extend_from_slice(fault.as_bytes())?;
         row.err.expected.push(b'\n')?;
-        self.rows.push(row)?;
         Ok(())
     }
 
@@ -123,13 +130,12 @@ impl Reader {
         let Some((status, name)) = answer.split_once(' ') else {
             return Err(Refused::For("a status and the name of a text were expected"));
         };
-        let mut row = self.row_of_table(line)?;
-        row.expected.status = Some(String::from_str(self.alloc, status)?);
-        row.expected.outcome = Some(String::from_str(self.alloc, "checked")?);
-        row.out
-            .expected
-            .extend_from_slice(text_of(&self.texts, name)?)?;
-        self.rows.push(row)?;
+        let alloc = self.alloc;
+        let report = text_of(&self.texts, name)?.to_vec(alloc)?;
+        let row = self.add_row_of_table(line)?;
+        row.expected.status = Some(String::from_str(alloc, status)?);
+        row.expected.outcome = Some(String::from_str(alloc, "checked")?);
+        row.out.expected = report;
         Ok(())
     }
 
@@ -251,9 +257,8 @@ fn prefixes_of(alloc: Global, said: &str) -> Parsed<Prefixes> {
     })
 }
 
-/// The rows of a file, or the number of its first line that is none of the format, and why.
-pub fn read_rows(alloc: Global, text: &str) -> Result<Vec<Row>, (u64, Refused<&'static str>)> {
-    let mut reader = Reader::new(alloc);
+// Takes the lines of a file, up to the first that is none of the format.
+fn take_lines(reader: &mut Reader, text: &str) -> Result<(), (u64, Refused<&'static str>)> {
     let mut number = 0u64;
     for line in text.split('\n') {
         number = number.saturating_add(1);
@@ -261,10 +266,23 @@ pub fn read_rows(alloc: Global, text: &str) -> Result<Vec<Row>, (u64, Refused<&'
             return Err((number, cause));
         }
     }
-    let ended = reader.end_item();
-    let Reader { rows, .. } = reader;
-    match ended {
-        Ok(()) => Ok(rows),
+    match reader.end_item() {
+        Ok(()) => Ok(()),
         Err(cause) => Err((number, cause)),
+    }
+}
+
+/// The rows of a file, or the number of its first line that is none of the format, and why.
+pub fn read_rows(alloc: Global, text: &str) -> Result<Vec<Row>, (u64, Refused<&'static str>)> {
+    let mut reader = Reader::new(alloc);
+    let taken = take_lines(&mut reader, text);
+    let rows = mem::replace(&mut reader.rows, Vec::new(alloc));
+    drop(reader);
+    match taken {
+        Ok(()) => Ok(rows),
+        Err(fault) => {
+            drop(rows);
+            Err(fault)
+        }
     }
 }

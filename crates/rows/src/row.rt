@@ -93,14 +93,14 @@ impl Row {
         }
     }
 
-    /// The words `check model` over that text, with all of the answer written.
-    pub fn of_model(alloc: Global, title: &str, line: u64, bytes: Vec<u8>) -> Mem<Self> {
-        let mut row = Row::new(alloc, title, line)?;
-        row.words.push(String::from_str(alloc, "check")?)?;
-        row.words.push(String::from_str(alloc, "model")?)?;
+    /// Says the words `check model` over that text, with all of the answer written, of a row of which nothing else is
+    /// said yet.
+    pub fn check_model(&mut self, alloc: Global, bytes: Vec<u8>) -> Mem<()> {
+        self.words.push(String::from_str(alloc, "check")?)?;
+        self.words.push(String::from_str(alloc, "model")?)?;
         let name = String::from_str(alloc, "model")?;
-        row.files.push(Text { name, bytes })?;
-        row.expected.written = Some(String::from_str(alloc, "all")?);
-        Ok(row)
+        self.files.push(Text { name, bytes })?;
+        self.expected.written = Some(String::from_str(alloc, "all")?);
+        Ok(())
     }
 }
