@@ -20,9 +20,12 @@ use Rattle.rml_report.specs.declared.report.Axioms.TheVariants as axioms
 use Rattle.rml_report.specs.declared.report.Answer.{Answer}
 use Rattle.rml_report.specs.declared.report.Answer.TheVariants as answer
 use Rattle.rml_report.specs.declared.report.Group.{Group}
-use Rattle.rml_report.specs.Reports.{head_of, goal_at, IsShown, IsLeftOpen, IsAnswer, IsRight, AxiomsAre}
+use Rattle.rml_report.specs.declared.report.Report.{Report}
+use Rattle.rml_report.specs.Reports.{head_of, goal_at, IsShown, IsLeftOpen, IsAnswer, IsRight, AxiomsAre, Reports}
 use Rattle.ea_decide.specs.Passing.{Ceilings}
 use Rattle.obligation_decide.specs.GoalDecisions.{IsFailing, AreAxiomsDecided}
+use Rattle.lean_decide.specs.declared.settling.Counted.{Counted}
+use Rattle.lean_decide.specs.declared.settling.Counted.TheVariants.{Whole, Lean}
 use Rattle.verdicts.specs.Answers.{
   Failure,
   GoalAnswer,
@@ -34,8 +37,8 @@ use Rattle.verdicts.specs.Answers.{
   open_or_holds,
 }
 use Rattle.cti_minimise.specs.Minimal.{IsLeast}
-use Rattle.verdicts.specs.Answers.{fails_or, IsGroupAnswer, IsGroupNow}
-use Rattle.verdicts.specs.Laws.{ReportsAreRight, IsLeastAsSaid, ShownAreLeast}
+use Rattle.verdicts.specs.Answers.{fails_or, IsGroupAnswer, IsGroupNow, IsReportBy}
+use Rattle.verdicts.specs.Laws.{ReportsAreRight, LeanReportsAreRight, IsLeastAsSaid, ShownAreLeast, LeanShownAreLeast}
 
 some_flat : {A B : Type 0} (f : A → List B) (y : B) (x : A) (xs : List A) → SomeOf (λ z. z ≡ x) xs
     → SomeOf (λ z. z ≡ y) (f x) → SomeOf (λ z. z ≡ y) (flat_map f xs)
@@ -45,7 +48,7 @@ some_flat f y x (z ∷ xs) here there = elim here [
   | inr more ↦ some_right (λ w. w ≡ y) (f z) (flat_map f xs) (some_flat f y x xs more there)
 ]
 
-module _ (limits : Ceilings) (m : ModelTree) (group : goals.Group) where
+module _ (counted : Counted) (limits : Ceilings) (m : ModelTree) (group : goals.Group) where
   -- each goal of the group is the one at its path
   are_at : (k : ℕ) (ps : List (List PrimitiveTree))
       → AllByRecursion (λ g. g ≡ goal_at group g.path) (goals_among group k ps)
@@ -59,7 +62,7 @@ module _ (limits : Ceilings) (m : ModelTree) (group : goals.Group) where
       by false rest = rest
 
   -- where no goal fails and none is left open, none has a counterexample
-  all_safe : (gs : List Goal) (answers : List GoalAnswer) → AreAnswers limits m gs answers
+  all_safe : (gs : List Goal) (answers : List GoalAnswer) → AreAnswers counted limits m gs answers
       → first_failing answers ≡ None → open_or_holds gs answers ≡ answer.Holds
       → AllByRecursion (HasNone m) gs
   all_safe [] answers right e f = tt
@@ -77,7 +80,7 @@ module _ (limits : Ceilings) (m : ModelTree) (group : goals.Group) where
     pub least : IsLeast limits m goal failure.shown.structure failure.least
 
   failed : (gs : List Goal) (answers : List GoalAnswer) (shown : Failure)
-      → AllByRecursion (λ g. g ≡ goal_at group g.path) gs → AreAnswers limits m gs answers
+      → AllByRecursion (λ g. g ≡ goal_at group g.path) gs → AreAnswers counted limits m gs answers
       → first_failing answers ≡ Some shown → Failed gs shown
   failed [] [] shown at right e = absurd (cc e)
   failed [] (a ∷ more) shown at right e = absurd right
@@ -132,7 +135,7 @@ module _ (limits : Ceilings) (m : ModelTree) (group : goals.Group) where
 
   -- no goal before it has a counterexample
   earlier : (k : ℕ) (ps : List (List PrimitiveTree)) (answers : List GoalAnswer) (path : ℕ) (c : Cause)
-      → AreAnswers limits m (goals_among group k ps) answers
+      → AreAnswers counted limits m (goals_among group k ps) answers
       → first_failing answers ≡ None → open_or_holds (goals_among group k ps) answers ≡ answer.Undecided path c
       → (j : ℕ) (p : List PrimitiveTree) → slice_get ps j ≡ Some p → is_for group.about p ≡ true → k + j < path
       → HasNone m (goal_at group (k + j))
@@ -141,7 +144,7 @@ module _ (limits : Ceilings) (m : ModelTree) (group : goals.Group) where
       by (is_for group.about q) refl answers right e f j here below (λ more. earlier (suc k) ps more path c)
     where
       Behind : List GoalAnswer → Type 0
-      Behind more = AreAnswers limits m (goals_among group (suc k) ps) more → first_failing more ≡ None
+      Behind more = AreAnswers counted limits m (goals_among group (suc k) ps) more → first_failing more ≡ None
           → open_or_holds (goals_among group (suc k) ps) more ≡ answer.Undecided path c
           → (i : ℕ) (r : List PrimitiveTree) → slice_get ps i ≡ Some r → is_for group.about r ≡ true → suc k + i < path
           → HasNone m (goal_at group (suc k + i))
@@ -151,7 +154,7 @@ module _ (limits : Ceilings) (m : ModelTree) (group : goals.Group) where
           subst (λ n. HasNone m (goal_at group n)) next none
 
       by : (b : Bool) → is_for group.about q ≡ b → (answers : List GoalAnswer)
-          → AreAnswers limits m (if b then goal_at group k ∷ goals_among group (suc k) ps else goals_among group
+          → AreAnswers counted limits m (if b then goal_at group k ∷ goals_among group (suc k) ps else goals_among group
           (suc k) ps) answers
           → first_failing answers ≡ None
           → open_or_holds (if b then goal_at group k ∷ goals_among group (suc k) ps else goals_among group (suc k) ps)
@@ -174,7 +177,7 @@ module _ (limits : Ceilings) (m : ModelTree) (group : goals.Group) where
     are_goals : (g : Goal) → SomeOf (λ x. x ≡ g) (group_goals m group) → IsGoal m g
     are_goals g here = (listed m g).0 (some_flat (group_goals m) g group (groups_of m) among here)
 
-    left : (answers : List GoalAnswer) (path : ℕ) (c : Cause) → AreAnswers limits m (group_goals m group) answers
+    left : (answers : List GoalAnswer) (path : ℕ) (c : Cause) → AreAnswers counted limits m (group_goals m group) answers
         → first_failing answers ≡ None
         → open_or_holds (group_goals m group) answers ≡ answer.Undecided path c → IsLeftOpen m group path
     left answers path c right e f = record {
@@ -191,7 +194,7 @@ module _ (limits : Ceilings) (m : ModelTree) (group : goals.Group) where
             subst (λ n. HasNone m (goal_at group n)) next
             (earlier 1 (stage_paths m group.stage) answers path c right e f j h.path h.is_path h.kind lt)
 
-    settled : (answers : List GoalAnswer) → AreAnswers limits m (group_goals m group) answers
+    settled : (answers : List GoalAnswer) → AreAnswers counted limits m (group_goals m group) answers
         → (o : Option Failure) → first_failing answers ≡ o
         → (b : Answer) → open_or_holds (group_goals m group) answers ≡ b
         → IsAnswer m group (fails_or (length (stage_paths m group.stage)) o b)
@@ -205,47 +208,50 @@ module _ (limits : Ceilings) (m : ModelTree) (group : goals.Group) where
         absurd (never_fails (group_goals m group) answers paths l shown f)
     settled answers right None e (answer.Undecided path c) f = left answers path c right e f
 
-    answer_right : (a : Answer) → IsGroupAnswer limits m group a → IsAnswer m group a
+    answer_right : (a : Answer) → IsGroupAnswer counted limits m group a → IsAnswer m group a
     answer_right a h =
         subst (λ (b : Answer). IsAnswer m group b) (sym h.is)
         (settled h.answers h.right (first_failing h.answers) refl (open_or_holds (group_goals m group) h.answers) refl)
 
 -- the sizes of what is shown are least, or the search for smaller ones stopped
-module _ (limits : Ceilings) (m : ModelTree) (group : goals.Group) where
+module _ (counted : Counted) (limits : Ceilings) (m : ModelTree) (group : goals.Group) where
   least-settled : (gs : List Goal) (paths : ℕ) (answers : List GoalAnswer)
-      → AllByRecursion (λ g. g ≡ goal_at group g.path) gs → AreAnswers limits m gs answers
+      → AllByRecursion (λ g. g ≡ goal_at group g.path) gs → AreAnswers counted limits m gs answers
       → (o : Option Failure) → first_failing answers ≡ o → (b : Answer) → open_or_holds gs answers ≡ b
       → IsLeastAsSaid limits m (fails_or paths o b)
   least-settled gs paths answers at right (Some failure) e b f =
-      let it = failed limits m group gs answers failure at right e in
+      let it = failed counted limits m group gs answers failure at right e in
       subst (λ (x : Goal). IsLeast limits m x failure.shown.structure failure.least) (sym it.fails.same) it.least
   least-settled gs paths answers at right None e answer.Holds f = tt
   least-settled gs paths answers at right None e (answer.Fails some l shown) f =
-      absurd (never_fails limits m group gs answers some l shown f)
+      absurd (never_fails counted limits m group gs answers some l shown f)
   least-settled gs paths answers at right None e (answer.Undecided path c) f = tt
 
-  answer_least : (a : Answer) → IsGroupAnswer limits m group a → IsLeastAsSaid limits m a
+  answer_least : (a : Answer) → IsGroupAnswer counted limits m group a → IsLeastAsSaid limits m a
   answer_least a h =
       subst (λ (b : Answer). IsLeastAsSaid limits m b) (sym h.is)
       (least-settled (group_goals m group) (length (stage_paths m group.stage)) h.answers
-      (are_at limits m group 1 (stage_paths m group.stage)) h.right (first_failing h.answers) refl
+      (are_at counted limits m group 1 (stage_paths m group.stage)) h.right (first_failing h.answers) refl
       (open_or_holds (group_goals m group) h.answers) refl)
 
-each_least : (limits : Ceilings) (m : ModelTree) (gs : List Group) → AllByRecursion (IsGroupNow limits m) gs
+each_least : (counted : Counted) (limits : Ceilings) (m : ModelTree) (gs : List Group) → AllByRecursion (IsGroupNow counted limits m) gs
     → AllByRecursion (λ g. IsLeastAsSaid limits m g.answer) gs
-each_least limits m [] h = tt
-each_least limits m (g ∷ gs) h = (answer_least limits m (head_of g) g.answer h.0, each_least limits m gs h.1)
+each_least counted limits m [] h = tt
+each_least counted limits m (g ∷ gs) h = (answer_least counted limits m (head_of g) g.answer h.0, each_least counted limits m gs h.1)
 
 pub shown_are_least : ShownAreLeast
-shown_are_least limits m r h = each_least limits m r.groups h.answers
+shown_are_least limits m r h = each_least Whole limits m r.groups h.answers
 
-each_right : (limits : Ceilings) (m : ModelTree) → GoalsAreListed → (gs : List Group)
+pub lean_shown_are_least : LeanShownAreLeast
+lean_shown_are_least limits m r h = each_least Lean limits m r.groups h.answers
+
+each_right : (counted : Counted) (limits : Ceilings) (m : ModelTree) → GoalsAreListed → (gs : List Group)
     → ((h : goals.Group) → SomeOf (λ x. x ≡ h) (map head_of gs) → SomeOf (λ x. x ≡ h) (groups_of m))
-    → AllByRecursion (IsGroupNow limits m) gs → AllByRecursion (IsRight m) gs
-each_right limits m listed [] among h = tt
-each_right limits m listed (g ∷ gs) among h = (
-  answer_right limits m (head_of g) listed (among (head_of g) (inl refl)) g.answer h.0,
-  each_right limits m listed gs
+    → AllByRecursion (IsGroupNow counted limits m) gs → AllByRecursion (IsRight m) gs
+each_right counted limits m listed [] among h = tt
+each_right counted limits m listed (g ∷ gs) among h = (
+  answer_right counted limits m (head_of g) listed (among (head_of g) (inl refl)) g.answer h.0,
+  each_right counted limits m listed gs
       (λ x is. among x (inr is)) h.1,
 )
 
@@ -254,11 +260,18 @@ axioms_right limits m axioms.Consistent h = h.1
 axioms_right limits m axioms.Inconsistent h = h.1
 axioms_right limits m (axioms.Undecided c) h = tt
 
-pub reports_are_right : GoalsAreListed → ReportsAreRight
-reports_are_right listed limits m r h = record {
+reports_right : (counted : Counted) → GoalsAreListed → (limits : Ceilings) (m : ModelTree) (report : Report)
+    → IsReportBy counted limits m report → Reports m report
+reports_right counted listed limits m r h = record {
   groups = h.groups;
-  right = each_right limits m listed r.groups (λ x is. subst
+  right = each_right counted limits m listed r.groups (λ x is. subst
       (λ (hs : List goals.Group). SomeOf (λ y. y ≡ x) hs) h.groups is) h.answers;
   verdict = h.verdict;
   axioms = axioms_right limits m r.axioms h.axioms;
 }
+
+pub reports_are_right : GoalsAreListed → ReportsAreRight
+reports_are_right listed = reports_right Whole listed
+
+pub lean_reports_are_right : GoalsAreListed → LeanReportsAreRight
+lean_reports_are_right listed = reports_right Lean listed

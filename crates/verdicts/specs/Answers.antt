@@ -1,4 +1,5 @@
--- What is answered of goals, and the report that these answers make.
+-- What is answered of goals, and the report that these answers make. The limits are those of the counts of whole
+-- refuting sentences, or of lean ones.
 use Rattle.std.specs.Prelude.{◌≡◌, ℕ, List, [], ◌∷◌, length, map, Option, Some, None}
 use Rattle.std.specs.List.{AllByRecursion}
 use Rattle.rml_command.specs.Models.{ModelTree}
@@ -14,8 +15,10 @@ use Rattle.rml_report.specs.declared.report.Group.{Group}
 use Rattle.rml_report.specs.declared.report.Report.{Report}
 use Rattle.rml_report.specs.Reports.{head_of, verdict_of}
 use Rattle.ea_decide.specs.Passing.{Ceilings}
-use Rattle.obligation_decide.specs.GoalPassing.{PassesFirst}
-use Rattle.obligation_decide.specs.GoalDecisions.{IsFailing, IsLeftOpen, AreAxiomsDecided}
+use Rattle.obligation_decide.specs.GoalDecisions.{IsFailing, AreAxiomsDecided}
+use Rattle.lean_decide.specs.declared.settling.Counted.{Counted}
+use Rattle.lean_decide.specs.declared.settling.Counted.TheVariants.{Whole, Lean}
+use Rattle.lean_decide.specs.Settled.{FirstPassed, IsOpen}
 use Rattle.cti_minimise.specs.Minimal.{IsLeast}
 
 -- a counterexample, and whether its sizes are least
@@ -30,21 +33,22 @@ pub data GoalAnswer : Type 0 where
   left_open : Cause → GoalAnswer
 
 -- what the answer says is so, and a goal is left open exactly where it passes a limit or spends the budget of conflicts
-abbrev pub IsGoalAnswer : Ceilings → ModelTree → Goal → GoalAnswer → Type 0
-IsGoalAnswer limits m goal safe = PassesFirst limits m goal None × HasNone m goal
-IsGoalAnswer limits m goal (failing f) =
-    PassesFirst limits m goal None × IsFailing limits m goal f.shown × IsLeast limits m goal f.shown.structure f.least
-IsGoalAnswer limits m goal (left_open c) = IsLeftOpen limits m goal c
+abbrev pub IsGoalAnswer : Counted → Ceilings → ModelTree → Goal → GoalAnswer → Type 0
+IsGoalAnswer counted limits m goal safe = FirstPassed counted limits m goal None × HasNone m goal
+IsGoalAnswer counted limits m goal (failing f) =
+    FirstPassed counted limits m goal None × IsFailing limits m goal f.shown
+    × IsLeast limits m goal f.shown.structure f.least
+IsGoalAnswer counted limits m goal (left_open c) = IsOpen counted limits m goal c
 
 -- Right answers to goals in order, as far as the first that fails: the goals behind it are not decided.
-abbrev pub AreAnswers : Ceilings → ModelTree → List Goal → List GoalAnswer → Type 0
-AreAnswers limits m [] [] = Unit {0}
-AreAnswers limits m [] (a ∷ more) = ⊥
-AreAnswers limits m (goal ∷ rest) [] = ⊥
-AreAnswers limits m (goal ∷ rest) (safe ∷ more) = IsGoalAnswer limits m goal safe × AreAnswers limits m rest more
-AreAnswers limits m (goal ∷ rest) (failing f ∷ more) = IsGoalAnswer limits m goal (failing f) × (more ≡ [])
-AreAnswers limits m (goal ∷ rest) (left_open c ∷ more) =
-    IsGoalAnswer limits m goal (left_open c) × AreAnswers limits m rest more
+abbrev pub AreAnswers : Counted → Ceilings → ModelTree → List Goal → List GoalAnswer → Type 0
+AreAnswers counted limits m [] [] = Unit {0}
+AreAnswers counted limits m [] (a ∷ more) = ⊥
+AreAnswers counted limits m (goal ∷ rest) [] = ⊥
+AreAnswers counted limits m (goal ∷ rest) (safe ∷ more) = IsGoalAnswer counted limits m goal safe × AreAnswers counted limits m rest more
+AreAnswers counted limits m (goal ∷ rest) (failing f ∷ more) = IsGoalAnswer counted limits m goal (failing f) × (more ≡ [])
+AreAnswers counted limits m (goal ∷ rest) (left_open c ∷ more) =
+    IsGoalAnswer counted limits m goal (left_open c) × AreAnswers counted limits m rest more
 
 -- that of the first goal that fails
 abbrev pub first_failing : List GoalAnswer → Option Failure
@@ -72,20 +76,27 @@ abbrev pub printed : ℕ → List Goal → List GoalAnswer → Answer
 printed paths goals answers = fails_or paths (first_failing answers) (open_or_holds goals answers)
 
 -- Right answers to these goals make this answer.
-pub record IsAnswerTo (limits : Ceilings) (m : ModelTree) (paths : ℕ) (goals : List Goal) (a : Answer) : Type 0 where
+pub record IsAnswerTo (counted : Counted) (limits : Ceilings) (m : ModelTree) (paths : ℕ) (goals : List Goal) (a : Answer) : Type 0 where
   pub answers : List GoalAnswer
-  pub right : AreAnswers limits m goals answers
+  pub right : AreAnswers counted limits m goals answers
   pub is : a ≡ printed paths goals answers
 
-abbrev pub IsGroupAnswer : Ceilings → ModelTree → goals.Group → Answer → Type 0
-IsGroupAnswer limits m group a = IsAnswerTo limits m (length (stage_paths m group.stage)) (group_goals m group) a
+abbrev pub IsGroupAnswer : Counted → Ceilings → ModelTree → goals.Group → Answer → Type 0
+IsGroupAnswer counted limits m group a = IsAnswerTo counted limits m (length (stage_paths m group.stage)) (group_goals m group) a
 
-abbrev pub IsGroupNow : Ceilings → ModelTree → Group → Type 0
-IsGroupNow limits m g = IsGroupAnswer limits m (head_of g) g.answer
+abbrev pub IsGroupNow : Counted → Ceilings → ModelTree → Group → Type 0
+IsGroupNow counted limits m g = IsGroupAnswer counted limits m (head_of g) g.answer
 
--- A report under limits: all groups of the model, in order and once each, each answered as above.
-pub record IsReport (limits : Ceilings) (m : ModelTree) (report : Report) : Type 0 where
+-- A report under limits: all groups of the model, in order and once each, each answered as above. The axioms are
+-- counted whole.
+pub record IsReportBy (counted : Counted) (limits : Ceilings) (m : ModelTree) (report : Report) : Type 0 where
   pub groups : map head_of report.groups ≡ groups_of m
-  pub answers : AllByRecursion (IsGroupNow limits m) report.groups
+  pub answers : AllByRecursion (IsGroupNow counted limits m) report.groups
   pub verdict : report.verdict ≡ verdict_of report.groups
   pub axioms : AreAxiomsDecided limits m report.axioms
+
+abbrev pub IsReport : Ceilings → ModelTree → Report → Type 0
+IsReport limits m report = IsReportBy Whole limits m report
+
+abbrev pub IsLeanReport : Ceilings → ModelTree → Report → Type 0
+IsLeanReport limits m report = IsReportBy Lean limits m report

@@ -10,7 +10,7 @@ ghost use Rattle.verdicts.specs.Earliest.{earlier_of, answer_of};
 use crate::listing::group_goals;
 use base::Mem;
 use cti_minimise::least;
-use lean_decide::{Settled, settle};
+use lean_decide::{Counted, Settled, settle};
 use lrat_log::Limits;
 use rml_command::{About, Checked, Goal, Stage};
 use rml_report::{Answer, Cause, Group};
@@ -47,16 +47,17 @@ fn answer_of(earliest: Option<OpenGoal>) -> Answer
 fn decide_goals(
     alloc: Global,
     checked: &Checked,
+    counted: Counted,
     limits: &Limits,
     goals: &[Goal],
     paths: u32,
 ) -> Mem<Answer>
     requires goals { AllByRecursion (IsGoal checked.now) goals.now }
-    ensures { IfOk result (IsAnswerTo (ceilings limits.now) checked.now paths goals.now) }
+    ensures { IfOk result (IsAnswerTo counted (ceilings limits.now) checked.now paths goals.now) }
 {
     let mut earliest = None;
     for goal in goals {
-        match settle(alloc, checked, goal, limits)? {
+        match settle(alloc, checked, goal, counted, limits)? {
             Settled::Holds => {}
             Settled::Fails(shown) => {
                 let (shown, least) = least(alloc, checked, goal, shown, limits)?;
@@ -75,21 +76,22 @@ fn decide_goals(
     Ok(answer_of(earliest))
 }
 
-/// A group with its answer.
+/// A group with its answer under limits on these counts.
 pub fn decide_group(
     alloc: Global,
     checked: &Checked,
+    counted: Counted,
     limits: &Limits,
     stage: Stage,
     about: About,
 ) -> Mem<Group>
     requires about { HasAbout checked.now stage about }
-    ensures now { IfOk result (IsGroupNow (ceilings limits.now) checked.now) }
+    ensures now { IfOk result (IsGroupNow counted (ceilings limits.now) checked.now) }
     ensures head { IfOk result (λ g. head_of g ≡ record { stage = stage; about = about }) }
 {
     let goals = group_goals(alloc, checked, stage, about)?;
     let paths = checked.stage_paths(stage).len() as u32;
-    let answer = decide_goals(alloc, checked, limits, &goals, paths)?;
+    let answer = decide_goals(alloc, checked, counted, limits, &goals, paths)?;
     Ok(Group {
         stage,
         about,

@@ -4,11 +4,12 @@ ghost use Rattle.std.specs.List.{AllByRecursion, list_all, list_any};
 ghost use Rattle.rml_command.specs.Goals.{stage_groups, groups_of};
 ghost use Rattle.rml_report.specs.Reports.{head_of, says_holds, says_fails, verdict_of};
 ghost use Rattle.ea_decide.specs.Passing.{ceilings};
-ghost use Rattle.verdicts.specs.Answers.{IsGroupNow, IsReport};
+ghost use Rattle.verdicts.specs.Answers.{IsGroupNow, IsReport, IsLeanReport, IsReportBy};
 ghost use Rattle.verdicts.specs.Earliest.{IsBeforeFinal};
 
 use crate::deciding::decide_group;
 use base::{Mem, Row};
+use lean_decide::Counted;
 use lrat_log::Limits;
 use obligation_decide::decide_axioms;
 use rml_command::{About, Checked, Stage};
@@ -19,6 +20,7 @@ use std::alloc::Global;
 fn add_stage(
     alloc: Global,
     checked: &Checked,
+    counted: Counted,
     limits: &Limits,
     stage: Stage,
     groups: &mut Vec<Group>,
@@ -26,31 +28,43 @@ fn add_stage(
     requires stage { IsBeforeFinal checked.now stage }
     ensures heads { OnOk result (map head_of groups.new.items
         ≡ map head_of groups.old.items ++ stage_groups checked.now stage) }
-    ensures now { OnOk result (AllByRecursion (IsGroupNow (ceilings limits.now) checked.now) groups.old.items
-        → AllByRecursion (IsGroupNow (ceilings limits.now) checked.now) groups.new.items) }
+    ensures now { OnOk result (AllByRecursion (IsGroupNow counted (ceilings limits.now) checked.now) groups.old.items
+        → AllByRecursion (IsGroupNow counted (ceilings limits.now) checked.now) groups.new.items) }
 {
-    let abort = decide_group(alloc, checked, limits, stage, About::Abort)?;
+    let abort = decide_group(alloc, checked, counted, limits, stage, About::Abort)?;
     groups.push(abort)?;
     let count = checked.model().conjectures().len() as u32;
     for k in 0..count {
         let about = About::Conjecture(k);
-        groups.push(decide_group(alloc, checked, limits, stage, about)?)?;
+        groups.push(decide_group(alloc, checked, counted, limits, stage, about)?)?;
     }
     Ok(())
 }
 
 // All groups in order.
-fn all_groups(alloc: Global, checked: &Checked, limits: &Limits) -> Mem<Vec<Group>>
-    ensures now { IfOk result (λ gs. AllByRecursion (IsGroupNow (ceilings limits.now) checked.now) gs.items) }
+fn all_groups(
+    alloc: Global,
+    checked: &Checked,
+    counted: Counted,
+    limits: &Limits,
+) -> Mem<Vec<Group>>
+    ensures now { IfOk result (λ gs. AllByRecursion (IsGroupNow counted (ceilings limits.now) checked.now) gs.items) }
     ensures heads { IfOk result (λ gs. map head_of gs.items ≡ groups_of checked.now) }
 {
     let mut groups = Vec::new(alloc);
-    add_stage(alloc, checked, limits, Stage::Init, &mut groups)?;
+    add_stage(alloc, checked, counted, limits, Stage::Init, &mut groups)?;
     let count = checked.model().actions().len() as u32;
     for a in 0..count {
-        add_stage(alloc, checked, limits, Stage::Action(a), &mut groups)?;
+        add_stage(
+            alloc,
+            checked,
+            counted,
+            limits,
+            Stage::Action(a),
+            &mut groups,
+        )?;
     }
-    groups.push(decide_group(alloc, checked, limits, Stage::Final, About::Abort)?)?;
+    groups.push(decide_group(alloc, checked, counted, limits, Stage::Final, About::Abort)?)?;
     Ok(groups)
 }
 
@@ -85,7 +99,25 @@ fn verdict_for(groups: &[Group]) -> Verdict
 pub fn report(alloc: Global, checked: &Checked, limits: &Limits) -> Mem<Report>
     ensures { IfOk result (IsReport (ceilings limits.now) checked.now) }
 {
-    let groups = all_groups(alloc, checked, limits)?;
+    let report = report_by(alloc, checked, Counted::Whole, limits)?;
+    Ok(report)
+}
+
+/// The same, where the limits of a goal are those of its lean sentence, which is mostly a tenth of the whole one, and
+/// causes name the counts of that. The axioms, and the trials of smaller counterexamples, are counted whole: of a goal
+/// that passes a limit whole, the first counterexample is shown, mostly, and `least` says which limit the trial passes.
+/// A goal with more than 2,147,483,648 constants is answered as want of memory.
+pub fn lean_report(alloc: Global, checked: &Checked, limits: &Limits) -> Mem<Report>
+    ensures { IfOk result (IsLeanReport (ceilings limits.now) checked.now) }
+{
+    let report = report_by(alloc, checked, Counted::Lean, limits)?;
+    Ok(report)
+}
+
+fn report_by(alloc: Global, checked: &Checked, counted: Counted, limits: &Limits) -> Mem<Report>
+    ensures { IfOk result (IsReportBy counted (ceilings limits.now) checked.now) }
+{
+    let groups = all_groups(alloc, checked, counted, limits)?;
     let axioms = decide_axioms(alloc, checked, limits)?;
     let verdict = verdict_for(&groups);
     Ok(Report {

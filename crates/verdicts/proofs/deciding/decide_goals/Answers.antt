@@ -18,12 +18,12 @@ none = record { stage = stage.Init; path = 0; about = about.Abort }
 pub returns-in-Fails : goal.returns-in-Fails
 returns-in-Fails c =
     let limits = ceilings c.args.limits.now in
-    let here = next limits c.args.checked.now c.args.paths c.args.goals.now c.loop-goal.earliest c.loop-goal.goal-index
+    let here = next c.args.counted limits c.args.checked.now c.args.paths c.args.goals.now c.loop-goal.earliest c.loop-goal.goal-index
     none c.loop-goal-test.true c.loop-goal.invariant.whole in
     let decided = rw c.in-Fails.is at c.in_ok-settle.ensures in
     let sized = c.in_ok-shown-in-Fails.ensures in
     let f : Failure = record { shown = c.in_ok-shown-in-Fails.shown; least = c.in_ok-shown-in-Fails.least } in
-    at_failing limits c.args.checked.now c.args.paths c.args.goals.now c.loop-goal.earliest _ _ f here
+    at_failing c.args.counted limits c.args.checked.now c.args.paths c.args.goals.now c.loop-goal.earliest _ _ f here
     (decided.0, sized.failing, sized.least)
 
 pub loop-goal-preserved : goal.loop-goal-preserved
@@ -32,27 +32,27 @@ loop-goal-preserved c =
     let m = c.args.checked.now in
     let next_goal = get_or c.args.goals.now c.loop-goal.goal-index none in
     let rest = drop (c.loop-goal.goal-index + 1) c.args.goals.now in
-    let here = next limits m c.args.paths c.args.goals.now c.loop-goal.earliest c.loop-goal.goal-index none
+    let here = next c.args.counted limits m c.args.paths c.args.goals.now c.loop-goal.earliest c.loop-goal.goal-index none
     c.loop-goal-test.true c.loop-goal.invariant.whole in
     record {
-      each = next_each limits m c.args.paths c.args.goals.now
+      each = next_each c.args.counted limits m c.args.paths c.args.goals.now
           (IsGoal m) c.loop-goal.goal-index none c.loop-goal-test.true c.loop-goal.invariant.each;
       whole = elim c.match-branch-2.branch [
         | in-Holds w ↦
             let is = rw w.in-Holds.is at c.in_ok-settle.ensures in
-            subst (λ (e : Option OpenGoal). Completes limits m c.args.paths c.args.goals.now e rest) (sym w.earliest-is)
-            (behind_safe limits m c.args.paths c.args.goals.now c.loop-goal.earliest next_goal rest here (is.0, is.1))
+            subst (λ (e : Option OpenGoal). Completes c.args.counted limits m c.args.paths c.args.goals.now e rest) (sym w.earliest-is)
+            (behind_safe c.args.counted limits m c.args.paths c.args.goals.now c.loop-goal.earliest next_goal rest here (is.0, is.1))
         | in-Undecided w ↦
-            subst (λ (e : Option OpenGoal). Completes limits m c.args.paths c.args.goals.now e rest)
+            subst (λ (e : Option OpenGoal). Completes c.args.counted limits m c.args.paths c.args.goals.now e rest)
             (sym (w.earliest-is ∙ w.earlier_of-earliest.ensures))
-            (behind_open limits m c.args.paths c.args.goals.now c.loop-goal.earliest next_goal rest w.in-Undecided.cause
+            (behind_open c.args.counted limits m c.args.paths c.args.goals.now c.loop-goal.earliest next_goal rest w.in-Undecided.cause
             here (rw w.in-Undecided.is at c.in_ok-settle.ensures))
       ];
     }
 
 pub returns : goal.returns
 returns c =
-    subst (λ (a : Answer). IsAnswerTo (ceilings c.args.limits.now) c.args.checked.now c.args.paths c.args.goals.now a)
+    subst (λ (a : Answer). IsAnswerTo c.args.counted (ceilings c.args.limits.now) c.args.checked.now c.args.paths c.args.goals.now a)
     (sym c.answer_of.ensures)
-    (at_last (ceilings c.args.limits.now) c.args.checked.now c.args.paths c.args.goals.now c.loop-goal.earliest
+    (at_last c.args.counted (ceilings c.args.limits.now) c.args.checked.now c.args.paths c.args.goals.now c.loop-goal.earliest
     c.loop-goal.goal-index c.loop-goal-test.false c.loop-goal.invariant.whole)

@@ -14,6 +14,6 @@ invariant-loop-k l = record {
   heads : map head_of l.groups.items ++ map (λ k. record { stage = l.fn.stage; about = about.Conjecture k })
       (count_from l.k (l.count - l.k))
       ≡ map head_of l.fn.groups.items ++ stage_groups l.fn.checked l.fn.stage;
-  now : AllByRecursion (IsGroupNow (ceilings l.limits) l.checked) l.fn.groups.items
-      → AllByRecursion (IsGroupNow (ceilings l.limits) l.checked) l.groups.items;
+  now : AllByRecursion (IsGroupNow l.fn.counted (ceilings l.limits) l.checked) l.fn.groups.items
+      → AllByRecursion (IsGroupNow l.fn.counted (ceilings l.limits) l.checked) l.groups.items;
 }

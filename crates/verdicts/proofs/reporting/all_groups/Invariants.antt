@@ -15,5 +15,5 @@ invariant-loop-a l = record {
   heads : map head_of l.groups.items ++ (flat_map (λ a. stage_groups l.fn.checked (stage.Action a))
       (count_from l.a (l.count - l.a)) ++ record { stage = stage.Final; about = about.Abort } ∷ [])
       ≡ groups_of l.fn.checked;
-  now : AllByRecursion (IsGroupNow (ceilings l.limits) l.checked) l.groups.items;
+  now : AllByRecursion (IsGroupNow l.fn.counted (ceilings l.limits) l.checked) l.groups.items;
 }

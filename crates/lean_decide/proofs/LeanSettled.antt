@@ -1,0 +1,76 @@
+-- A decision by the lean sentence settles the goal by the lean counts.
+use Rattle.std.proofs.Common.{◌≡◌, ◌∙◌, Bool, false, true, Option, Some, None, refl, sym, subst}
+use Rattle.std.specs.Prelude.{MatchBool}
+use Rattle.lrat_check.specs.Checked.{Checked}
+use Rattle.rml_command.specs.Models.{ModelTree}
+use Rattle.rml_command.specs.Goals.{HasNone}
+use Rattle.rml_command.specs.declared.goal.Goal.{Goal}
+use Rattle.rml_exec.specs.declared.trace.Counterexample.{Counterexample}
+use Rattle.rml_report.specs.declared.cause.Cause.{Cause}
+use Rattle.rml_report.specs.declared.cause.Cause.TheVariants as cause
+use Rattle.rml_wp.specs.declared.premises.Premises.TheVariants.{Affected}
+use Rattle.rml_wp.specs.Preconditions.{goal_passes_limit_by}
+use Rattle.ea_decide.specs.declared.decided.Passed.{Passed}
+use Rattle.ea_decide.specs.declared.decided.Passed.TheVariants as passed
+use Rattle.ea_decide.specs.Passing.{Ceilings, Passes}
+use Rattle.ea_decide.specs.Decisions.{IsOver}
+use Rattle.pruned_decide.specs.Decisions.{lean_signature, lean_sentence}
+use Rattle.obligation_decide.specs.GoalPassing.{cause_of, first_cause}
+use Rattle.obligation_decide.specs.GoalDecisions.{IsFailing}
+use Rattle.obligation_decide.specs.declared.decision.Decision.{Decision}
+use Rattle.obligation_decide.specs.declared.decision.Decision.TheVariants.{Holds, Fails, Undecided}
+use Rattle.lean_decide.specs.Lean.{affected_refuting, IsDecidedBy, IsLeanDecision, too_large, decided}
+use Rattle.lean_decide.specs.Settled.{LeanPassesFirst, IsLeanLeftOpen}
+
+module _ (limits : Ceilings) (m : ModelTree) (goal : Goal) where
+  abbrev LeanPasses : Option Passed → Type 0
+  LeanPasses p =
+      Passes limits (lean_signature m.signature (affected_refuting m goal))
+      (lean_sentence m.signature (affected_refuting m goal)) p
+
+  abbrev BySize : Option Cause → Bool → Type 0
+  BySize first b =
+      MatchBool b (first ≡ Some cause.Formula) ((p : Option Passed) × LeanPasses p × (first ≡ first_cause p))
+
+  -- what the lean sentence passes, where the limit of formulas is not passed
+  by_count : (p : Option Passed) → goal_passes_limit_by Affected m goal ≡ false → LeanPasses p
+      → LeanPassesFirst limits m goal (first_cause p)
+  by_count p within h = subst (λ (b : Bool). BySize (first_cause p) b) (sym within) (p, h, refl)
+
+  by_formula : goal_passes_limit_by Affected m goal ≡ true → LeanPassesFirst limits m goal (Some cause.Formula)
+  by_formula passes = subst (λ (b : Bool). BySize (Some cause.Formula) b) (sym passes) refl
+
+  by_passed : (p : Passed) → goal_passes_limit_by Affected m goal ≡ false
+      → IsOver limits (lean_signature m.signature (affected_refuting m goal))
+      (lean_sentence m.signature (affected_refuting m goal)) p
+      → IsLeanLeftOpen limits m goal (cause_of p)
+  by_passed (passed.Conflicts n) within h = (by_count None within h.0, h.1, h.2)
+  by_passed (passed.Terms n) within h = by_count (Some (passed.Terms n)) within h
+  by_passed (passed.GroundSize n) within h = by_count (Some (passed.GroundSize n)) within h
+
+  decided_as : (d e : Decision) → d ≡ e → IsDecidedBy limits m goal (affected_refuting m goal) d
+      → IsDecidedBy limits m goal (affected_refuting m goal) e
+  decided_as d e is h = subst (λ (a : Decision). IsDecidedBy limits m goal (affected_refuting m goal) a) is h
+
+  pub lean_holds : (d : Decision) (proof : Checked) → d ≡ Holds proof → IsLeanDecision limits m goal d
+      → LeanPassesFirst limits m goal None × HasNone m goal
+  lean_holds d proof is (too_large passes e) = absurd (cc (sym is ∙ e))
+  lean_holds d proof is (decided within h) =
+      let k = decided_as d (Holds proof) is h in
+      (by_count None within k.0, k.1)
+
+  pub lean_fails : (d : Decision) (shown : Counterexample) → d ≡ Fails shown → IsLeanDecision limits m goal d
+      → LeanPassesFirst limits m goal None × IsFailing limits m goal shown
+  lean_fails d shown is (too_large passes e) = absurd (cc (sym is ∙ e))
+  lean_fails d shown is (decided within h) =
+      let k = decided_as d (Fails shown) is h in
+      (by_count None within k.0, k.1)
+
+  pub lean_open : (d : Decision) (c : Cause) → d ≡ Undecided c → IsLeanDecision limits m goal d
+      → IsLeanLeftOpen limits m goal c
+  lean_open d c is (too_large passes e) =
+      let same : c ≡ cause.Formula = cc (sym is ∙ e) in
+      subst (λ (x : Cause). IsLeanLeftOpen limits m goal x) (sym same) (by_formula passes)
+  lean_open d c is (decided within h) =
+      let k = decided_as d (Undecided c) is h in
+      subst (λ (x : Cause). IsLeanLeftOpen limits m goal x) (sym k.1) (by_passed k.0 within k.2)
