@@ -1,0 +1,164 @@
+-- The turns of the loops over paths, conjectures and actions.
+use Rattle.std.proofs.Common.{◌≡◌, ◌+◌, ◌-◌, ◌<◌, ◌≤◌, ℕ, true, false, List, ◌∷◌, ◌++◌, length, drop, get_or, map}
+use Rattle.std.proofs.Common.{Option, Some, None, sym, subst, arith}
+use Rattle.std.specs.Prelude.{slice_get}
+use Rattle.std.specs.List.{flat_map}
+use Rattle.rml_command.specs.Trees.{PrimitiveTree}
+use Rattle.base.specs.Lists.{count_from}
+use Rattle.rml_command.specs.Models.{ModelTree}
+use Rattle.rml_command.specs.Paths.{has_abort}
+use Rattle.rml_command.specs.Goals.{goals_among, group_goals, stage_paths, IsGoal}
+use Rattle.rml_command.specs.declared.goal.Stage.{Stage}
+use Rattle.rml_command.specs.declared.goal.Stage.TheVariants as stage
+use Rattle.rml_command.specs.declared.goal.About.TheVariants as about
+use Rattle.rml_command.specs.declared.goal.Goal.{Goal}
+use Rattle.rml_exec.specs.declared.trace.Counterexample.{Counterexample}
+use Rattle.rml_wp.specs.Preconditions.{conjectures_of}
+use Rattle.rml_report.specs.declared.cause.Cause.{Cause}
+use Rattle.ea_decide.specs.Passing.{Ceilings}
+use Rattle.obligation_decide.specs.GoalPassing.{PassesFirstBy}
+use Rattle.obligation_decide.specs.GoalDecisions.{IsFailingBy}
+use Rattle.rml_houdini.specs.Rounds.{group_at, stage_goals, goals_about, IsSafe, IsOpen}
+use Rattle.rml_houdini.specs.Progress.{earlier_of, action_goals, Leads, IsRound}
+use Rattle.rml_houdini.specs.declared.round.Round.{Round}
+use Rattle.rml_houdini.specs.declared.round.Round.TheVariants.{Fails, Passes}
+use Rattle.rml_houdini.proofs.Steps.{Completes, behind_safe, behind_open, behind_list, in_list, round_failing, at_last}
+use Rattle.rml_houdini.proofs.Steps.{round_front, round_then}
+use Rattle.rml_houdini.proofs.Paths.{passed, listed, no_path, next_of, none_of, actions_from, next_action, no_action}
+
+module _ (limits : Ceilings) (m : ModelTree) (held : List ℕ) (start : Option (Goal × Cause)) where
+  -- the goals of a group, along its paths
+  module _ (st : Stage) (k : ℕ) (ps : List (List PrimitiveTree)) where
+    abbrev pub ThroughPaths : Option (Goal × Cause) → ℕ → Type 0
+    ThroughPaths now i = Completes limits m held start (group_goals m (group_at st k)) now
+        (goals_among (group_at st k) (i + 1) (drop i ps))
+
+    abbrev pub goal_at : ℕ → Goal
+    goal_at i = record { stage = st; path = i + 1; about = about.Conjecture k }
+
+    pub first_path : ps ≡ stage_paths m st → ThroughPaths start 0
+    first_path same r h =
+        subst (λ (qs : List (List PrimitiveTree)). IsRound limits m held start (goals_among (group_at st k) 1 qs) r) same
+        h
+
+    module _ (now : Option (Goal × Cause)) (i : ℕ) (p : List PrimitiveTree) (at : slice_get ps i ≡ Some p)
+        (whole : ThroughPaths now i) where
+      pub path_passed : has_abort p ≡ true → ThroughPaths now (i + 1)
+      path_passed aborts r h =
+          whole r (subst (λ (gs : List Goal). IsRound limits m held now gs r) (sym (passed st k ps i p at aborts)) h)
+
+      here : has_abort p ≡ false → Completes limits m held start (group_goals m (group_at st k)) now
+          (goal_at i ∷ goals_among (group_at st k) (i + 1 + 1) (drop (i + 1) ps))
+      here ends r h =
+          whole r (subst (λ (gs : List Goal). IsRound limits m held now gs r) (sym (listed st k ps i p at ends)) h)
+
+      pub path_safe : has_abort p ≡ false → IsSafe limits m held (goal_at i) → ThroughPaths now (i + 1)
+      path_safe ends safe =
+          behind_safe limits m held start (group_goals m (group_at st k)) now (goal_at i)
+          (goals_among (group_at st k) (i + 1 + 1) (drop (i + 1) ps)) (here ends) safe
+
+      pub path_open : has_abort p ≡ false → (c : Cause) → IsOpen limits m held (goal_at i) c
+          → ThroughPaths (earlier_of now (goal_at i) c) (i + 1)
+      path_open ends c left =
+          behind_open limits m held start (group_goals m (group_at st k)) now (goal_at i) c
+          (goals_among (group_at st k) (i + 1 + 1) (drop (i + 1) ps)) (here ends) left
+
+      pub path_fails : has_abort p ≡ false → (shown : Counterexample) → IsGoal m (goal_at i)
+          → PassesFirstBy limits m (conjectures_of m held) (goal_at i) None
+          → IsFailingBy limits m (conjectures_of m held) (goal_at i) shown
+          → IsRound limits m held start (group_goals m (group_at st k)) (Fails shown)
+      path_fails ends shown is within fails =
+          here ends (Fails shown) (round_failing limits m held now (goal_at i)
+          (goals_among (group_at st k) (i + 1 + 1) (drop (i + 1) ps)) shown is within fails)
+
+    pub paths_end : (now : Option (Goal × Cause)) (i : ℕ) → length ps ≤ i → ThroughPaths now i
+        → IsRound limits m held start (group_goals m (group_at st k)) (Passes now)
+    paths_end now i le whole =
+        at_last limits m held start (group_goals m (group_at st k)) now
+        (subst (λ (gs : List Goal). Completes limits m held start (group_goals m (group_at st k)) now gs)
+        (no_path st k ps i le) whole)
+
+  -- the goals of a stage, along the conjectures
+  module _ (st : Stage) where
+    abbrev pub ThroughHeld : Option (Goal × Cause) → ℕ → Type 0
+    ThroughHeld now i = Completes limits m held start (stage_goals m held st) now
+        (flat_map (λ k. group_goals m (group_at st k)) (drop i held))
+
+    module _ (now : Option (Goal × Cause)) (i k : ℕ) (lt : i < length held) (is : k ≡ get_or held i 0)
+        (whole : ThroughHeld now i) where
+      group-here : Completes limits m held start (stage_goals m held st) now
+          (group_goals m (group_at st k) ++ flat_map (λ k. group_goals m (group_at st k)) (drop (i + 1) held))
+      group-here =
+          subst (λ (gs : List Goal). Completes limits m held start (stage_goals m held st) now gs)
+          (next_of (λ k. group_goals m (group_at st k)) held i k lt is) whole
+
+      pub group_passes : (new : Option (Goal × Cause)) → Leads limits m held now (group_goals m (group_at st k)) new
+          → ThroughHeld new (i + 1)
+      group_passes new lead =
+          behind_list limits m held start (stage_goals m held st) now (group_goals m (group_at st k))
+          (flat_map (λ k. group_goals m (group_at st k)) (drop (i + 1) held)) new group-here lead
+
+      pub group_fails : (shown : Counterexample)
+          → IsRound limits m held now (group_goals m (group_at st k)) (Fails shown)
+          → IsRound limits m held start (stage_goals m held st) (Fails shown)
+      group_fails shown h =
+          in_list limits m held start (stage_goals m held st) now (group_goals m (group_at st k))
+          (flat_map (λ k. group_goals m (group_at st k)) (drop (i + 1) held)) shown group-here h
+
+    pub held_end : (now : Option (Goal × Cause)) (i : ℕ) → length held ≤ i → ThroughHeld now i
+        → IsRound limits m held start (stage_goals m held st) (Passes now)
+    held_end now i le whole =
+        at_last limits m held start (stage_goals m held st) now
+        (subst (λ (gs : List Goal). Completes limits m held start (stage_goals m held st) now gs)
+        (none_of (λ k. group_goals m (group_at st k)) held i le) whole)
+
+-- the goals of a round, along the actions
+module _ (limits : Ceilings) (m : ModelTree) (held : List ℕ) where
+  pub init_fails : (shown : Counterexample)
+      → IsRound limits m held None (stage_goals m held stage.Init) (Fails shown)
+      → IsRound limits m held None (goals_about m held) (Fails shown)
+  init_fails shown h = round_front limits m held None (stage_goals m held stage.Init) (action_goals m held) shown h
+
+  pub init_passes : (now : Option (Goal × Cause)) (r : Round)
+      → Leads limits m held None (stage_goals m held stage.Init) now → IsRound limits m held now (action_goals m held) r
+      → IsRound limits m held None (goals_about m held) r
+  init_passes now r lead h =
+      round_then limits m held None now (stage_goals m held stage.Init) (action_goals m held) r lead h
+
+  module _ (start : Option (Goal × Cause)) where
+    abbrev pub ThroughActions : Option (Goal × Cause) → ℕ → ℕ → Type 0
+    ThroughActions now a n = Completes limits m held start (action_goals m held) now
+        (flat_map (λ s. stage_goals m held s) (actions_from a n))
+
+    pub first_action : (n : ℕ) → n ≡ length m.actions → ThroughActions start 0 n
+    first_action n is r h =
+        let e : n - 0 ≡ length m.actions = omega (arith, is) in
+        subst (λ (i : ℕ). IsRound limits m held start (flat_map (λ s. stage_goals m held s)
+        (map (λ k. stage.Action k) (count_from 0 i))) r) e h
+
+    module _ (now : Option (Goal × Cause)) (a n : ℕ) (lt : a < n) (whole : ThroughActions now a n) where
+      stage-here : Completes limits m held start (action_goals m held) now
+          (stage_goals m held (stage.Action a) ++ flat_map (λ s. stage_goals m held s) (actions_from (a + 1) n))
+      stage-here =
+          subst (λ (ss : List Stage). Completes limits m held start (action_goals m held) now
+          (flat_map (λ s. stage_goals m held s) ss)) (next_action a n lt) whole
+
+      pub action_passes : (new : Option (Goal × Cause))
+          → Leads limits m held now (stage_goals m held (stage.Action a)) new → ThroughActions new (a + 1) n
+      action_passes new lead =
+          behind_list limits m held start (action_goals m held) now (stage_goals m held (stage.Action a))
+          (flat_map (λ s. stage_goals m held s) (actions_from (a + 1) n)) new stage-here lead
+
+      pub action_fails : (shown : Counterexample)
+          → IsRound limits m held now (stage_goals m held (stage.Action a)) (Fails shown)
+          → IsRound limits m held start (action_goals m held) (Fails shown)
+      action_fails shown h =
+          in_list limits m held start (action_goals m held) now (stage_goals m held (stage.Action a))
+          (flat_map (λ s. stage_goals m held s) (actions_from (a + 1) n)) shown stage-here h
+
+    pub actions_end : (now : Option (Goal × Cause)) (a n : ℕ) → n ≤ a → ThroughActions now a n
+        → IsRound limits m held start (action_goals m held) (Passes now)
+    actions_end now a n le whole =
+        at_last limits m held start (action_goals m held) now
+        (subst (λ (ss : List Stage). Completes limits m held start (action_goals m held) now
+        (flat_map (λ s. stage_goals m held s) ss)) (no_action a n le) whole)

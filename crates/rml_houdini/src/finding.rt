@@ -1,0 +1,85 @@
+// Conjectures are dropped one by one. Each drop leaves fewer, so the rounds end.
+ghost use Rattle.std.specs.Prelude.{◌≡◌, ◌==◌, not, length, IfOk};
+ghost use Rattle.std.specs.List.{filter};
+ghost use Rattle.base.specs.Lists.{count_from};
+ghost use Rattle.ea_decide.specs.Passing.{ceilings};
+ghost use Rattle.rml_houdini.specs.Greatest.{IsFound};
+ghost use Rattle.rml_houdini.specs.Progress.{IsConjecture};
+
+use crate::houdini::{Dropped, Houdini};
+use crate::laws::{dropping_law, settled_law};
+use crate::round::{Round, decide_round};
+use base::{Mem, Row};
+use lrat_log::Limits;
+use rml_command::{About, Checked};
+use std::alloc::Global;
+
+// All conjectures of a model, by their numbers.
+fn all_conjectures(alloc: Global, checked: &Checked) -> Mem<Vec<u32>>
+    ensures { IfOk result (λ all. all.items ≡ count_from 0 (length checked.now.conjectures)) }
+{
+    let count = checked.model().conjectures().len() as u32;
+    let mut all = Vec::with_capacity(alloc, count as usize)?;
+    for k in 0..count {
+        all.push(k)?;
+    }
+    Ok(all)
+}
+
+// The numbers but this one.
+fn without(alloc: Global, numbers: &[u32], number: u32) -> Mem<Vec<u32>>
+    ensures { IfOk result (λ left. left.items ≡ filter (λ k. not (number == k)) numbers.now) }
+{
+    let mut left = Vec::with_capacity(alloc, numbers.len())?;
+    for k in numbers {
+        if number != *k {
+            left.push(*k)?;
+        }
+    }
+    Ok(left)
+}
+
+// The conjecture that a goal is about.
+fn conjecture_of(about: About) -> u32
+    requires { IsConjecture about }
+    ensures { about ≡ About.Conjecture result }
+{
+    match about {
+        About::Abort => unreachable!(),
+        About::Conjecture(conjecture) => conjecture,
+    }
+}
+
+/// Finds the greatest set of the model's conjectures that is inductive apart from aborts: all are held at first; in each
+/// round the goals of those that are held are decided in order, and the first that fails drops its conjecture. The last
+/// round is one in which none fails.
+pub fn greatest(alloc: Global, checked: &Checked, limits: &Limits) -> Mem<Houdini>
+    ensures { IfOk result (IsFound (ceilings limits.now) checked.now) }
+{
+    dropping_law();
+    settled_law();
+    let mut dropped = Vec::new(alloc);
+    let mut held = all_conjectures(alloc, checked)?;
+    loop {
+        match decide_round(alloc, checked, &held, limits)? {
+            Round::Fails(shown) => {
+                let conjecture = conjecture_of(shown.goal.about);
+                let left = without(alloc, &held, conjecture)?;
+                let held_then = Row::from_vec(held);
+                dropped.push(Dropped {
+                    conjecture,
+                    held: held_then,
+                    shown,
+                })?;
+                held = left;
+            }
+            Round::Passes(unsettled) => {
+                return Ok(Houdini {
+                    dropped: Row::from_vec(dropped),
+                    kept: Row::from_vec(held),
+                    unsettled,
+                });
+            }
+        }
+    }
+}
