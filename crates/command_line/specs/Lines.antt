@@ -16,12 +16,14 @@ use Rattle.command_line.specs.declared.request.Request.TheVariants as request
 -- a command line: what it asks for, with the names of its files
 pub data Line : Type 0 where
   check : Text → Asked → Line
+  houdini : Text → Asked → Line
   lrat : Text → Text → Line
   emit : Text → Emission → Line
   sample : ℕ → Line
 
 abbrev pub request_line : Request → Line
 request_line (request.Check file asked) = check file.now asked
+request_line (request.Houdini file asked) = houdini file.now asked
 request_line (request.Lrat formula log) = lrat formula.now log.now
 request_line (request.Emit file emission) = emit file.now emission
 request_line (request.Sample n) = sample n
@@ -37,9 +39,16 @@ with_limits app =
     (number_option (codes "ground") 1 50000000))
     (number_option (codes "conflicts") 1 100000000)
 
+-- a command that takes the file of a model and these options
+abbrev pub model_app : Text → App
+model_app word = with_limits (with_rule (new_app word) (required_rule (codes "FILE")))
+
 -- the commands as `clap` knows them
 abbrev pub check_app : App
-check_app = with_limits (with_rule (new_app (codes "check")) (required_rule (codes "FILE")))
+check_app = model_app (codes "check")
+
+abbrev pub houdini_app : App
+houdini_app = model_app (codes "houdini")
 
 abbrev pub lrat_app : App
 lrat_app = with_rule (with_rule (new_app (codes "lrat")) (required_rule (codes "CNF"))) (required_rule (codes "LOG"))
@@ -69,6 +78,11 @@ abbrev pub check_by : Option (List Row) → Option Line
 check_by rows =
     option_and_then
     (λ rows. option_and_then (λ file. option_map (check file) (asked_by rows)) (first_of (codes "FILE") rows)) rows
+
+abbrev pub houdini_by : Option (List Row) → Option Line
+houdini_by rows =
+    option_and_then
+    (λ rows. option_and_then (λ file. option_map (houdini file) (asked_by rows)) (first_of (codes "FILE") rows)) rows
 
 abbrev pub lrat_by : Option (List Row) → Option Line
 lrat_by rows =
@@ -105,6 +119,9 @@ sample_by rows =
 unfoldable pub check_line : List Text → Option Line
 check_line words = check_by (matched check_app words)
 
+unfoldable pub houdini_line : List Text → Option Line
+houdini_line words = houdini_by (matched houdini_app words)
+
 unfoldable pub lrat_line : List Text → Option Line
 lrat_line words = lrat_by (matched lrat_app words)
 
@@ -119,6 +136,7 @@ abbrev pub line_of : List Text → Option Line
 line_of [] = None
 line_of (command ∷ words) =
     if bytes_eq command (codes "check") then check_line (command ∷ words)
+    else if bytes_eq command (codes "houdini") then houdini_line (command ∷ words)
     else if bytes_eq command (codes "lrat") then lrat_line (command ∷ words)
     else if bytes_eq command (codes "emit") then emit_line (command ∷ words)
     else if bytes_eq command (codes "sample") then sample_line (command ∷ words)

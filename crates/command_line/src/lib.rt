@@ -2,6 +2,7 @@
 #![tactic(auto)]
 
 mod emit;
+mod houdini;
 mod number;
 mod request;
 mod sample;

@@ -1,12 +1,13 @@
 // What a list of words asks for.
 ghost use Rattle.std.specs.Prelude.{◌≡◌, map, string_bytes, IfOk, IfSome, option_map};
 ghost use Rattle.clap.specs.Words.{app_of};
-ghost use Rattle.command_line.specs.Lines.{check_app, lrat_app, with_limits, asked_by, check_by, lrat_by, check_line};
-ghost use Rattle.command_line.specs.Lines.{lrat_line, line_of, request_line};
+ghost use Rattle.command_line.specs.Lines.{model_app, lrat_app, with_limits, asked_by, check_by, lrat_by};
+ghost use Rattle.command_line.specs.Lines.{check_line, lrat_line, line_of, request_line};
 ghost use Rattle.command_line.specs.Asking.{default_asked, IsInRange, HasRanges};
 ghost use Rattle.command_line.specs.Rows.{rows_in};
 
 use crate::emit::emit;
+use crate::houdini::houdini;
 use crate::number::{number_of, number_option};
 use crate::sample::sample;
 use crate::words::{is_word, matches, required, value};
@@ -58,6 +59,8 @@ pub struct Emission {
 pub enum Request<'a> {
     /// `check FILE`: the file of a model.
     Check(&'a str, Asked),
+    /// `houdini FILE`: the file of a model.
+    Houdini(&'a str, Asked),
     /// `lrat CNF LOG`: the files of a formula and of a log.
     Lrat(&'a str, &'a str),
     /// `emit FILE GOAL WHAT`: the file of a model, and what is to be written of it.
@@ -77,6 +80,8 @@ pub fn read_words<'a>(alloc: Global, words: &'a [String]) -> Mem<Option<Request<
     };
     if is_word(command.as_bytes(), "check") {
         check(alloc, words)
+    } else if is_word(command.as_bytes(), "houdini") {
+        houdini(alloc, words)
     } else if is_word(command.as_bytes(), "lrat") {
         lrat(alloc, words)
     } else if is_word(command.as_bytes(), "emit") {
@@ -98,10 +103,11 @@ pub fn with_limits<'a>(alloc: Global, command: Command<'a>) -> Mem<Command<'a>>
     Ok(command)
 }
 
-fn check_command<'a>(alloc: Global) -> Mem<Command<'a>>
-    ensures { IfOk result (λ command. app_of command ≡ check_app) }
+/// A command that takes the file of a model and the options of a decision.
+pub fn model_command<'a>(alloc: Global, word: &'a str) -> Mem<Command<'a>>
+    ensures { IfOk result (λ command. app_of command ≡ model_app word.entry.now) }
 {
-    let file = Command::new(alloc, "check").arg(required(alloc, "FILE"))?;
+    let file = Command::new(alloc, word).arg(required(alloc, "FILE"))?;
     let command = with_limits(alloc, file)?;
     Ok(command)
 }
@@ -149,7 +155,7 @@ fn check<'a>(alloc: Global, words: &'a [String]) -> Mem<Option<Request<'a>>>
         (λ r. option_map request_line r ≡ check_line (map (λ w. string_bytes w) words.entry.now)) }
     ensures ranges { IfOk result (λ r. IfSome r HasRanges) }
 {
-    let command = check_command(alloc)?;
+    let command = model_command(alloc, "check")?;
     let matches = matches(command, words)?;
     Ok(check_of(&matches))
 }

@@ -1,6 +1,6 @@
 // From the words to the answer with its text.
 ghost use Rattle.std.specs.Prelude.{◌≡◌, ◌≤◌, ℕ, List, [], Some, None, map, string_bytes};
-ghost use Rattle.command_line.specs.Lines.{check, lrat, emit, sample, line_of, request_line};
+ghost use Rattle.command_line.specs.Lines.{check, houdini, lrat, emit, sample, line_of, request_line};
 ghost use Rattle.command_line.specs.Asking.{IsInRange, HasRanges};
 ghost use Rattle.commands.specs.Ends.{EndsNone};
 ghost use Rattle.commands.specs.Done.{due_in, outcome_in};
@@ -10,6 +10,7 @@ ghost use Rattle.ivy_run.specs.Run.{Does, IsUsage, OfSample, due_of};
 use crate::check::Check;
 use crate::emit::Emit;
 use crate::ended::Answer;
+use crate::houdini::Houdini;
 use crate::lrat::Lrat;
 use crate::sample::Sample;
 use crate::usage::Usage;
@@ -107,6 +108,30 @@ fn perform_emit<F: Files>(
     }
 }
 
+// `houdini FILE`.
+fn perform_houdini<F: Files>(
+    alloc: Global,
+    file: &str,
+    asked: Asked,
+    files: &mut F,
+    first: &mut Vec<u8>,
+) -> Result<Done<Answer>, LoadError>
+    requires ranges { IsInRange asked }
+    requires first { first.old.items ≡ [] }
+    ensures same { (n : List ℕ) → F.told files.new n ≡ F.told files.old n }
+    ensures due { due_in result ≡ due_of (Some (houdini file.now asked)) first.new.items [] (outcome_in result) }
+    ensures does { Does (Some (houdini file.now asked)) (F.told files.old) (F.faults files.old) (F.faults files.new)
+        first.new.items [] (outcome_in result) }
+{
+    match one_file(&Houdini { asked }, alloc, files, file, MODEL_LIMIT, first) {
+        Ok(done) => Ok(Done {
+            answer: Answer::Houdini(done.answer),
+            said: done.said,
+        }),
+        Err(why) => Err(why),
+    }
+}
+
 // `sample N`.
 fn perform_sample(alloc: Global, number: u64) -> Result<Done<Answer>, LoadError>
     requires { number ≤ 40 }
@@ -141,6 +166,7 @@ fn perform<F: Files>(
 {
     match request {
         Request::Check(file, asked) => perform_check(alloc, file, asked, files, first),
+        Request::Houdini(file, asked) => perform_houdini(alloc, file, asked, files, first),
         Request::Lrat(formula, log) => perform_lrat(alloc, formula, log, files, first, second),
         Request::Emit(file, emission) => perform_emit(alloc, file, emission, files, first),
         Request::Sample(number) => perform_sample(alloc, number),

@@ -1,6 +1,6 @@
 // The top call: from the words and the files to the sinks and the status.
 ghost use Rattle.std.specs.Prelude.{◌≡◌, ℕ, List, Some, None, map, string_bytes};
-ghost use Rattle.command_line.specs.Lines.{line_of, check, lrat, emit, sample};
+ghost use Rattle.command_line.specs.Lines.{line_of, check, houdini, lrat, emit, sample};
 ghost use Rattle.command_line.specs.declared.request.Asked.{Asked};
 ghost use Rattle.command_line.specs.declared.request.Emission.{Emission};
 ghost use Rattle.commands.specs.Ends.{EndsNone, EndsOne, EndsTwo};
@@ -9,8 +9,9 @@ ghost use Rattle.ivy_run.specs.ModelTexts.{model_limit};
 ghost use Rattle.ivy_run.specs.Check.{IsCheckAnswer, ceilings_of};
 ghost use Rattle.ivy_run.specs.Lrat.{IsRefutation, clause_limit};
 ghost use Rattle.ivy_run.specs.Emit.{IsEmitAnswer};
+ghost use Rattle.ivy_run.specs.Houdini.{IsHoudiniAnswer};
 ghost use Rattle.ivy_run.specs.Sample.{IsSampleAnswer};
-ghost use Rattle.ivy_run.specs.Run.{IsUsage, OfCheck, OfLrat, OfEmit, OfSample, due_of};
+ghost use Rattle.ivy_run.specs.Run.{IsUsage, OfCheck, OfLrat, OfEmit, OfHoudini, OfSample, due_of};
 
 use crate::ended::{Ended, Loaded};
 use crate::perform::work;
@@ -58,6 +59,15 @@ pub fn run<F: Files, O: Sink, E: Sink>(
         → EndsOne (F.told files.old file) model_limit (F.faults files.old) (F.faults files.new)
         result.loaded.first result.loaded.second
         (λ text other a. OfEmit (IsEmitAnswer emission text) a) result.outcome }
+
+    // `houdini FILE`: the conjectures of the text's one model are dropped one by one, each by an execution that breaks it
+    // from a structure that satisfies those held at that time. Every set of conjectures that is inductive apart from
+    // aborts is within those that are kept, and where no goal was left open, they are such a set themselves.
+    ensures houdini { (file : List ℕ) (asked : Asked)
+        → line_of (map (λ w. string_bytes w) words.now) ≡ Some (houdini file asked)
+        → EndsOne (F.told files.old file) model_limit (F.faults files.old) (F.faults files.new)
+        result.loaded.first result.loaded.second
+        (λ text other a. OfHoudini (IsHoudiniAnswer (ceilings_of asked) text) a) result.outcome }
 
     // `sample N`: the report on the model of the sample text, under the limits of a `check` without options.
     ensures sample { (n : ℕ)

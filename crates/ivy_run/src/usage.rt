@@ -22,7 +22,7 @@ impl Command for Usage {
 
     fn say(&self, alloc: Global, first: &[u8], second: &[u8], answer: &()) -> Mem<Said> {
         let text =
-            b"usage: ivycheck check FILE, emit FILE GOAL cnf|lrat, lrat CNF LOG, or sample N\n".to_vec(
+            b"usage: ivycheck check FILE, emit FILE GOAL cnf|lrat, lrat CNF LOG, houdini FILE, or sample N\n".to_vec(
                 alloc,
             )?;
         Ok(Said {

@@ -6,7 +6,7 @@ use crate::reader::Parsed;
 use crate::row::{Row, Stream, Text};
 use base::{Mem, Refused};
 use commands::Written;
-use ivy_run::{Answer, CheckAnswer, EmitAnswer, Emitted, Ended, LratAnswer, run};
+use ivy_run::{Answer, CheckAnswer, EmitAnswer, Emitted, Ended, HoudiniAnswer, LratAnswer, run};
 use rml_bytes::{Bytes, DiskFiles, FileName, Files, LoadError, MemFiles, MemSink};
 use std::alloc::Global;
 
@@ -145,12 +145,20 @@ fn name_of_emit(answer: &EmitAnswer) -> &'static str {
     }
 }
 
+fn name_of_houdini(answer: &HoudiniAnswer) -> &'static str {
+    match answer {
+        HoudiniAnswer::Found { .. } => "found",
+        HoudiniAnswer::Fault(_) => "fault",
+    }
+}
+
 fn name_of(outcome: &Result<Answer, LoadError>) -> &'static str {
     match outcome {
         Ok(Answer::Usage) => "usage",
         Ok(Answer::Check(answer)) => name_of_check(answer),
         Ok(Answer::Lrat(answer)) => name_of_lrat(answer),
         Ok(Answer::Emit(answer)) => name_of_emit(answer),
+        Ok(Answer::Houdini(answer)) => name_of_houdini(answer),
         Ok(Answer::Sample(_)) => "sampled",
         Err(LoadError::TooLong) => "too long",
         Err(LoadError::Failed) => "read fault",
@@ -163,6 +171,7 @@ fn stands_in_text(ended: &Ended) -> bool {
     match &ended.outcome {
         Ok(Answer::Check(CheckAnswer::Fault(fault))) => fault.at <= first,
         Ok(Answer::Emit(EmitAnswer::Fault(fault))) => fault.at <= first,
+        Ok(Answer::Houdini(HoudiniAnswer::Fault(fault))) => fault.at <= first,
         Ok(Answer::Lrat(LratAnswer::CnfFault(fault))) => fault.at <= first,
         Ok(Answer::Lrat(LratAnswer::LogFault(fault))) => {
             fault.at <= ended.loaded.second.len() as u64
