@@ -1,5 +1,5 @@
 #!/usr/bin/env python3
-"""Holds `check` to brute force: random small models, and every structure of up to three elements a sort.
+"""Holds `check` and `houdini` to brute force: random small models, and every structure of up to three elements a sort.
 
     bench/models.py [COUNT [SEED]]      IVYCHECK is the program (the one that ./ivycheck runs); 1000 models from seed 1
 
@@ -13,8 +13,13 @@ each path of each block from each, element by element. Of each group it asks:
   before it fails; that no structure with lexicographically smaller sizes fails on it; and, behind `least: yes`, that
   none of the same sizes has a lexicographically smaller list of numbers of true tuples.
 
+Of what `houdini` finds it asks that each drop shows an execution that breaks the dropped conjecture from a structure
+that satisfies those held at that time, and, where the verdict is `greatest`, that no structure it made breaks the kept
+ones.
+
 The last line says how many groups held, failed and were left open, how many of the failing ones had their sizes among
-those that were made, and how many differ. The status is 1 where one differs; the model of such a one is printed.
+those that were made, how many conjectures were dropped, and how many models differ. The status is 1 where one differs;
+such a model is printed.
 """
 import itertools
 import multiprocessing
@@ -250,9 +255,9 @@ def name_of(bound):
     return "x_" + bound.replace("@", "at")
 
 
-def counterexamples(model):
+def counterexamples(model, held):
     """Gives for each goal, by stage, path and conjecture, the least numbers of tuples by sizes; and which sizes were
-    made."""
+    made. These conjectures alone are held and asked for."""
     found, made = {}, []
     for sizes in itertools.product((1, 2, 3), repeat=len(model.sorts)):
         world = World(model, sizes)
@@ -261,14 +266,15 @@ def counterexamples(model):
         made.append(sizes)
         for s in world.structures():
             if world.holds(model.axioms, s):
-                for goal in broken(world, s, world.holds(model.conjectures, s)):
+                for goal in broken(world, s, held):
                     least = found.setdefault(goal, {})
                     least[sizes] = min(least.get(sizes, world.tally(s)), world.tally(s))
     return found, made
 
 
-def broken(world, s, is_kept):
-    """Gives the goals of which a structure is a counterexample."""
+def broken(world, s, held):
+    """Gives the goals of which a structure is a counterexample, where these conjectures are held."""
+    is_kept = world.holds(held, s)
     for stage, paths in world.model.stages():
         if stage == "init" or is_kept:
             for number, path in enumerate(paths, 1):
@@ -276,7 +282,7 @@ def broken(world, s, is_kept):
                     if end is None:
                         yield stage, number, "abort"
                     elif stage != "final":
-                        for name, c in world.model.conjectures:
+                        for name, c in held:
                             if not world.function(c)(end):
                                 yield stage, number, name
 
@@ -304,7 +310,7 @@ class Shown:
         self.path = int(lines[0].split()[1])
         self.is_least = lines[1] == "least: yes"
         at = next(i for i, line in enumerate(lines) if line.startswith("havoc:"))
-        before = lines[3:at]
+        before = lines[lines.index("before") + 1:at]
         self.sizes = tuple(int(line.split()[2]) for line in before if line.startswith("sort "))
         self.world = World(model, self.sizes)
         self.before = self.structure([line for line in before if not line.startswith("sort ")])
@@ -327,12 +333,12 @@ class Shown:
                 s[name] = {t: told.get(t, False) for t in self.world.tuples(name)}
         return s
 
-    def faults(self, stage, name, path):
-        """Gives what is wrong with it as a counterexample, if something is."""
+    def faults(self, stage, name, path, held):
+        """Gives what is wrong with it as a counterexample where these conjectures are held, if something is."""
         world = self.world
         if not world.holds(self.model.axioms, self.before):
             yield "an axiom is false before"
-        if stage != "init" and not world.holds(self.model.conjectures, self.before):
+        if stage != "init" and not world.holds(held, self.before):
             yield "a conjecture is false before"
         ends = list(world.ends(path, self.before, list(self.havoc)))
         if ends != [self.after]:
@@ -349,7 +355,7 @@ class Shown:
 
 def differences(model, report, tallies):
     """Gives what of the report brute force denies."""
-    found, made = counterexamples(model)
+    found, made = counterexamples(model, model.conjectures)
     paths_of = dict(model.stages())
     for stage, name, answer, lines in groups_of(report):
         failing = {number: found[stage, number, name] for number in range(1, len(paths_of[stage]) + 1)
@@ -360,7 +366,7 @@ def differences(model, report, tallies):
         if answer != "fails":
             continue
         shown = Shown(model, lines)
-        for fault in shown.faults(stage, name, paths_of[stage][shown.path - 1]):
+        for fault in shown.faults(stage, name, paths_of[stage][shown.path - 1], model.conjectures):
             yield f"{stage} {name}: {fault}"
         if min(failing, default=shown.path) < shown.path:
             yield f"{stage} {name}: path {min(failing)} fails before path {shown.path}"
@@ -375,20 +381,52 @@ def differences(model, report, tallies):
                 yield f"{stage} {name}: {least[shown.sizes]} tuples are enough"
 
 
-def judged(seed):
-    """Gives what differs of the model of a seed, with its text, and the tallies of its groups."""
-    text, tallies = Maker(seed).text(), Counter()
+def found_differences(model, told, tallies):
+    """Gives what of `houdini`'s answer brute force denies."""
+    held, blocks, kept = list(model.conjectures), [], []
+    for line in told.splitlines():
+        if line.startswith(" "):
+            blocks[-1][2].append(line.strip())
+        elif line.startswith("drop "):
+            name, _, head = line[5:].partition(": ")
+            blocks.append((name, head, []))
+        elif line.startswith("keep "):
+            kept.append(line[5:])
+    for name, head, lines in blocks:
+        tallies["dropped"] += 1
+        stage = head.removesuffix(f" {name}")
+        shown = Shown(model, lines)
+        for fault in shown.faults(stage, name, dict(model.stages())[stage][shown.path - 1], held):
+            yield f"drop {name}: {fault}"
+        held = [(other, c) for other, c in held if other != name]
+    if [name for name, _ in held] != kept:
+        yield f"kept are {kept}, and not dropped {[name for name, _ in held]}"
+    if told.endswith("verdict: greatest\n"):
+        found, _ = counterexamples(model, held)
+        for stage, number, name in found:
+            if name != "abort":
+                yield f"kept are {kept}, and path {number} of {stage} breaks {name}"
+
+
+def answer(command, text):
     with tempfile.NamedTemporaryFile("w", suffix=".rml") as it:
         it.write(text)
         it.flush()
-        ran = subprocess.run([program(), "check", it.name], capture_output=True, text=True)
-    if ran.returncode not in (0, 1, 3) or not ran.stdout.startswith("axioms:"):
-        told = [f"status {ran.returncode}: {(ran.stdout + ran.stderr).strip()}"]
-    else:
-        try:
-            told = list(differences(rml.read(text), ran.stdout, tallies))
-        except (KeyError, IndexError, ValueError, StopIteration, AttributeError) as fault:
-            told = [f"the report cannot be read: {fault!r}"]
+        ran = subprocess.run([program(), command, it.name], capture_output=True, text=True)
+    if ran.returncode not in (0, 1, 3):
+        raise ValueError(f"status {ran.returncode}: {(ran.stdout + ran.stderr).strip()}")
+    return ran.stdout
+
+
+def judged(seed):
+    """Gives what differs of the model of a seed, with its text, and the tallies of its groups."""
+    text, tallies = Maker(seed).text(), Counter()
+    try:
+        model = rml.read(text)
+        told = list(differences(model, answer("check", text), tallies))
+        told += found_differences(model, answer("houdini", text), tallies)
+    except (KeyError, IndexError, ValueError, StopIteration, AttributeError) as fault:
+        told = [f"the answer cannot be read: {fault!r}"]
     return [f"model {seed}:", *told, text] if told else [], tallies
 
 
@@ -402,7 +440,8 @@ def main():
             differ += bool(told)
             print(*told, sep="\n", end="\n" if told else "")
     print(f"{count} models: {tallies['holds']} groups hold, {tallies['fails']} fail ({tallies['compared']} of them "
-          f"compared by size), {tallies['undecided']} left open; {differ} models differ")
+          f"compared by size), {tallies['undecided']} are left open, {tallies['dropped']} conjectures are dropped; "
+          f"{differ} models differ")
     sys.exit(differ > 0)
 
 

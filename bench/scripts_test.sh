@@ -435,7 +435,7 @@ else
     lie "sed 's/^\(    relation [a-z0-9]*:\)$/\1 (0)/'"
     expect 'models: a tuple too many is told' wrote ' tuples are enough'
     lie "sed 's/^  values: 0/  values: 1/'"
-    expect 'models: values that are no elements are told' wrote 'the report cannot be read: '
+    expect 'models: values that are no elements are told' wrote 'the answer cannot be read: '
     if command -v cc >/dev/null; then
         bench growths.py 'a log that refutes'
         expect 'growths: a log' ended 0
