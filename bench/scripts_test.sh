@@ -369,6 +369,22 @@ expect 'edits: a file that is gone' wrote 'no_file.edit: there is no src/gone.rt
 expect 'edits: they are counted' last_is '4 edits, 3 cannot be applied'
 expect 'edits: one cannot' ended 1
 
+printf 'p cnf 2 4\n1 2 0\n1 -2 0\n-1 2 0\n-1 -2 0\n' >square.cnf
+printf 'd 1 2 0\n1 0\n0\n' >square.drat
+bench drat.py square.cnf square.drat
+expect 'drat: a log' diff "$room/out" <(printf '5 1 0 1 2 0\n6 0 5 3 4 0\n')
+printf '2 0\n' >square.drat
+bench drat.py square.cnf square.drat
+expect 'drat: what is refuted already needs no more' ended 0
+printf 'p cnf 2 1\n1 2 0\n' >open.cnf
+printf '1 0\n' >open.drat
+bench drat.py open.cnf open.drat
+expect 'drat: a clause that is not drawn is told' said 'not drawn by propagation: [1]'
+expect 'drat: and ends it' ended 1
+printf '' >open.drat
+bench drat.py open.cnf open.drat
+expect 'drat: a proof without an end is told' said 'the proof ends before a clause without literals'
+
 bench samples.py
 expect 'samples: the rows that stand there' diff "$room/out" "$here/crates/rows/data/samples.txt"
 
@@ -445,6 +461,22 @@ else
     if has minisat 'goals.py on the program'; then
         bench goals.py "$examples/flag.rml" "$examples/lock_server-bug.rml" "$examples/peterson_flat-weak.rml"
         expect 'goals: as minisat has it' ended 0
+    fi
+    bench drat.py square.cnf <(printf '1 0\n')
+    cp "$room/out" square.lrat
+    "$program" lrat square.cnf square.lrat >"$room/out" 2>"$room/err"
+    expect 'drat: its log is taken' last_is 'verdict: refuted'
+    if has cadical 'proofs.py on the program'; then
+        bench proofs.py "$examples/flag.rml" "$examples/lock_server.rml"
+        expect 'proofs: each goal that holds is proved' wrote_line \
+            'lock_server.rml: 6 goals, 6 proved by cadical, 0 have a model, 0 passed over'
+        expect 'proofs: no log is refused' ended 0
+        printf '#!/bin/sh\n[ "$1" != lrat ] || { echo "C2 at 1: refused" >&2; exit 4; }\nexec "%s" "$@"\n' \
+            "$program" >"$room/bin/refuser"
+        chmod +x "$room/bin/refuser"
+        IVYCHECK=$room/bin/refuser bench proofs.py "$examples/flag.rml"
+        expect 'proofs: a log that is refused is told' wrote '  goal 1: lrat says C2 at 1: refused'
+        expect 'proofs: and ends it' ended 1
     fi
     if has acl2 'others.py'; then
         bench others.py "$examples/lock_server.rml"
