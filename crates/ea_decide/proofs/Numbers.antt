@@ -12,6 +12,7 @@ use Rattle.ground_terms.specs.Terms.{Lists, AreClosed, term_counts}
 use Rattle.ground_terms.specs.TermCounts.{AreCounts, CountsAreOne, CountsTellFew, HasFewTerms}
 use Rattle.ground_terms.specs.Trees.{Trees, nodes_all, trees_of}
 use Rattle.clause_form.specs.Clauses.{clause_form}
+use Rattle.ground_size.specs.Counting.{AreTermCounts}
 use Rattle.ground_size.specs.Sizes.{size_of}
 use Rattle.ground_size.specs.Laws.{InstancesAreCounted, AxiomsAreCounted}
 use Rattle.ea_decide.specs.declared.decided.Passed.{Passed}
@@ -55,7 +56,7 @@ second l terms size false false a b em el e = record {
       ltb-false l.size size el;
 }
 
-within : (l : Ceilings) (terms size : ℕ) → None ≡ passed_of l terms size → IsWithin l terms size
+pub within : (l : Ceilings) (terms size : ℕ) → None ≡ passed_of l terms size → IsWithin l terms size
 within l terms size e =
     second l terms size (nat_lt l.terms terms) (nat_lt l.size size) (Terms (saturated terms))
     (GroundSize (saturated size)) refl refl e
@@ -85,8 +86,11 @@ module _ (rewriting : Rewriting) (laws : Counting) (limits : Ceilings) (sig : De
         (λ k lt. let one = one-of-sum passes.counts k (subst (λ n. k < n) (sym passes.terms.sorts) lt) in let b =
         bounds.terms_within in omega (arith, one, b, terms_small))
 
-    elements : (lists : Lists) → AreClosed (more_symbols sig p) lists → sum (term_counts lists) ≤ limits.terms
-    elements lists closed = subst (λ counts. sum counts ≤ limits.terms) (same-counts lists closed) bounds.terms_within
+    counted : (lists : Lists) (counts : List ℕ) → AreClosed (more_symbols sig p) lists → AreTermCounts sig p counts
+        → term_counts lists ≡ counts
+    counted lists counts closed are =
+        laws.one (more_symbols sig p) order (term_counts lists) counts (strata rewriting sig p order given)
+        (laws.counted (more_symbols sig p) lists closed) are
 
     -- the nodes of the ground formulas
     nodes-few : (lists : Lists) → AreClosed (more_symbols sig p) lists
@@ -106,5 +110,5 @@ module _ (rewriting : Rewriting) (laws : Counting) (limits : Ceilings) (sig : De
         let clauses = laws.clauses (trees_of (ground_formulas sig p lists)) in
         record { variables = omega (arith, nodes, variables); clauses = omega (arith, nodes, clauses) }
 
-    pub room : HasRoom limits.terms sig p
-    room = record { constants = constants; numbered = numbered; small = small; elements = elements }
+    pub room : HasRoom sig p
+    room = record { constants = constants; numbered = numbered; small = small; counted = counted }

@@ -1,5 +1,5 @@
 -- What is known of a sentence's form with constants, told of the sentence.
-use Rattle.std.proofs.Common.{◌≡◌, ℕ, Bool, true, List, [], sym, ap, ◌∙◌, subst, arith}
+use Rattle.std.proofs.Common.{◌≡◌, ◌≤◌, ℕ, Bool, true, List, [], sum, sym, ap, ◌∙◌, subst}
 use Rattle.fol_sig.specs.Tables.{Declared, Tables}
 use Rattle.fol_sig.specs.Symbols.{symbols}
 use Rattle.fol_formula.specs.Syntax.{FormTree}
@@ -16,7 +16,6 @@ use Rattle.clause_form.specs.Meaning.{atoms_of, true_atoms}
 use Rattle.structure_back.specs.ReadBack.{IsReadBack}
 use Rattle.ground_size.specs.Counting.{skolem_signature}
 use Rattle.ea_decide.specs.GroundForm.{skolem_sentence, formulas_over, ground_formulas, IsClauseForm}
-use Rattle.ea_decide.specs.Passing.{Ceilings}
 use Rattle.ea_decide.specs.Decisions.{HasNoModel, IsSmallModel, SpendsBudget}
 use Rattle.ea_decide.specs.Steps.{
   more_symbols,
@@ -41,9 +40,9 @@ module _ (sig : Declared) (p : FormTree) (more : Declared) (q : FormTree) (grows
       → f ≡ clause_form (trees_of (ground_formulas sig p lists))
   is-form lists f e = e ∙ ap (λ ts. clause_form (trees_of ts)) (same-formulas lists)
 
-  pub small-form : (terms : ℕ) (lists : Lists) → HasRoom terms sig p → AreClosed (symbols more) lists
+  pub small-form : (lists : Lists) → HasRoom sig p → AreClosed (symbols more) lists
       → IsSmallForm (clause_form (trees_of (formulas_over more q lists)))
-  small-form terms lists room closed = subst (λ ts. IsSmallForm (clause_form (trees_of ts)))
+  small-form lists room closed = subst (λ ts. IsSmallForm (clause_form (trees_of ts)))
       (sym (same-formulas lists)) (room.small lists (closes lists closed))
 
   pub clause-form : (lists : Lists) (f : Formula) → AreClosed (symbols more) lists
@@ -75,15 +74,18 @@ module _ (sig : Declared) (p : FormTree) (more : Declared) (q : FormTree) (grows
         (subst (λ true_ones. all_true (holds_in true_ones) (trees_of (equality_axioms (more_symbols sig p) lists)) ≡
         true) (sym (is ∙ same-atoms lists values)) readable.equality)
 
-    pub small : (limits : Ceilings) (atoms : List Atom) (t : Tables) → HasRoom limits.terms sig p
+    pub small : (atoms : List Atom) (t : Tables) → HasRoom sig p
         → atoms ≡ true_atoms values (atoms_of (trees_of (formulas_over more q lists)))
-        → IsReadBack (symbols more) lists (holds_in atoms) t → IsSmallModel limits sig p t
-    small limits atoms t room is back =
+        → IsReadBack (symbols more) lists (holds_in atoms) t → IsSmallModel sig p t
+    small atoms t room is back =
         let here = subst (λ true_ones. IsReadBack (more_symbols sig p) lists (holds_in true_ones) t)
         (is ∙ same-atoms lists values) (subst (λ m. IsReadBack (symbols m) lists (holds_in atoms) t) grows back) in
-        let few = readable.few t here in
-        let elements = room.elements lists (closes lists closed) in
-        record { model = readable.models t here; few = omega (arith, few, elements) }
+        record {
+          model = readable.models t here;
+          few = λ counts are.
+              subst (λ (ns : List ℕ). sum t.sizes ≤ sum ns)
+              (room.counted lists counts (closes lists closed) are) (readable.few t here);
+        }
 
   pub spends : (lists : Lists) (f : Formula) (budget : ℕ) → AreClosed (symbols more) lists
       → f ≡ clause_form (trees_of (formulas_over more q lists))

@@ -7,9 +7,10 @@ use Rattle.fol_formula.specs.Truth.{truth}
 use Rattle.lrat_log.specs.declared.line.Line.{Line}
 use Rattle.lrat_log.specs.Refutations.{IsSpent}
 use Rattle.cnf_base.specs.Formulas.{Formula}
+use Rattle.cnf_base.specs.Writing.{CanWrite}
 use Rattle.lrat_check.specs.Checked.{Checked}
 use Rattle.skolem.specs.Laws.{IsModel}
-use Rattle.ground_size.specs.Counting.{skolem_signature}
+use Rattle.ground_size.specs.Counting.{skolem_signature, AreTermCounts}
 use Rattle.ea_decide.specs.GroundForm.{skolem_sentence, IsClauseForm}
 use Rattle.ea_decide.specs.Passing.{Ceilings, Passes}
 use Rattle.ea_decide.specs.declared.decided.Passed.{Passed}
@@ -29,10 +30,14 @@ HasNoModel sig p = (s : Tables) → FitsStructure (symbols sig) s → truth (rea
 abbrev pub Refutes : Declared → FormTree → Checked → Type 0
 Refutes sig p proof = IsClauseForm sig p proof.formula
 
--- the structure, which has the constants too, satisfies the sentence with constants, and has at most so many elements
-pub record IsSmallModel (limits : Ceilings) (sig : Declared) (p : FormTree) (t : Tables) : Type 0 where
+-- the structure has no more elements than the sentence has ground terms
+abbrev pub HasFewElements : Declared → FormTree → Tables → Type 0
+HasFewElements sig p t = (counts : List ℕ) → AreTermCounts sig p counts → sum t.sizes ≤ sum counts
+
+-- the structure, which has the constants too, satisfies the sentence with constants, and has so few elements
+pub record IsSmallModel (sig : Declared) (p : FormTree) (t : Tables) : Type 0 where
   pub model : IsModel (symbols (skolem_signature sig p)) (skolem_sentence sig p) t
-  pub few : sum t.sizes ≤ limits.terms
+  pub few : HasFewElements sig p t
 
 -- a budget of so many learnt clauses is spent on the clauses of the sentence
 pub record SpendsBudget (sig : Declared) (p : FormTree) (budget : ℕ) : Type 0 where
@@ -49,10 +54,10 @@ IsOver limits sig p passed = Passes limits sig p (Some passed)
 -- The answer to a sentence under limits.
 abbrev pub IsDecided : Ceilings → Declared → FormTree → Decided → Type 0
 IsDecided limits sig p (Refuted proof) = Passes limits sig p None × HasNoModel sig p × Refutes sig p proof
-IsDecided limits sig p (Satisfied t) = Passes limits sig p None × IsSmallModel limits sig p t
+IsDecided limits sig p (Satisfied t) = Passes limits sig p None × IsSmallModel sig p t
 IsDecided limits sig p (Over passed) = IsOver limits sig p passed
 
--- The clauses of a sentence, where it passes no limit by its size.
+-- The clauses of a sentence, which can be written as a text, where it passes no limit by its size.
 abbrev pub AreClauses : Ceilings → Declared → FormTree → Clauses → Type 0
-AreClauses limits sig p (Written f) = Passes limits sig p None × IsClauseForm sig p f
+AreClauses limits sig p (Written f) = Passes limits sig p None × IsClauseForm sig p f × CanWrite f
 AreClauses limits sig p (clauses.Over passed) = Passes limits sig p (Some passed)

@@ -1,5 +1,5 @@
 -- The limit that a sentence passes first is a function of the sentence, and its clauses are as few as counted.
-use Rattle.std.specs.Prelude.{◌≡◌, ◌↔◌, ◌≤◌, ◌*◌, ℕ, Bool, true, List, [], Option, length}
+use Rattle.std.specs.Prelude.{◌≡◌, ◌↔◌, ◌≤◌, ◌*◌, ℕ, Bool, true, List, [], Option, None, length, sum}
 use Rattle.fol_sig.specs.Tables.{Declared, Tables, reading}
 use Rattle.fol_sig.specs.Symbols.{AreSorted, FitsStructure, symbols}
 use Rattle.fol_sig.specs.Strata.{IsStrata}
@@ -15,7 +15,7 @@ use Rattle.ground_size.specs.Counting.{skolem_signature}
 use Rattle.ground_size.specs.Sizes.{size_of}
 use Rattle.ea_decide.specs.declared.decided.Passed.{Passed}
 use Rattle.ea_decide.specs.GroundForm.{ground_formulas, IsClauseForm}
-use Rattle.ea_decide.specs.Decisions.{HasNoModel}
+use Rattle.ea_decide.specs.Decisions.{HasNoModel, HasFewElements}
 use Rattle.ea_decide.specs.Passing.{Ceilings, Passes}
 
 -- where the sorts have an order
@@ -23,6 +23,12 @@ abbrev pub FirstLimitIsOne : Type 0
 FirstLimitIsOne = (limits : Ceilings) (sig : Declared) (p : FormTree) (order : List ℕ) (a b : Option Passed)
     → IsStrata (symbols sig) order → FitsForm (symbols sig) [] p
     → Passes limits sig p a → Passes limits sig p b → a ≡ b
+
+-- What has no more elements than a sentence has ground terms has no more than the limit of these, where the sentence
+-- passes none.
+abbrev pub FewElementsAreWithin : Type 0
+FewElementsAreWithin = (limits : Ceilings) (sig : Declared) (p : FormTree) (t : Tables)
+    → Passes limits sig p None → HasFewElements sig p t → sum t.sizes ≤ limits.terms
 
 -- how large clauses are, for a size
 pub record AreWithin (size : ℕ) (f : Formula) : Type 0 where

@@ -21,7 +21,7 @@ use Rattle.equality_axioms.specs.Axioms.{equality_axioms}
 use Rattle.clause_form.specs.Clauses.{clause_form}
 use Rattle.clause_form.specs.Meaning.{atoms_of, true_atoms}
 use Rattle.structure_back.specs.ReadBack.{IsReadBack}
-use Rattle.ground_size.specs.Counting.{skolem_signature}
+use Rattle.ground_size.specs.Counting.{skolem_signature, AreTermCounts}
 use Rattle.ea_decide.specs.GroundForm.{skolem_sentence, ground_formulas}
 use Rattle.ea_decide.specs.Passing.{Ceilings, Passes}
 use Rattle.ea_decide.specs.Decisions.{HasNoModel, Refutes, IsSmallModel, SpendsBudget}
@@ -45,18 +45,19 @@ pub record IsSmallForm (f : Formula) : Type 0 where
   pub variables : f.variables ≤ 2147483647
   pub clauses : length f.clauses ≤ 400000000
 
--- no more ground terms than these, and ground formulas that can be written out
-pub record HasRoom (terms : ℕ) (sig : Declared) (p : FormTree) : Type 0 where
+-- ground terms that can be numbered, as many as are counted, and ground formulas that can be written out
+pub record HasRoom (sig : Declared) (p : FormTree) : Type 0 where
   pub constants : length sig.functions + length (new_sorts (normal true p)) < 2 ^ 32
   pub numbered : HasFewTerms (more_symbols sig p)
   pub small : (lists : Lists) → AreClosed (more_symbols sig p) lists
       → IsSmallForm (clause_form (trees_of (ground_formulas sig p lists)))
-  pub elements : (lists : Lists) → AreClosed (more_symbols sig p) lists → sum (term_counts lists) ≤ terms
+  pub counted : (lists : Lists) (counts : List ℕ) → AreClosed (more_symbols sig p) lists → AreTermCounts sig p counts
+      → term_counts lists ≡ counts
 
 abbrev pub RoomIsWithinLimits : Type 0
 RoomIsWithinLimits = (limits : Ceilings) (sig : Declared) (p : FormTree) (order : List ℕ)
     → IsGroundable sig p order → limits.terms ≤ 100000 → limits.size ≤ 50000000 → Passes limits sig p None
-    → HasRoom limits.terms sig p
+    → HasRoom sig p
 
 abbrev pub StrataStay : Type 0
 StrataStay = (sig : Declared) (p : FormTree) (order : List ℕ) → IsGroundable sig p order
@@ -98,5 +99,5 @@ ValuesAreReadable = (sig : Declared) (p : FormTree) (order : List ℕ) (lists : 
 -- what a search over the clauses of a sentence shows of it
 abbrev pub IsSearchedFor : Ceilings → Declared → FormTree → Decided → Type 0
 IsSearchedFor limits sig p (Refuted proof) = HasNoModel sig p × Refutes sig p proof
-IsSearchedFor limits sig p (Satisfied t) = IsSmallModel limits sig p t
+IsSearchedFor limits sig p (Satisfied t) = IsSmallModel sig p t
 IsSearchedFor limits sig p (Over passed) = (passed ≡ Conflicts limits.conflicts) × SpendsBudget sig p limits.conflicts

@@ -51,7 +51,7 @@ pub fn prepare(signature: &Signature, strata: &Strata, sentence: &Ea, limits: &L
     requires fits { FitsForm (symbols signature.now) [] sentence.now }
     requires within { Passes (ceilings limits.now) signature.now sentence.now None }
     ensures groundable { IsGroundable signature.now sentence.now strata.now }
-    ensures room { HasRoom limits.now.terms signature.now sentence.now }
+    ensures room { HasRoom signature.now sentence.now }
     ensures strata { IsStrata (more_symbols signature.now sentence.now) strata.now }
 {
     room_law();
@@ -92,7 +92,7 @@ fn decide_over(
     limits: &Limits,
 ) -> Mem<Decided>
     requires groundable { IsGroundable signature.now sentence.now strata.now }
-    requires room { HasRoom limits.now.terms signature.now sentence.now }
+    requires room { HasRoom signature.now sentence.now }
     requires signature { made.now.signature ≡ skolem_signature signature.now sentence.now }
     requires form { made.now.sentence ≡ skolem_sentence signature.now sentence.now }
     requires fits { FitsForm (symbols made.now.signature) [] made.now.sentence }

@@ -1,5 +1,5 @@
 // What follows from the definitions alone. The function is its contract, and does nothing.
-ghost use Rattle.ea_decide.specs.Laws.{FirstLimitIsOne, ClausesAreWithinSize};
+ghost use Rattle.ea_decide.specs.Laws.{FirstLimitIsOne, FewElementsAreWithin, ClausesAreWithinSize};
 ghost use Rattle.ea_decide.specs.Laws.{ClauseFormIsOne, ClauseFormRefutes, ClauseFormIsExact};
 
 /// The limit that a sentence passes first is a function of the sentence.
@@ -11,6 +11,12 @@ pub fn passing_law()
     ground_terms::count_laws();
     fol_nnf::exactness();
 }
+
+/// A structure with no more elements than a sentence within the limits has ground terms has no more than the limit of
+/// ground terms.
+pub fn elements_law()
+    ensures { FewElementsAreWithin }
+{}
 
 /// A sentence has at most two clauses and two variables for each node and each axiom that are counted as its ground
 /// size.

@@ -17,6 +17,6 @@ mod writing;
 
 pub use decided::{Clauses, Decided, Measured, Passed, Proof};
 pub use deciding::decide;
-pub use laws::{clauses_law, exactness_law, passing_law, size_law};
+pub use laws::{clauses_law, elements_law, exactness_law, passing_law, size_law};
 pub use measuring::measure;
 pub use writing::clauses_of;

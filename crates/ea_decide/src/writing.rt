@@ -3,6 +3,7 @@ ghost use Rattle.std.specs.Prelude.{[], IfOk, None};
 ghost use Rattle.fol_sig.specs.Symbols.{symbols};
 ghost use Rattle.fol_sig.specs.Strata.{IsStrata};
 ghost use Rattle.fol_formula.specs.Fits.{FitsForm};
+ghost use Rattle.cnf_base.specs.Writing.{CanWrite};
 ghost use Rattle.ea_decide.specs.GroundForm.{IsClauseForm};
 ghost use Rattle.ea_decide.specs.Passing.{ceilings, Passes};
 ghost use Rattle.ea_decide.specs.Decisions.{AreClauses};
@@ -20,7 +21,7 @@ use lrat_log::Limits;
 use std::alloc::Global;
 
 /// The clauses that decide a sentence of the signature, under the limits of ground terms and ground size: the very ones
-/// that `decide` hands to its solver.
+/// that `decide` hands to its solver. They can be written as a text, which is read as these clauses.
 pub fn clauses_of(
     alloc: Global,
     signature: &Signature,
@@ -50,11 +51,13 @@ fn write(
     requires strata { IsStrata (symbols signature.now) strata.now }
     requires fits { FitsForm (symbols signature.now) [] sentence.now }
     requires within { Passes (ceilings limits.now) signature.now sentence.now None }
-    ensures { IfOk result (IsClauseForm signature.now sentence.now) }
+    ensures form { IfOk result (IsClauseForm signature.now sentence.now) }
+    ensures writable { IfOk result CanWrite }
 {
     prepare(signature, strata, sentence, limits);
     let made = skolemise(alloc, signature, sentence)?;
     let terms = Terms::new(alloc, &made.signature, strata)?;
     let (cnf, _) = clauses(alloc, &made.signature, &terms, &made.sentence)?;
+    let _clauses = cnf.clauses();
     Ok(cnf)
 }

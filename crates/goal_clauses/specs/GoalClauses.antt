@@ -1,6 +1,7 @@
 -- What the clauses of a goal are, and what they say of it.
 use Rattle.std.specs.Prelude.{◌↔◌, Some, None}
 use Rattle.cnf_base.specs.Formulas.{Formula, IsUnsatisfiable}
+use Rattle.cnf_base.specs.Writing.{CanWrite}
 use Rattle.rml_command.specs.Models.{ModelTree}
 use Rattle.rml_command.specs.Goals.{HasNone}
 use Rattle.rml_command.specs.declared.goal.Goal.{Goal}
@@ -19,7 +20,8 @@ pub record AreClausesOf (m : ModelTree) (goal : Goal) (f : Formula) : Type 0 whe
   pub exact : IsSatisfiable f ↔ HasCounterexample m goal
   pub refute : IsUnsatisfiable f ↔ HasNone m goal
 
--- they are written where the goal passes no limit by its size; or the first limit that it passes
+-- they are answered where the goal passes no limit by its size, and then they can be written as a text; or the first
+-- limit that it passes
 abbrev pub AreGoalClauses : Ceilings → ModelTree → Goal → GoalClauses → Type 0
-AreGoalClauses limits m goal (Written f) = PassesFirst limits m goal None × AreClausesOf m goal f
+AreGoalClauses limits m goal (Written f) = PassesFirst limits m goal None × AreClausesOf m goal f × CanWrite f
 AreGoalClauses limits m goal (Over c) = PassesFirst limits m goal (Some c)

@@ -46,7 +46,7 @@ fn cause_of(passed: Passed) -> Cause
 }
 
 /// The clauses of a goal of the model under the limits of formulas, ground terms and ground size, which are looked at
-/// in this order: the very ones that a decision of the goal searches.
+/// in this order: the very ones that a decision of the goal searches. As a text they are read as these clauses.
 pub fn clauses_of_goal(
     alloc: Global,
     checked: &Checked,

@@ -32,11 +32,11 @@ use Rattle.ivy_run.specs.declared.emit.Emitted.TheVariants.{Clauses, Refutation,
 use Rattle.ivy_run.specs.declared.emit.EmitAnswer.{EmitAnswer}
 use Rattle.ivy_run.specs.declared.emit.EmitAnswer.TheVariants as answer
 
--- `cnf`: the clauses of the goal, which say whether it has a counterexample, where it passes no limit by its size; or the
--- limit that it passes
+-- `cnf`: the clauses of the goal, which say whether it has a counterexample, where it passes no limit by its size, and
+-- which their text says; or the limit that it passes
 abbrev pub AreClausesEmitted : Ceilings → ModelTree → Goal → Emitted → Type 0
 AreClausesEmitted limits m goal (Clauses f) =
-    PassesFirst limits m goal None × AreClausesOf m goal f
+    PassesFirst limits m goal None × AreClausesOf m goal f × formulas.CanWrite f
 AreClausesEmitted limits m goal (Undecided c) = PassesFirst limits m goal (Some c)
 AreClausesEmitted limits m goal _ = ⊥
 

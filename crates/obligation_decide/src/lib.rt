@@ -121,6 +121,7 @@ fn decide_sentence(
     witness::sentence_law();
     skolem::exactness();
     fol_nnf::exactness();
+    ea_decide::elements_law();
     let signature = checked.model().signature();
     // The limits are read here, so that their ranges are known.
     let limits = *limits;

@@ -56,4 +56,5 @@ returns-in-Written c =
               (λ some. let shown = exact.0 some in none shown.0 shown.1 shown.2 shown.3),
         );
       },
+      written.2,
     )

@@ -63,7 +63,8 @@ returns-in_ok-shown-in-Satisfied c =
         same = shown.goal;
         path = shown.path;
         refutes = shown.refutes;
-        few = subst (λ (s : Tables). sum s.sizes ≤ limits.terms) (sym shown.structure) decided.1.few;
+        few = subst (λ (s : Tables). sum s.sizes ≤ limits.terms) (sym shown.structure)
+            (c.elements_law.ensures limits m.signature p t decided.0 decided.1.few);
       },
       subst (λ (s : Tables). is_true s p ≡ true) (sym shown.structure) holds,
     )

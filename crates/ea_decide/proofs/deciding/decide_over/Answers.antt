@@ -1,7 +1,6 @@
 use Rattle.clause_form.specs.Meaning.{true_atoms}
 use Rattle.std.proofs.Common.{ap, sym, ◌∙◌, subst}
 use Rattle.ea_decide.specs.GroundForm.{IsClauseForm}
-use Rattle.ea_decide.specs.Passing.{ceilings}
 use Rattle.ea_decide.specs.Searches.{IsSearched}
 use Rattle.ea_decide.proofs.Transfers.{no-model, clause-form, equal, small}
 use Rattle.ea_decide.proofs.deciding.decide_over.Goals as goal
@@ -44,7 +43,7 @@ returns c =
     let q = c.args.made.now.sentence in
     small sig p more q c.requires.signature c.requires.form c.args.strata.now c.args.terms.now cnf
     c.in-Satisfied.values c.model_law.ensures c.requires.groundable c.requires.closed
-    c.in_ok-cnf.ensures.cnf model (ceilings c.args.limits.now) c.in_ok-assignment-in-Satisfied.assignment
+    c.in_ok-cnf.ensures.cnf model c.in_ok-assignment-in-Satisfied.assignment
     c.in_ok-structure-in-Satisfied.structure c.requires.room
     (c.in_ok-assignment-in-Satisfied.ensures ∙ ap (true_atoms c.in-Satisfied.values) c.in_ok-cnf.ensures.atoms)
     c.in_ok-structure-in-Satisfied.ensures
