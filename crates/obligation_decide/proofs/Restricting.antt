@@ -91,9 +91,10 @@ first-true s (p ∷ ps) qs h =
 
 pub parts_are_true : PartsAreTrue
 parts_are_true premises m held more goal s =
-    let parts = refuting_parts_by premises m held goal in
-    ((λ h. (first-true (reading s) parts more h, others-true (reading s) parts more h)),
-    (λ h. both-true (reading s) parts more h.0 h.1))
+    let parts = refuting_parts_by premises m held goal in (
+      (λ h. (first-true (reading s) parts more h, others-true (reading s) parts more h)),
+      (λ h. both-true (reading s) parts more h.0 h.1),
+    )
 
 -- without its constants a model of the sentence satisfies it
 pub holds-without : TruthIsKept → EachIsSkolemised → (sig : Declared) (p : FormTree) (t : Tables)
@@ -158,8 +159,8 @@ module _ (limits : Ceilings) (m : ModelTree) (goal : Goal) where
       by_sentence (Fails shown) h = (
         passes None (None, h.0, refl),
         (
-            failing shown h.1,
-            others-true (reading shown.structure) (refuting_parts m m.conjectures goal) more h.1.holds,
+          failing shown h.1,
+          others-true (reading shown.structure) (refuting_parts m m.conjectures goal) more h.1.holds,
         ),
       )
       by_sentence (Undecided c) h = subst (IsLeftOpenWhere limits m more goal) (sym h.1) (over h.0 h.2)

@@ -13,5 +13,4 @@ pub fn passing_law()
 /// A refuting sentence with further parts is true exactly where it is true without them and they are.
 pub fn parts_law()
     ensures { PartsAreTrue }
-{
-}
+{}

@@ -13,8 +13,8 @@ decide_sentence-requires-clause-sentence c =
       is = c.in-Ok.ensures.sentence;
     }
 
-pub returns-in-Ok-Holds-in-Ok : goal.returns-in-Ok-Holds-in-Ok
-returns-in-Ok-Holds-in-Ok c =
+pub returns-in-Ok-Holds : goal.returns-in-Ok-Holds
+returns-in-Ok-Holds c =
     let m = c.args.checked.now in
     let more = c.args.more.now in
     let checked = c.model-checked.ensures.checked in
@@ -26,10 +26,10 @@ returns-in-Ok-Holds-in-Ok c =
     } in
     let added = (c.sentence_law.ensures.conjectures m more checked c.requires.fragment c.requires.fits).all in
     nowhere_by exact (ceilings c.args.limits.now) m c.args.goal.now checked.model.fits c.requires.goal more added _
-    c.in-Ok.ensures.sentence _ _ c.in-Ok-Holds-in-Ok.field-0-is c.in-Ok-Holds-in-Ok.ensures.decided
+    c.in-Ok.ensures.sentence _ _ c.in-Ok-Holds.field-0-is c.in-Ok-Holds.ensures.decided
 
-pub returns-in-Ok-Fails-in-Ok : goal.returns-in-Ok-Fails-in-Ok
-returns-in-Ok-Fails-in-Ok c =
+pub returns-in-Ok-Fails : goal.returns-in-Ok-Fails
+returns-in-Ok-Fails c =
     let m = c.args.checked.now in
     let more = c.args.more.now in
     let checked = c.model-checked.ensures.checked in
@@ -41,4 +41,4 @@ returns-in-Ok-Fails-in-Ok c =
     } in
     let added = (c.sentence_law.ensures.conjectures m more checked c.requires.fragment c.requires.fits).all in
     found_by exact (ceilings c.args.limits.now) m c.args.goal.now checked.model.fits c.requires.goal more added _
-    c.in-Ok.ensures.sentence _ _ c.in-Ok-Fails-in-Ok.field-0-is c.in-Ok-Fails-in-Ok.ensures.decided
+    c.in-Ok.ensures.sentence _ _ c.in-Ok-Fails.field-0-is c.in-Ok-Fails.ensures.decided
