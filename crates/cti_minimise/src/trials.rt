@@ -5,6 +5,7 @@ ghost use Rattle.ea_decide.specs.Passing.{ceilings};
 ghost use Rattle.obligation_decide.specs.GoalDecisions.{IsFailing};
 ghost use Rattle.obligation_decide.specs.Restricted.{RestrictedPassesFirst, IsRestrictedDecision};
 ghost use Rattle.obligation_decide.specs.Costs.{IsRestrictedMeasured};
+ghost use Rattle.lean_decide.specs.Sought.{IsSought};
 ghost use Rattle.cti_minimise.specs.Bounding.{bounds_by, bounds_on};
 ghost use Rattle.cti_minimise.specs.Saying.{said_by};
 ghost use Rattle.cti_minimise.specs.Within.{numbers_within, AreBoundsFor};
@@ -15,6 +16,7 @@ use crate::extents::{extent, is_within};
 use crate::laws::{bound_law, saying_law};
 use base::Mem;
 use fol_sig::{RelId, Signature};
+use lean_decide::{Sought, seek_where};
 use lrat_log::Limits;
 use obligation_decide::{Decision, Measured, decide_where, measure_where};
 use rml_command::{Checked, Goal};
@@ -33,7 +35,7 @@ pub enum Trial {
     Open(Cause),
 }
 
-/// What a trial ends with whose bounds are said in short. No limit is its own.
+/// What a trial ends with that is decided by a lean sentence. No limit is its own.
 #[derive(Drop)]
 pub enum Attempt {
     /// No counterexample is within the bounds.
@@ -43,7 +45,9 @@ pub enum Attempt {
     Open,
 }
 
-/// Whether the goal has a counterexample within the bounds.
+/// Whether the goal has a counterexample within the bounds. A limit, or a spent budget, is always that of the refuting
+/// sentence with all axioms and with all constants of the bounds: where lean sentences leave the trial open, that one
+/// decides.
 pub fn try_bounds(
     alloc: Global,
     checked: &Checked,
@@ -61,7 +65,12 @@ pub fn try_bounds(
         Attempt::Found(smaller) => return Ok(Trial::Found(smaller)),
         Attempt::Open => {}
     }
-    match decide_by(alloc, checked, goal, bounds, Saying::Named, limits)? {
+    match try_named(alloc, checked, goal, bounds, limits)? {
+        Attempt::Refuted => return Ok(Trial::Refuted),
+        Attempt::Found(smaller) => return Ok(Trial::Found(smaller)),
+        Attempt::Open => {}
+    }
+    match decide_named(alloc, checked, goal, bounds, limits)? {
         Decision::Holds(_) => Ok(Trial::Refuted),
         Decision::Fails(smaller) => Ok(Trial::Found(smaller)),
         Decision::Undecided(cause) => Ok(Trial::Open(cause)),
@@ -101,6 +110,28 @@ pub fn try_short(
     Ok(attempt)
 }
 
+// The same by bounds that are said by constants.
+fn try_named(
+    alloc: Global,
+    checked: &Checked,
+    goal: &Goal,
+    bounds: &Bounds,
+    limits: &Limits,
+) -> Mem<Attempt>
+    requires goal { IsGoal checked.now goal.now }
+    requires bounds { AreBoundsFor checked.now.signature bounds.now }
+    ensures { IfOk result (IsAttempt (ceilings limits.now) checked.now
+        (bounds_on checked.now.signature (numbers_within bounds.now)) goal.now) }
+{
+    match measure(alloc, checked, goal, bounds, limits)? {
+        Measured::Over(_) => Ok(Attempt::Open),
+        Measured::Within(size) => {
+            let attempt = attempt_with(alloc, checked, goal, bounds, Saying::Named, limits, size)?;
+            Ok(attempt)
+        }
+    }
+}
+
 // Whether the bound is on few things: a sentence that names more elements of tuples than terms are allowed passes their
 // limit, and for more elements of a sort there is no shorter one.
 fn is_short(signature: &Signature, bounds: &Bounds, limits: &Limits) -> bool
@@ -116,7 +147,7 @@ fn is_short(signature: &Signature, bounds: &Bounds, limits: &Limits) -> bool
     }
 }
 
-// An attempt with the bounds said so, within this ground size.
+// An attempt with the bounds said so, by a lean sentence within this ground size.
 fn attempt_with(
     alloc: Global,
     checked: &Checked,
@@ -137,13 +168,13 @@ fn attempt_with(
     bound_law();
     saying_law();
     let narrowed = narrowed(limits, size);
-    match decide_by(alloc, checked, goal, bounds, saying, &narrowed)? {
-        Decision::Holds(_) => Ok(Attempt::Refuted),
-        Decision::Fails(found) => {
+    match seek_by(alloc, checked, goal, bounds, saying, &narrowed)? {
+        Sought::Nowhere => Ok(Attempt::Refuted),
+        Sought::Found(found) => {
             let kept = kept(alloc, checked, goal, bounds, found, limits)?;
             Ok(kept)
         }
-        Decision::Undecided(_) => Ok(Attempt::Open),
+        Sought::Open => Ok(Attempt::Open),
     }
 }
 
@@ -202,21 +233,39 @@ fn measure(
     Ok(measured)
 }
 
-// Decides the goal with the bounds said so.
-fn decide_by(
+// Seeks a counterexample with the bounds said so, by a lean sentence.
+fn seek_by(
     alloc: Global,
     checked: &Checked,
     goal: &Goal,
     bounds: &Bounds,
     saying: Saying,
     limits: &Limits,
+) -> Mem<Sought>
+    requires goal { IsGoal checked.now goal.now }
+    requires bounds { AreBoundsFor checked.now.signature bounds.now }
+    ensures { IfOk result (IsSought (ceilings limits.now) checked.now
+        (bounds_by (said_by checked.now.signature saying bounds.now.place) 0 (numbers_within bounds.now)) goal.now) }
+{
+    let sentences = bounds_on(alloc, checked.model().signature(), bounds, saying)?;
+    let sought = seek_where(alloc, checked, goal, &sentences, limits)?;
+    Ok(sought)
+}
+
+// Decides the goal by the whole refuting sentence with the bounds, said by constants.
+fn decide_named(
+    alloc: Global,
+    checked: &Checked,
+    goal: &Goal,
+    bounds: &Bounds,
+    limits: &Limits,
 ) -> Mem<Decision>
     requires goal { IsGoal checked.now goal.now }
     requires bounds { AreBoundsFor checked.now.signature bounds.now }
     ensures { IfOk result (IsRestrictedDecision (ceilings limits.now) checked.now
-        (bounds_by (said_by checked.now.signature saying bounds.now.place) 0 (numbers_within bounds.now)) goal.now) }
+        (bounds_on checked.now.signature (numbers_within bounds.now)) goal.now) }
 {
-    let sentences = bounds_on(alloc, checked.model().signature(), bounds, saying)?;
+    let sentences = bounds_on(alloc, checked.model().signature(), bounds, Saying::Named)?;
     let decision = decide_where(alloc, checked, goal, &sentences, limits)?;
     Ok(decision)
 }

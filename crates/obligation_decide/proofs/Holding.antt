@@ -38,7 +38,7 @@ module _ (limits : Ceilings) (m : ModelTree) (goal : Goal) (held : List FormTree
 
   module _ (exact : RefutingByIsExact) (alone : NoPartsAreAdded) (fits : FitsModel m) (g : IsGoal m goal)
       (added : AreAdded m held []) where
-    failing : (shown : Counterexample) → IsSentenceFailing limits m (refuting_of m held goal) goal shown
+    failing : (shown : Counterexample) → IsSentenceFailing limits All m (refuting_of m held goal) goal shown
         → IsFailingBy limits m held goal shown
     failing shown h = record {
       same = h.same;

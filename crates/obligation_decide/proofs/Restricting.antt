@@ -33,8 +33,9 @@ use Rattle.rml_command.specs.Outcomes.{all_of, is_true}
 use Rattle.rml_command.specs.Goals.{IsGoal}
 use Rattle.rml_command.specs.declared.goal.Goal.{Goal}
 use Rattle.rml_wp.specs.declared.premises.Premises.TheVariants.{All}
-use Rattle.rml_wp.specs.Preconditions.{goal_passes_limit, refuting_parts, refuting_of}
-use Rattle.rml_wp.specs.Added.{AreAdded, refuting_all, NoPartsAreAdded}
+use Rattle.rml_wp.specs.declared.premises.Premises.{Premises}
+use Rattle.rml_wp.specs.Preconditions.{goal_passes_limit, refuting_parts, refuting_of, refuting_parts_by, refuting_by}
+use Rattle.rml_wp.specs.Added.{AreAdded, refuting_all, refuting_all_by, NoPartsAreAdded}
 use Rattle.rml_wp.specs.Laws.{RefutingIsExact, AllConjecturesHeld}
 use Rattle.rml_exec.specs.declared.trace.Counterexample.{Counterexample}
 use Rattle.rml_report.specs.declared.cause.Cause.{Cause}
@@ -45,6 +46,7 @@ use Rattle.ea_decide.specs.Passing.{Ceilings, Passes}
 use Rattle.ea_decide.specs.Decisions.{Refutes, SpendsBudget, IsOver}
 use Rattle.obligation_decide.specs.GoalPassing.{cause_of, first_cause}
 use Rattle.obligation_decide.specs.GoalDecisions.{IsFailing, IsDecision}
+use Rattle.obligation_decide.specs.Laws.{PartsAreTrue}
 use Rattle.obligation_decide.specs.WithConstants.{HoldsWithConstants}
 use Rattle.obligation_decide.specs.Restricted.{with_parts, IsSentenceFailing, IsSentenceDecision}
 use Rattle.obligation_decide.specs.Restricted.{RestrictedSentencePasses}
@@ -60,10 +62,10 @@ same-list [] = refl
 same-list (p ∷ ps) = ap (λ qs. p ∷ qs) (same-list ps)
 
 -- the refuting sentence with further parts in its And
-pub restricted_is : (m : ModelTree) (more : List FormTree) (goal : Goal)
-    → with_parts (refuting_of m m.conjectures goal) more ≡ refuting_all m m.conjectures more goal
-restricted_is m more goal =
-    ap (λ (qs : List FormTree). all_of (qs ++ more)) (same-list (refuting_parts m m.conjectures goal))
+pub restricted_is : (premises : Premises) (m : ModelTree) (more : List FormTree) (goal : Goal)
+    → with_parts (refuting_by premises m m.conjectures goal) more ≡ refuting_all_by premises m m.conjectures more goal
+restricted_is premises m more goal =
+    ap (λ (qs : List FormTree). all_of (qs ++ more)) (same-list (refuting_parts_by premises m m.conjectures goal))
 
 -- sentences are all true where the first of them are, and the others
 both-true : (s : Reading) (ps qs : List FormTree) → all_true s (forms_of ps) [] ≡ true
@@ -79,6 +81,20 @@ others-true : (s : Reading) (ps qs : List FormTree) → all_true s (forms_of (ps
 others-true s [] qs h = h
 others-true s (p ∷ ps) qs h =
     others-true s ps qs (and_parts (truth s p []) (all_true s (forms_of (ps ++ qs)) []) h).1
+
+first-true : (s : Reading) (ps qs : List FormTree) → all_true s (forms_of (ps ++ qs)) [] ≡ true
+    → all_true s (forms_of ps) [] ≡ true
+first-true s [] qs h = refl
+first-true s (p ∷ ps) qs h =
+    let parts = and_parts (truth s p []) (all_true s (forms_of (ps ++ qs)) []) h in
+    and_from (truth s p []) (all_true s (forms_of ps) []) parts.0 (first-true s ps qs parts.1)
+
+pub parts_are_true : PartsAreTrue
+parts_are_true premises m held more goal s =
+    let parts = refuting_parts_by premises m held goal in (
+      (λ h. (first-true (reading s) parts more h, others-true (reading s) parts more h)),
+      (λ h. both-true (reading s) parts more h.0 h.1),
+    )
 
 -- without its constants a model of the sentence satisfies it
 pub holds-without : TruthIsKept → EachIsSkolemised → (sig : Declared) (p : FormTree) (t : Tables)
@@ -120,7 +136,7 @@ module _ (limits : Ceilings) (m : ModelTree) (goal : Goal) where
 
     module _ (laws : AreExact) (fits : FitsModel m) (g : IsGoal m goal) (added : AreAdded m m.conjectures more) where
       failing : (shown : Counterexample)
-          → IsSentenceFailing limits m (refuting_all m m.conjectures more goal) goal shown
+          → IsSentenceFailing limits All m (refuting_all m m.conjectures more goal) goal shown
           → IsFailing limits m goal shown
       failing shown h = record {
         same = h.same;
@@ -142,7 +158,10 @@ module _ (limits : Ceilings) (m : ModelTree) (goal : Goal) where
       )
       by_sentence (Fails shown) h = (
         passes None (None, h.0, refl),
-        (failing shown h.1, others-true (reading shown.structure) (refuting_parts m m.conjectures goal) more h.2),
+        (
+          failing shown h.1,
+          others-true (reading shown.structure) (refuting_parts m m.conjectures goal) more h.1.holds,
+        ),
       )
       by_sentence (Undecided c) h = subst (IsLeftOpenWhere limits m more goal) (sym h.1) (over h.0 h.2)
 

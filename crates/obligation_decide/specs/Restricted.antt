@@ -43,20 +43,21 @@ RefutesAs premises m goal p s elements values =
     (held more : List FormTree) → AreAdded m held more → p ≡ refuting_all_by premises m held more goal
     → IsCounterexampleBy m held goal s elements values
 
--- The execution is one, of a sentence in which all axioms are premises. Private contracts alone cite this.
-pub record IsSentenceFailing (limits : Ceilings) (m : ModelTree) (p : FormTree) (goal : Goal) (shown : Counterexample) :
-    Type 0 where
+-- The execution is one, of a structure that satisfies the sentence. Private contracts alone cite this.
+pub record IsSentenceFailing (limits : Ceilings) (premises : Premises) (m : ModelTree) (p : FormTree) (goal : Goal)
+    (shown : Counterexample) : Type 0 where
   pub same : shown.goal ≡ goal
   pub path : shown.trace.path ≡ goal.path
-  pub refutes : RefutesAs All m goal p shown.structure shown.trace.havoc shown.values
+  pub refutes : RefutesAs premises m goal p shown.structure shown.trace.havoc shown.values
+  pub holds : is_true shown.structure p ≡ true
   pub few : sum shown.structure.sizes ≤ limits.terms
 
--- The answer to such a sentence. Private contracts alone cite this.
+-- The answer to such a sentence, in which all axioms are premises. Private contracts alone cite this.
 abbrev pub IsSentenceDecision : Ceilings → ModelTree → FormTree → Goal → Decision → Type 0
 IsSentenceDecision limits m p goal (Holds proof) =
     Passes limits m.signature p None × HasNoModel m.signature p × Refutes m.signature p proof
 IsSentenceDecision limits m p goal (Fails shown) =
-    Passes limits m.signature p None × IsSentenceFailing limits m p goal shown × (is_true shown.structure p ≡ true)
+    Passes limits m.signature p None × IsSentenceFailing limits All m p goal shown
 IsSentenceDecision limits m p goal (Undecided c) =
     (passed : Passed) × (c ≡ cause_of passed) × IsOver limits m.signature p passed
 

@@ -30,10 +30,10 @@ use base::{Mem, Refused};
 pub use decision::{Decision, Measured};
 use ea_decide::{Decided, Passed};
 use fol_formula::{Ea, Sentence};
-pub use laws::passing_law;
+pub use laws::{parts_law, passing_law};
 use lrat_log::Limits;
 pub use measuring::measure_where;
-use parts::restricted;
+pub use parts::restricted_by;
 use rml_command::{Checked, Goal};
 use rml_report::Cause;
 use rml_wp::{Premises, refuting_with};
@@ -95,7 +95,7 @@ pub fn decide_where(
     rml_wp::sentence_law();
     rml_wp::refuting_law();
     let _checked = checked.model();
-    match restricted(alloc, checked, goal, more) {
+    match restricted_by(alloc, checked, Premises::All, goal, more) {
         Ok(sentence) => {
             let decision = decide_sentence(alloc, checked, goal, &sentence, limits)?;
             Ok(decision)
@@ -120,7 +120,6 @@ fn decide_sentence(
     rml_wp::sentence_law();
     witness::sentence_law();
     skolem::exactness();
-    fol_nnf::exactness();
     ea_decide::elements_law();
     let signature = checked.model().signature();
     // The limits are read here, so that their ranges are known.

@@ -12,12 +12,13 @@ ghost use Rattle.obligation_decide.specs.Costs.{IsSentenceMeasured, IsRestricted
 
 use crate::cause_of;
 use crate::decision::Measured;
-use crate::parts::restricted;
+use crate::parts::restricted_by;
 use base::{Mem, Refused};
 use fol_formula::{Ea, Sentence};
 use lrat_log::Limits;
 use rml_command::{Checked, Goal};
 use rml_report::Cause;
+use rml_wp::Premises;
 use std::alloc::{AllocError, Global};
 
 /// What it would cost to decide whether a goal of the model has a counterexample in a structure that satisfies further
@@ -36,7 +37,7 @@ pub fn measure_where(
 {
     rml_wp::sentence_law();
     let _checked = checked.model();
-    match restricted(alloc, checked, goal, more) {
+    match restricted_by(alloc, checked, Premises::All, goal, more) {
         Ok(sentence) => {
             let measured = measure_sentence(alloc, checked, goal, &sentence, limits)?;
             Ok(measured)

@@ -1,9 +1,10 @@
 // From a model of a refuting sentence with constants to the counterexample that it is. Nothing is searched.
-ghost use Rattle.std.specs.Prelude.{◌≡◌, ℕ, ◌+◌, ◌<◌, ◌^◌, [], length, slice_index, IfOk};
+ghost use Rattle.std.specs.Prelude.{◌≡◌, ℕ, ◌+◌, ◌<◌, ◌^◌, true, [], length, slice_index, IfOk};
 ghost use Rattle.fol_sig.specs.Tables.{fun_at};
 ghost use Rattle.fol_sig.specs.Symbols.{symbols};
 ghost use Rattle.fol_sig.specs.Constants.{reduct};
 ghost use Rattle.skolem.specs.Laws.{HasConstant};
+ghost use Rattle.rml_command.specs.Outcomes.{is_true};
 ghost use Rattle.rml_command.specs.Goals.{IsGoal};
 ghost use Rattle.obligation_decide.specs.Restricted.{IsRefutingWith, RefutesAs};
 ghost use Rattle.obligation_decide.specs.WithConstants.{constant_sorts, HoldsWithConstants};
@@ -18,7 +19,7 @@ use std::alloc::Global;
 
 /// The counterexample of a goal that a model of its refuting sentence is, with constants in the place of the
 /// existentials: the elements and values stand among those of the constants, and the structure is the model without
-/// them.
+/// them, and satisfies the sentence.
 pub fn read_counterexample(
     alloc: Global,
     checked: &Checked,
@@ -35,9 +36,12 @@ pub fn read_counterexample(
     ensures path { IfOk result (λ shown. shown.trace.path ≡ goal.now.path) }
     ensures refutes { IfOk result
         (λ s. RefutesAs premises checked.now goal.now sentence.now s.structure s.trace.havoc s.values) }
+    ensures holds { IfOk result (λ s. is_true s.structure sentence.now ≡ true) }
     ensures structure { IfOk result (λ s. s.structure ≡ reduct (symbols checked.now.signature) model) }
 {
     skolem::witnesses();
+    skolem::exactness();
+    fol_nnf::exactness();
     witness::sentence_law();
     witness::counterexample_law();
     let signature = checked.model().signature();

@@ -1,16 +1,14 @@
-use Rattle.std.proofs.Common.{◌≡◌, ◌≤◌, true, [], sum, refl, sym, subst, arith}
+use Rattle.std.proofs.Common.{◌≤◌, true, [], sum, refl, sym, subst, arith}
 use Rattle.fol_sig.specs.Tables.{Declared, Tables}
 use Rattle.fol_sig.specs.Symbols.{symbols}
 use Rattle.fol_formula.specs.Fits.{FitsForm}
 use Rattle.fol_nnf.specs.Normal.{normal}
-use Rattle.rml_command.specs.Outcomes.{is_true}
 use Rattle.rml_wp.specs.declared.premises.Premises.TheVariants.{All}
 use Rattle.ea_decide.specs.Passing.{ceilings}
 use Rattle.obligation_decide.specs.WithConstants.{constant_sorts}
 use Rattle.obligation_decide.proofs.SameAnswer.{signature_of, same_answer}
 use Rattle.obligation_decide.proofs.Shown.{normal-fits, given_fits}
 use Rattle.obligation_decide.proofs.FewConstants.{few}
-use Rattle.obligation_decide.proofs.Restricting.{holds-without}
 use Rattle.obligation_decide.proofs.decide_sentence.Goals as goal
 
 pub decide-requires-clause-fits : goal.decide-requires-clause-fits
@@ -49,22 +47,17 @@ returns-in_ok-shown-in-Satisfied c =
     let m = c.args.checked.now in
     let p = c.args.sentence.now in
     let limits = ceilings c.args.limits.now in
-    let checked = c.model.ensures.checked in
     let t = c.in-Satisfied.model in
     let shown = c.in_ok-shown-in-Satisfied.ensures in
-    let fits = normal-fits c.sentence_law-2.ensures All m c.args.goal.now checked c.requires.goal p c.requires.sentence
-    in
     let sig = signature_of _ _ m c.signature-signature.ensures.value c.model.ensures.value in
-    let decided = same_answer limits _ m.signature p p _ _ sig refl c.in-Satisfied.is c.in_ok-proof.ensures in
-    let holds = holds-without c.exactness-2.ensures.truth c.exactness.ensures.models m.signature p t fits
-    decided.1.model in (
+    let decided = same_answer limits _ m.signature p p _ _ sig refl c.in-Satisfied.is c.in_ok-proof.ensures in (
       decided.0,
       record {
         same = shown.goal;
         path = shown.path;
         refutes = shown.refutes;
+        holds = shown.holds;
         few = subst (λ (s : Tables). sum s.sizes ≤ limits.terms) (sym shown.structure)
             (c.elements_law.ensures limits m.signature p t decided.0 decided.1.few);
       },
-      subst (λ (s : Tables). is_true s p ≡ true) (sym shown.structure) holds,
     )

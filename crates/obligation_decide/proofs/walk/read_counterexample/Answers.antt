@@ -1,14 +1,16 @@
-use Rattle.std.proofs.Common.{◌≡◌, ℕ, ◌+◌, ◌<◌, List, [], get_or, sym, ap, ◌∙◌, subst, arith}
+use Rattle.std.proofs.Common.{◌≡◌, ℕ, ◌+◌, ◌<◌, true, List, [], get_or, sym, ap, ◌∙◌, subst, arith}
 use Rattle.fol_sig.specs.Tables.{Declared, Tables, fun_at}
 use Rattle.fol_sig.specs.Constants.{reduct}
 use Rattle.fol_sig.specs.Symbols.{symbols}
 use Rattle.fol_formula.specs.Syntax.{FormTree}
 use Rattle.fol_formula.specs.Counts.{saturated}
 use Rattle.fol_formula.specs.Witnesses.{existentials}
+use Rattle.rml_command.specs.Outcomes.{is_true}
 use Rattle.rml_wp.specs.Witnesses.{witness_places_by, values_at}
 use Rattle.obligation_decide.specs.Restricted.{RefutesAs}
 use Rattle.obligation_decide.proofs.SameAnswer.{signature_of, functions_of}
-use Rattle.obligation_decide.proofs.Shown.{AreCounted, each-there, is-shown, all-counted}
+use Rattle.obligation_decide.proofs.Shown.{AreCounted, each-there, is-shown, all-counted, normal-fits}
+use Rattle.obligation_decide.proofs.Restricting.{holds-without}
 use Rattle.obligation_decide.proofs.walk.read_counterexample.Goals as goal
 
 pub overflow_cast-count : goal.overflow_cast-count
@@ -90,3 +92,17 @@ returns-clause-refutes c =
     (subst (λ (h : List ℕ). RefutesAs c.args.premises m g p s h (values_at xs places.values))
     (sym c.in_ok-witness.ensures.havoc)
     shown))
+
+pub returns-clause-holds : goal.returns-clause-holds
+returns-clause-holds c =
+    let m = c.args.checked.now in
+    let p = c.args.sentence.now in
+    let t = c.args.model in
+    let sig = signature_of _ _ m c.signature-signature.ensures.value c.model.ensures.value in
+    let fits = normal-fits c.sentence_law.ensures c.args.premises m c.args.goal.now c.model.ensures.checked
+    c.requires.goal p c.requires.sentence in
+    let holds = holds-without c.exactness-2.ensures.truth c.exactness.ensures.models m.signature p t fits
+    c.requires.model in
+    let structure : c.restrict.new.self ≡ reduct (symbols m.signature) t =
+    c.restrict.ensures ∙ ap (λ (z : Declared). reduct (symbols z) t) sig in
+    subst (λ (s : Tables). is_true s p ≡ true) (sym structure) holds

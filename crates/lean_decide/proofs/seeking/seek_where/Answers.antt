@@ -1,0 +1,44 @@
+use Rattle.ea_decide.specs.Passing.{ceilings}
+use Rattle.lean_decide.proofs.NoCounterexample.{AreExact, nowhere_by, found_by}
+use Rattle.lean_decide.proofs.seeking.seek_where.Goals as goal
+
+pub decide_sentence-requires-clause-sentence : goal.decide_sentence-requires-clause-sentence
+decide_sentence-requires-clause-sentence c =
+    let m = c.args.checked.now in
+    record {
+      held = m.conjectures;
+      more = c.args.more.now;
+      added = (c.sentence_law.ensures.conjectures m c.args.more.now c.model-checked.ensures.checked c.requires.fragment
+          c.requires.fits).all;
+      is = c.in-Ok.ensures.sentence;
+    }
+
+pub returns-in-Ok-Holds : goal.returns-in-Ok-Holds
+returns-in-Ok-Holds c =
+    let m = c.args.checked.now in
+    let more = c.args.more.now in
+    let checked = c.model-checked.ensures.checked in
+    let exact : AreExact = record {
+      all = c.refuting_law.ensures.all;
+      same = c.refuting_law.ensures.same;
+      affected = c.premises_law.ensures.refuting;
+      parts = c.parts_law.ensures;
+    } in
+    let added = (c.sentence_law.ensures.conjectures m more checked c.requires.fragment c.requires.fits).all in
+    nowhere_by exact (ceilings c.args.limits.now) m c.args.goal.now checked.model.fits c.requires.goal more added _
+    c.in-Ok.ensures.sentence _ _ c.in-Ok-Holds.field-0-is c.in-Ok-Holds.ensures.decided
+
+pub returns-in-Ok-Fails : goal.returns-in-Ok-Fails
+returns-in-Ok-Fails c =
+    let m = c.args.checked.now in
+    let more = c.args.more.now in
+    let checked = c.model-checked.ensures.checked in
+    let exact : AreExact = record {
+      all = c.refuting_law.ensures.all;
+      same = c.refuting_law.ensures.same;
+      affected = c.premises_law.ensures.refuting;
+      parts = c.parts_law.ensures;
+    } in
+    let added = (c.sentence_law.ensures.conjectures m more checked c.requires.fragment c.requires.fits).all in
+    found_by exact (ceilings c.args.limits.now) m c.args.goal.now checked.model.fits c.requires.goal more added _
+    c.in-Ok.ensures.sentence _ _ c.in-Ok-Fails.field-0-is c.in-Ok-Fails.ensures.decided
