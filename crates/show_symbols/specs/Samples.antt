@@ -4,6 +4,12 @@ use Rattle.fol_sig.specs.Tables.{Declared}
 use Rattle.fol_formula.specs.Syntax.{FormTree, rel, equal, negation, disjunction, for_all, no_forms, form_then}
 use Rattle.fol_formula.specs.Syntax.{bound, no_terms, term_then}
 
+abbrev pub no_symbols : Declared
+no_symbols = record { sorts = 0; relations = []; functions = [] }
+
+abbrev pub one_sort : Declared
+one_sort = record { sorts = 1; relations = []; functions = [] }
+
 -- two sorts, a relation over both, a function from the first to the second, and a variable of the first
 abbrev pub two_sorts : Declared
 two_sorts = record {

@@ -1,7 +1,9 @@
 // A sentence's instance over its ground terms, and the axioms of equality over these.
-ghost use Rattle.std.specs.Prelude.{◌≡◌, IfOk};
+ghost use Rattle.std.specs.Prelude.{◌≡◌, IfOk, OnOk};
 ghost use Rattle.fol_formula.specs.View.{form};
-ghost use Rattle.show_symbols.specs.Samples.{two_variables, alone, all_alone};
+ghost use Rattle.fol_sig.specs.Symbols.{symbols};
+ghost use Rattle.ground_terms.specs.Terms.{AreClosed};
+ghost use Rattle.show_symbols.specs.Samples.{no_symbols, two_variables, alone, all_alone};
 
 use base::Mem;
 use equality_axioms::axioms;
@@ -12,18 +14,31 @@ use ground_terms::{Atom, Junction, SinkCall, Terms};
 use std::alloc::Global;
 use std::io;
 
-// A sort, a relation over it, and two variables.
-fn signature(alloc: Global) -> Mem<Signature>
-    ensures { IfOk result (λ s. s ≡ two_variables) }
+fn declare(alloc: Global, signature: &mut Signature) -> Mem<()>
+    requires { signature.old ≡ no_symbols }
+    ensures { OnOk result (signature.new ≡ two_variables) }
 {
-    let mut signature = Signature::empty(alloc);
     let sort = signature.add_sort();
     let mut one = Sorts::new(alloc);
     one.push(sort);
     signature.add_relation(one)?;
     signature.add_function(Sorts::new(alloc), sort)?;
     signature.add_function(Sorts::new(alloc), sort)?;
-    Ok(signature)
+    Ok(())
+}
+
+// A sort, a relation over it, and two variables.
+fn signature(alloc: Global) -> Mem<Signature>
+    ensures { IfOk result (λ s. s ≡ two_variables) }
+{
+    let mut signature = Signature::empty(alloc);
+    match declare(alloc, &mut signature) {
+        Ok(()) => Ok(signature),
+        Err(wanting) => {
+            drop(signature);
+            Err(wanting)
+        }
+    }
 }
 
 // not r(x) or x = y, for the variables x and, nearer, y
@@ -92,17 +107,71 @@ fn tell_calls<R: Print>(rt: &R, alloc: Global, calls: &[SinkCall]) -> io::Result
     Ok(())
 }
 
-pub fn tell<R: Print>(rt: &R, alloc: Global) -> io::Result<()> {
-    let signature = signature(alloc)?;
-    let Ok(strata) = strata(alloc, &signature) else {
+fn tell_instance<R: Print>(
+    rt: &R,
+    alloc: Global,
+    signature: &Signature,
+    terms: &Terms,
+) -> io::Result<()>
+    requires symbols { signature.now ≡ two_variables }
+    requires closed { AreClosed (symbols signature.now) terms.now }
+{
+    let sentence = Universal::new(Sentence::of(sentence(alloc)?));
+    let instance = expand(alloc, signature, terms, &sentence);
+    drop(sentence);
+    let instance = instance?;
+    let told = tell_calls(rt, alloc, &instance);
+    drop(instance);
+    told
+}
+
+fn tell_axioms<R: Print>(
+    rt: &R,
+    alloc: Global,
+    signature: &Signature,
+    terms: &Terms,
+) -> io::Result<()>
+    requires { AreClosed (symbols signature.now) terms.now }
+{
+    let axioms = axioms(alloc, signature, terms)?;
+    let told = tell_calls(rt, alloc, &axioms);
+    drop(axioms);
+    told
+}
+
+fn tell_both<R: Print>(
+    rt: &R,
+    alloc: Global,
+    signature: &Signature,
+    terms: &Terms,
+) -> io::Result<()>
+    requires symbols { signature.now ≡ two_variables }
+    requires closed { AreClosed (symbols signature.now) terms.now }
+{
+    println!(rt; "Instance of: forall x. forall y. not r0(x) or x = y, over two constants")?;
+    tell_instance(rt, alloc, signature, terms)?;
+    println!(rt; "Axioms of equality:")?;
+    tell_axioms(rt, alloc, signature, terms)
+}
+
+// The signature has no function of arguments, so it has strata.
+fn tell_over<R: Print>(rt: &R, alloc: Global, signature: &Signature) -> io::Result<()>
+    requires { signature.now ≡ two_variables }
+{
+    let Ok(strata) = strata(alloc, signature) else {
         return Ok(());
     };
-    let terms = Terms::new(alloc, &signature, &strata)?;
-    let sentence = Universal::new(Sentence::of(sentence(alloc)?));
-    println!(rt; "Instance of: forall x. forall y. not r0(x) or x = y, over two constants")?;
-    let instance = expand(alloc, &signature, &terms, &sentence)?;
-    tell_calls(rt, alloc, &instance)?;
-    println!(rt; "Axioms of equality:")?;
-    let axioms = axioms(alloc, &signature, &terms)?;
-    tell_calls(rt, alloc, &axioms)
+    let terms = Terms::new(alloc, signature, &strata);
+    drop(strata);
+    let terms = terms?;
+    let told = tell_both(rt, alloc, signature, &terms);
+    drop(terms);
+    told
+}
+
+pub fn tell<R: Print>(rt: &R, alloc: Global) -> io::Result<()> {
+    let signature = signature(alloc)?;
+    let told = tell_over(rt, alloc, &signature);
+    drop(signature);
+    told
 }
