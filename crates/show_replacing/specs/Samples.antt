@@ -1,6 +1,12 @@
--- The formulas that calls are given.
+-- The symbols and formulas that calls are given.
+use Rattle.std.specs.Prelude.{[], ◌∷◌}
+use Rattle.fol_sig.specs.Tables.{Declared}
 use Rattle.fol_formula.specs.Syntax.{FormTree, TermTree, rel, equal, conjunction, disjunction, for_all, for_some}
 use Rattle.fol_formula.specs.Syntax.{form_then, no_forms, bound, app, term_then, no_terms}
+
+-- a sort, and a relation over it
+abbrev pub one_relation : Declared
+one_relation = record { sorts = 1; relations = (0 ∷ []) ∷ []; functions = [] }
 
 -- r(x), for the nearest variable x
 abbrev pub atom : FormTree

@@ -1,7 +1,7 @@
 // Constants in the place of existential quantifiers: two side by side, one above a universal one.
 ghost use Rattle.std.specs.Prelude.{◌≡◌, IfOk};
 ghost use Rattle.fol_formula.specs.View.{form};
-ghost use Rattle.show_replacing.specs.Samples.{two_constants};
+ghost use Rattle.show_replacing.specs.Samples.{one_relation, two_constants};
 
 use base::Mem;
 use fol_formula::{Formula, Normal, Sentence, Term};
@@ -25,16 +25,41 @@ fn sentence(alloc: Global) -> Mem<Formula>
     Ok(Formula::And(parts))
 }
 
-pub fn tell<R: Print>(rt: &R, alloc: Global) -> io::Result<()> {
+// A sort, and a relation over it.
+fn signature(alloc: Global) -> Mem<Signature>
+    ensures { IfOk result (λ s. s ≡ one_relation) }
+{
     let mut signature = Signature::empty(alloc);
     let sort = signature.add_sort();
     let mut args = Sorts::new(alloc);
     args.push(sort);
-    signature.add_relation(args)?;
+    match signature.add_relation(args) {
+        Ok(_) => Ok(signature),
+        Err(wanting) => {
+            drop(signature);
+            Err(wanting)
+        }
+    }
+}
+
+fn tell_made<R: Print>(rt: &R, alloc: Global, signature: &Signature) -> io::Result<()>
+    requires { signature.now ≡ one_relation }
+{
     let normal = Normal::new(Sentence::of(sentence(alloc)?));
-    let made = constants(alloc, &signature, &normal)?;
+    let made = constants(alloc, signature, &normal);
+    drop(normal);
+    let made = made?;
     let sorts = made.constants.as_slice();
     let functions = made.signature.function_count();
     let formula = made.sentence.sentence().formula();
-    println!(rt; "constants: of {sorts:?}, {functions} functions, {formula:?}")
+    let told = println!(rt; "constants: of {sorts:?}, {functions} functions, {formula:?}");
+    drop(made);
+    told
+}
+
+pub fn tell<R: Print>(rt: &R, alloc: Global) -> io::Result<()> {
+    let signature = signature(alloc)?;
+    let told = tell_made(rt, alloc, &signature);
+    drop(signature);
+    told
 }

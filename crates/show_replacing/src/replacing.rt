@@ -3,10 +3,10 @@ ghost use Rattle.std.specs.Prelude.{◌≡◌, IfOk};
 ghost use Rattle.fol_formula.specs.View.{form, term as term_view};
 ghost use Rattle.show_replacing.specs.Samples.{grown, shadowed, image, image_twice, fixed_point};
 
-use base::Mem;
+use base::{Mem, Refused};
 use fol_formula::{Formula, Term};
 use fol_sig::{FunId, RelId, Sort};
-use fol_subst::{replace_const, replace_fun, replace_rel, shift};
+use fol_subst::{Counted, FormulaLimit, replace_const, replace_fun, replace_rel, shift};
 use std::alloc::Global;
 use std::io;
 
@@ -64,37 +64,68 @@ fn twice(alloc: Global) -> Mem<Term>
     Ok(Term::App(F, args))
 }
 
+fn tell_replaced<P: Print>(
+    rt: &P,
+    call: &str,
+    replaced: Result<Counted, Refused<FormulaLimit>>,
+) -> io::Result<()> {
+    match replaced {
+        Ok(counted) => {
+            let told = println!(rt; "{call}: {:?}", counted.formula);
+            drop(counted);
+            told
+        }
+        Err(refused) => println!(rt; "{call}: {refused:?}"),
+    }
+}
+
 fn tell_variable<P: Print>(rt: &P, alloc: Global) -> io::Result<()> {
-    match replace_const(alloc, shadowed(alloc)?, V, 0) {
-        Ok(counted) => println!(rt; "replace_const: {:?}", counted.formula),
-        Err(refused) => println!(rt; "replace_const: {refused:?}"),
-    }
+    let replaced = replace_const(alloc, shadowed(alloc)?, V, 0);
+    tell_replaced(rt, "replace_const", replaced)
 }
 
-fn tell_relation<P: Print>(rt: &P, alloc: Global) -> io::Result<()> {
-    match replace_rel(alloc, grown(alloc)?, R, &grown(alloc)?) {
-        Ok(counted) => println!(rt; "replace_rel: {:?}", counted.formula),
-        Err(refused) => println!(rt; "replace_rel: {refused:?}"),
-    }
+fn tell_relation<P: Print>(rt: &P, alloc: Global, change: &Formula) -> io::Result<()>
+    requires { form change.now ≡ grown }
+{
+    let replaced = replace_rel(alloc, grown(alloc)?, R, change);
+    tell_replaced(rt, "replace_rel", replaced)
 }
 
-fn tell_function<P: Print>(rt: &P, alloc: Global) -> io::Result<()> {
-    match replace_fun(alloc, fixed_point(alloc)?, F, &twice(alloc)?) {
-        Ok(counted) => println!(rt; "replace_fun: {:?}", counted.formula),
-        Err(refused) => println!(rt; "replace_fun: {refused:?}"),
-    }
+fn tell_function<P: Print>(rt: &P, alloc: Global, change: &Term) -> io::Result<()>
+    requires { term_view change.now ≡ image_twice }
+{
+    let replaced = replace_fun(alloc, fixed_point(alloc)?, F, change);
+    tell_replaced(rt, "replace_fun", replaced)
 }
 
-fn tell_shift<P: Print>(rt: &P, alloc: Global) -> io::Result<()> {
-    match shift(alloc, &grown(alloc)?, 0, 2) {
-        Ok(formula) => println!(rt; "shift: {formula:?}"),
+fn tell_shift<P: Print>(rt: &P, alloc: Global, formula: &Formula) -> io::Result<()>
+    requires { form formula.now ≡ grown }
+{
+    match shift(alloc, formula, 0, 2) {
+        Ok(formula) => {
+            let told = println!(rt; "shift: {formula:?}");
+            drop(formula);
+            told
+        }
         Err(refused) => println!(rt; "shift: {refused:?}"),
     }
 }
 
+fn tell_of_formula<P: Print>(rt: &P, alloc: Global, formula: &Formula) -> io::Result<()>
+    requires { form formula.now ≡ grown }
+{
+    tell_relation(rt, alloc, formula)?;
+    tell_shift(rt, alloc, formula)
+}
+
 pub fn tell<P: Print>(rt: &P, alloc: Global) -> io::Result<()> {
     tell_variable(rt, alloc)?;
-    tell_relation(rt, alloc)?;
-    tell_function(rt, alloc)?;
-    tell_shift(rt, alloc)
+    let twice = twice(alloc)?;
+    let told = tell_function(rt, alloc, &twice);
+    drop(twice);
+    told?;
+    let formula = grown(alloc)?;
+    let told = tell_of_formula(rt, alloc, &formula);
+    drop(formula);
+    told
 }
