@@ -38,15 +38,25 @@ fn compare_words(
     Ok(())
 }
 
-fn compare(alloc: Global, row: &Row, actual: &Actual) -> Parsed<Report> {
-    let mut report = Report::new(alloc);
-    compare_words(alloc, &row.expected, actual, &mut report)?;
+fn compare_all(alloc: Global, row: &Row, actual: &Actual, report: &mut Report) -> Mem<()> {
+    compare_words(alloc, &row.expected, actual, report)?;
     report.compare_bytes(alloc, "out", &row.out.expected, actual.out.taken())?;
     report.compare_bytes(alloc, "err", &row.err.expected, actual.err.taken())?;
     if !actual.stands_in_text {
         report.compare(alloc, "place of the fault", "in the text", "behind it")?;
     }
-    Ok(report)
+    Ok(())
+}
+
+fn compare(alloc: Global, row: &Row, actual: &Actual) -> Parsed<Report> {
+    let mut report = Report::new(alloc);
+    match compare_all(alloc, row, actual, &mut report) {
+        Ok(()) => Ok(report),
+        Err(wanting) => {
+            drop(report);
+            Err(Refused::from(wanting))
+        }
+    }
 }
 
 // Whether a run ends with a report on one sink or with a line on the other, and a fault stands in its text.
@@ -82,24 +92,58 @@ fn status_on(alloc: Global, row: &Row, cut: Cut) -> Parsed<Option<u8>> {
     Ok(status)
 }
 
-// How often the runs on the proper prefixes of this file, which has that length, end with each status. The second
-// number is that of a prefix that is not answered, if there is one.
-fn count_statuses(
+// How often the runs on the proper prefixes of a file end with each status, up to the first prefix that is not answered.
+#[derive(Drop)]
+struct Counted {
+    statuses: Vec<u64>,
+    unanswered: Option<usize>,
+}
+
+// Counts the runs on the proper prefixes of this file, which has that length, and gives the first that is not answered.
+fn count_into(
     alloc: Global,
     row: &Row,
     file: &str,
     length: usize,
-) -> Parsed<(Vec<u64>, Option<usize>)> {
-    let mut counts = vec![in alloc; 0u64; STATUSES]?;
+    statuses: &mut [u64],
+) -> Parsed<Option<usize>> {
     for end in 0..length {
         let Some(status) = status_on(alloc, row, Cut { file, end })? else {
-            return Ok((counts, Some(end)));
+            return Ok(Some(end));
         };
-        if let Some(count) = counts.get_mut(usize::from(status)) {
+        if let Some(count) = statuses.get_mut(usize::from(status)) {
             *count = count.saturating_add(1);
         }
     }
-    Ok((counts, None))
+    Ok(None)
+}
+
+fn count_statuses(alloc: Global, row: &Row, file: &str, length: usize) -> Parsed<Counted> {
+    let mut statuses = vec![in alloc; 0u64; STATUSES]?;
+    let unanswered = count_into(alloc, row, file, length, &mut statuses)?;
+    Ok(Counted {
+        statuses,
+        unanswered,
+    })
+}
+
+fn compare_prefixes(
+    alloc: Global,
+    prefixes: &Prefixes,
+    counted: &Counted,
+    report: &mut Report,
+) -> Mem<()> {
+    if let Some(end) = counted.unanswered {
+        let actual = format!(in alloc; "not the prefix of {end} bytes")?;
+        report.compare(alloc, "answered", "each prefix", actual.as_str())?;
+    }
+    let statuses = text_of(alloc, &counted.statuses)?;
+    report.compare(
+        alloc,
+        "statuses",
+        prefixes.statuses.as_str(),
+        statuses.as_str(),
+    )
 }
 
 fn judge_prefixes(alloc: Global, row: &Row, prefixes: &Prefixes) -> Parsed<Report> {
@@ -107,20 +151,17 @@ fn judge_prefixes(alloc: Global, row: &Row, prefixes: &Prefixes) -> Parsed<Repor
     let Some(file) = row.files.iter().find(|file| file.name.as_str() == name) else {
         return Err(Refused::For("a row has no file of this name"));
     };
-    let (counts, unanswered) = count_statuses(alloc, row, name, file.bytes.len())?;
+    let counted = count_statuses(alloc, row, name, file.bytes.len())?;
     let mut report = Report::new(alloc);
-    if let Some(end) = unanswered {
-        let actual = format!(in alloc; "not the prefix of {end} bytes")?;
-        report.compare(alloc, "answered", "each prefix", actual.as_str())?;
+    let compared = compare_prefixes(alloc, prefixes, &counted, &mut report);
+    drop(counted);
+    match compared {
+        Ok(()) => Ok(report),
+        Err(wanting) => {
+            drop(report);
+            Err(Refused::from(wanting))
+        }
     }
-    let statuses = text_of(alloc, &counts)?;
-    report.compare(
-        alloc,
-        "statuses",
-        prefixes.statuses.as_str(),
-        statuses.as_str(),
-    )?;
-    Ok(report)
 }
 
 /// Runs a row, and says how it differs from what is expected of it.

@@ -32,6 +32,7 @@ mod running;
 use base::Refused;
 use judging::judge;
 use reader::read_rows;
+use report::Report;
 use row::{Row, Text};
 use std::alloc::Global;
 use std::process::ExitCode;
@@ -51,19 +52,25 @@ fn complain(
     println!(rt; "{name}, line {line}: {cause}")
 }
 
+fn tell_report(rt: &impl Print, name: &str, row: &Row, report: &Report) -> io::Result<bool> {
+    if !report.is_well {
+        let (line, title) = (row.line, row.title.as_str());
+        let lines = report.lines.as_str();
+        print!(rt; "{name}, line {line}: {title}\n{lines}")?;
+    }
+    Ok(report.is_well)
+}
+
 // Says how a row differs, if it does.
 fn tell_row(rt: HostRuntime, alloc: Global, name: &str, row: &Row) -> io::Result<bool> {
-    let (line, title) = (row.line, row.title.as_str());
     match judge(alloc, rt, row) {
         Ok(report) => {
-            if !report.is_well {
-                let lines = report.lines.as_str();
-                print!(&rt; "{name}, line {line}: {title}\n{lines}")?;
-            }
-            Ok(report.is_well)
+            let told = tell_report(&rt, name, row, &report);
+            drop(report);
+            told
         }
         Err(cause) => {
-            complain(&rt, name, line, cause)?;
+            complain(&rt, name, row.line, cause)?;
             Ok(false)
         }
     }

@@ -91,22 +91,35 @@ fn bytes_of<'a>(file: &'a Text, cut: Option<Cut>) -> &'a [u8] {
     }
 }
 
-// The files of a row in memory.
-fn files_of(alloc: Global, row: &Row, cut: Option<Cut>) -> Parsed<MemFiles> {
-    let mut files = Vec::new(alloc);
+// Puts the files of a row behind the others.
+fn put_files(
+    alloc: Global,
+    row: &Row,
+    cut: Option<Cut>,
+    files: &mut Vec<(FileName, Bytes)>,
+) -> Mem<()> {
     for file in &row.files {
-        let name = FileName::from_slice(alloc, file.name.as_bytes())?;
         let bytes = bytes_of(file, cut).to_vec(alloc)?;
+        let name = FileName::from_slice(alloc, file.name.as_bytes())?;
         files.push((name, Bytes::from_vec(bytes)))?;
     }
-    if !names_differ(&files) {
-        return Err(Refused::For("two files have one name"));
-    }
+    Ok(())
+}
+
+// The files of a row in memory.
+fn files_of(alloc: Global, row: &Row, cut: Option<Cut>) -> Parsed<MemFiles> {
     let failing = row.failing.as_slice().to_vec(alloc)?;
     if !increase(&failing) {
         return Err(Refused::For("the numbers of failing loads increase from 1"));
     }
-    Ok(MemFiles::new(files, failing))
+    let mut files = Vec::new(alloc);
+    let put = put_files(alloc, row, cut, &mut files);
+    if put.is_ok() && names_differ(&files) {
+        return Ok(MemFiles::new(files, failing));
+    }
+    drop(files);
+    put?;
+    Err(Refused::For("two files have one name"))
 }
 
 fn sink_of(alloc: Global, stream: &Stream) -> Parsed<MemSink> {
@@ -180,9 +193,14 @@ fn stands_in_text(ended: &Ended) -> bool {
     }
 }
 
-fn run_over<F: Files>(alloc: Global, row: &Row, files: &mut F) -> Parsed<Actual> {
-    let mut out = sink_of(alloc, &row.out)?;
-    let mut err = sink_of(alloc, &row.err)?;
+fn run_between<F: Files>(
+    alloc: Global,
+    row: &Row,
+    files: &mut F,
+    out: MemSink,
+    err: MemSink,
+) -> Actual {
+    let (mut out, mut err) = (out, err);
     let ended = run(alloc, &row.words, files, &mut out, &mut err);
     let written = match ended.written {
         Written::All => "all",
@@ -198,13 +216,26 @@ fn run_over<F: Files>(alloc: Global, row: &Row, files: &mut F) -> Parsed<Actual>
         err,
     };
     drop(ended);
-    Ok(actual)
+    actual
+}
+
+fn run_over<F: Files>(alloc: Global, row: &Row, files: &mut F) -> Parsed<Actual> {
+    let out = sink_of(alloc, &row.out)?;
+    match sink_of(alloc, &row.err) {
+        Ok(err) => Ok(run_between(alloc, row, files, out, err)),
+        Err(cause) => {
+            drop(out);
+            Err(cause)
+        }
+    }
 }
 
 /// Runs the program on a row, with a front of one of its files in the place of this file.
 pub fn run_on_memory(alloc: Global, row: &Row, cut: Option<Cut>) -> Parsed<Actual> {
     let mut files = files_of(alloc, row, cut)?;
-    run_over(alloc, row, &mut files)
+    let actual = run_over(alloc, row, &mut files);
+    drop(files);
+    actual
 }
 
 /// Runs the program on the files of the folder.

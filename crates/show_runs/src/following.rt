@@ -112,20 +112,41 @@ fn end(
     }
 }
 
+fn follow_from(
+    alloc: Global,
+    checked: &Checked,
+    path: &Path,
+    trace: &Trace,
+    sizes: &[u32],
+) -> Mem<String>
+    requires { FitsPath (symbols checked.now.signature) path.now }
+{
+    match blank(alloc, checked, sizes)? {
+        Some(start) => {
+            let answer = end(alloc, checked, path, trace, &start);
+            drop(start);
+            answer
+        }
+        None => String::from_str(alloc, "no sizes of this model"),
+    }
+}
+
 fn follow_input(alloc: Global, checked: &Checked, input: Input) -> Mem<String> {
     let path_number = input.path.parse::<u32>().unwrap_or(0);
-    let Some(path) = path_at(checked, path_number.saturating_sub(1) as usize) else {
-        return String::from_str(alloc, "no path of this block");
-    };
     let sizes = numbers_of(alloc, input.sizes)?;
     let trace = Trace {
         path: path_number,
         havoc: Row::from_vec(numbers_of(alloc, input.elements)?),
     };
-    let Some(start) = blank(alloc, checked, &sizes)? else {
-        return String::from_str(alloc, "no sizes of this model");
-    };
-    end(alloc, checked, &path, &trace, &start)
+    match path_at(checked, path_number.saturating_sub(1) as usize) {
+        Some(path) => {
+            let answer = follow_from(alloc, checked, &path, &trace, &sizes);
+            drop(path);
+            drop(trace);
+            answer
+        }
+        None => String::from_str(alloc, "no path of this block"),
+    }
 }
 
 /// How following ends.

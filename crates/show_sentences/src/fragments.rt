@@ -26,32 +26,23 @@ fn push_classes(list: &mut String, formula: &Formula) -> Mem<()> {
     push_if(list, formula.is_normal_form(), "normal form")
 }
 
-fn is_ea(alloc: Global, sentence: &Sentence) -> Mem<bool> {
-    let copy = sentence.copy(alloc)?;
-    Ok(Ea::of(copy).is_ok())
-}
-
-fn is_ae(alloc: Global, sentence: &Sentence) -> Mem<bool> {
-    let copy = sentence.copy(alloc)?;
-    Ok(Ae::of(copy).is_ok())
-}
-
-fn is_universal(alloc: Global, sentence: &Sentence) -> Mem<bool> {
-    let copy = sentence.copy(alloc)?;
-    Ok(Universal::of(copy).is_ok())
-}
-
-fn is_normal(alloc: Global, sentence: &Sentence) -> Mem<bool> {
-    let copy = sentence.copy(alloc)?;
-    Ok(Normal::of(copy).is_ok())
+// Whether a type took a sentence, which ends with that.
+fn is_taken<T: Drop>(taken: Result<T, Sentence>) -> bool {
+    let is_ok = taken.is_ok();
+    drop(taken);
+    is_ok
 }
 
 // The types that take the sentence.
 fn push_types(alloc: Global, list: &mut String, sentence: &Sentence) -> Mem<()> {
-    push_if(list, is_ea(alloc, sentence)?, "Ea")?;
-    push_if(list, is_ae(alloc, sentence)?, "Ae")?;
-    push_if(list, is_universal(alloc, sentence)?, "Universal")?;
-    push_if(list, is_normal(alloc, sentence)?, "Normal")
+    push_if(list, is_taken(Ea::of(sentence.copy(alloc)?)), "Ea")?;
+    push_if(list, is_taken(Ae::of(sentence.copy(alloc)?)), "Ae")?;
+    push_if(
+        list,
+        is_taken(Universal::of(sentence.copy(alloc)?)),
+        "Universal",
+    )?;
+    push_if(list, is_taken(Normal::of(sentence.copy(alloc)?)), "Normal")
 }
 
 fn push_fragments(alloc: Global, list: &mut String, sentences: &[Sentence]) -> Mem<()> {

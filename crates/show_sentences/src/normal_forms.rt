@@ -11,27 +11,33 @@ fn push_formula(alloc: Global, list: &mut String, formula: &Formula) -> Mem<()> 
     list.push_str(format!(in alloc; "[{formula:?}]")?.as_str())
 }
 
-fn push_normal_form(alloc: Global, list: &mut String, sentence: &Ea) -> Mem<()> {
-    let normal = normal(alloc, sentence)?;
-    push_formula(alloc, list, normal.sentence().formula())
+// Pushes the normal form of a sentence, which ends with that.
+fn push_normal_form(alloc: Global, list: &mut String, sentence: Ea) -> Mem<()> {
+    let normal = normal(alloc, &sentence);
+    drop(sentence);
+    let normal = normal?;
+    let pushed = push_formula(alloc, list, normal.sentence().formula());
+    drop(normal);
+    pushed
 }
 
 fn push_axiom(alloc: Global, list: &mut String, sentence: &Sentence) -> Mem<()> {
-    let copy = sentence.copy(alloc)?;
-    match Ea::of(copy) {
-        Ok(sentence) => push_normal_form(alloc, list, &sentence),
-        Err(_) => list.push_str("[not exists-forall]"),
+    match Ea::of(sentence.copy(alloc)?) {
+        Ok(sentence) => push_normal_form(alloc, list, sentence),
+        Err(sentence) => {
+            drop(sentence);
+            list.push_str("[not exists-forall]")
+        }
     }
 }
 
 fn push_conjecture(alloc: Global, list: &mut String, sentence: &Sentence) -> Mem<()> {
-    let copy = sentence.copy(alloc)?;
-    match Ae::of(copy) {
-        Ok(sentence) => {
-            let opposite = negate(alloc, sentence)?;
-            push_normal_form(alloc, list, &opposite)
+    match Ae::of(sentence.copy(alloc)?) {
+        Ok(sentence) => push_normal_form(alloc, list, negate(alloc, sentence)?),
+        Err(sentence) => {
+            drop(sentence);
+            list.push_str("[not forall-exists]")
         }
-        Err(_) => list.push_str("[not forall-exists]"),
     }
 }
 

@@ -37,7 +37,10 @@ fn listed(alloc: Global, all: &Paths) -> Mem<String> {
     let count = all.len();
     let mut list = format!(in alloc; "{count} paths:")?;
     for number in 0..count.min(8) {
-        push_path(alloc, &mut list, &all.path(number))?;
+        let path = all.path(number);
+        let pushed = push_path(alloc, &mut list, &path);
+        drop(path);
+        pushed?;
     }
     Ok(list)
 }
