@@ -1,9 +1,9 @@
 -- How deep the binders of an expression lie inside one another.
 use Rattle.std.proofs.Common.{◌≡◌, ◌≤◌, ◌-◌, ◌+◌, ℕ, zero, suc, List, [], ◌∷◌, length, refl, sym, ap, ◌∙◌, subst, arith}
-use Rattle.rml_syntax.specs.declared.tree.Binder.{Binder}
-use Rattle.rml_syntax.specs.declared.tree.Quantifier.{Quantifier}
-use Rattle.rml_syntax.specs.Tree.{ExprTree, Quantified}
-use Rattle.rml_syntax.specs.Shape.{ExprNests}
+use Rattle.rml_terms.specs.declared.tree.Binder.{Binder}
+use Rattle.rml_terms.specs.declared.tree.Quantifier.{Quantifier}
+use Rattle.rml_terms.specs.Tree.{ExprTree, Quantified}
+use Rattle.rml_terms.specs.Shape.{ExprNests}
 use Rattle.rml_names.specs.declared.scope.Scope.TheVariants.{Outside}
 use Rattle.rml_names.specs.declared.scope.Scope.TheViews.{rolls-Outside}
 use Rattle.rml_names.specs.declared.scope.Scope.TheOpen as opened

@@ -4,8 +4,8 @@ use Rattle.fol_formula.specs.Syntax.{TermTrees, bound, term_then, terms_then}
 use Rattle.fol_formula.specs.View.{term}
 use Rattle.fol_formula.specs.declared.Term.{Term}
 use Rattle.fol_formula.specs.Lists.{TermLists}
-use Rattle.rml_syntax.specs.declared.tree.Expr.{Expr}
-use Rattle.rml_syntax.specs.Tree.{expr_trees, exprs_of}
+use Rattle.rml_terms.specs.declared.tree.Expr.{Expr}
+use Rattle.rml_terms.specs.Tree.{expr_trees, exprs_of}
 use Rattle.rml_command.specs.Models.{ModelTree}
 use Rattle.rml_names.specs.Meanings.{BoundName}
 use Rattle.rml_elaborate.specs.Formulas.{terms_of}

@@ -6,8 +6,8 @@ use Rattle.fol_formula.specs.Syntax.{terms_then}
 use Rattle.fol_formula.specs.View.{form, term}
 use Rattle.fol_formula.specs.declared.Formula.{Formula}
 use Rattle.fol_formula.specs.declared.Term.{Term}
-use Rattle.rml_syntax.specs.declared.tree.Expr.{Expr}
-use Rattle.rml_syntax.specs.Tree.{expr_tree, expr_trees, exprs_of, and_expr}
+use Rattle.rml_terms.specs.declared.tree.Expr.{Expr}
+use Rattle.rml_terms.specs.Tree.{expr_tree, expr_trees, exprs_of, and_expr}
 use Rattle.fol_formula.specs.Lists.{FormLists, TermLists}
 
 -- the expressions from a place on

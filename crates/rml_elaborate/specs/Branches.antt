@@ -1,5 +1,5 @@
 -- The tree of a choice. The rule stands here, since every proof that walks the branches of a choice takes it.
-use Rattle.std.proofs.Common.{◌≡◌, ℕ, List, [], sym, ap, ◌∙◌}
+use Rattle.std.proofs.Common.{◌≡◌, ℕ, List, sym, ap, ◌∙◌}
 use Rattle.std.specs.Global.{Vec}
 use Rattle.base.proofs.Lists.{map-map}
 use Rattle.rml_syntax.specs.declared.tree.Command.{Command}

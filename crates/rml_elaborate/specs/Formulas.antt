@@ -4,10 +4,10 @@ use Rattle.std.specs.Prelude.{ℕ, List, ◌∷◌}
 use Rattle.fol_formula.specs.Syntax.{FormTree, FormTrees, TermTree, TermTrees, top, bottom, rel, equal, negation}
 use Rattle.fol_formula.specs.Syntax.{conjunction, disjunction, implication, equivalence, for_all, for_some, no_forms}
 use Rattle.fol_formula.specs.Syntax.{form_then, bound, app, ite, no_terms, term_then}
-use Rattle.rml_syntax.specs.declared.tree.Quantifier.{Quantifier}
-use Rattle.rml_syntax.specs.declared.tree.Quantifier.TheVariants.{Forall, Exists}
-use Rattle.rml_syntax.specs.Tree.{ExprTree, ExprTrees, True, False, Apply, Ite, Equal, Not, And, Or, Implies, Iff}
-use Rattle.rml_syntax.specs.Tree.{Quantified, no_expr, and_expr}
+use Rattle.rml_terms.specs.declared.tree.Quantifier.{Quantifier}
+use Rattle.rml_terms.specs.declared.tree.Quantifier.TheVariants.{Forall, Exists}
+use Rattle.rml_terms.specs.Tree.{ExprTree, ExprTrees, True, False, Apply, Ite, Equal, Not, And, Or, Implies, Iff}
+use Rattle.rml_terms.specs.Tree.{Quantified, no_expr, and_expr}
 use Rattle.rml_command.specs.Models.{ModelTree}
 use Rattle.rml_names.specs.declared.meaning.Meaning.{Meaning}
 use Rattle.rml_names.specs.declared.meaning.Meaning.TheVariants.{Bound, Relation, Function}

@@ -1,7 +1,8 @@
 -- The places of quantifiers where none may stand: inside an `ite`, and on the right of an update.
 use Rattle.std.specs.Prelude.{ℕ, Bool, true, false, if◌then◌else◌, List, [], ◌∷◌, ◌++◌, Option, Some, None}
-use Rattle.rml_syntax.specs.Tree.{ExprTree, ExprTrees, True, False, Apply, Ite, Equal, Not, And, Or, Implies, Iff}
-use Rattle.rml_syntax.specs.Tree.{Quantified, no_expr, and_expr, CommandTree, Block, Blocks, Skip, Abort, Assume}
+use Rattle.rml_terms.specs.Tree.{ExprTree, ExprTrees, True, False, Apply, Ite, Equal, Not, And, Or, Implies, Iff}
+use Rattle.rml_terms.specs.Tree.{Quantified, no_expr, and_expr}
+use Rattle.rml_syntax.specs.Tree.{CommandTree, Block, Blocks, Skip, Abort, Assume}
 use Rattle.rml_syntax.specs.Tree.{Assert, If, Choose, Insert, Remove, Put, Assign, no_command, and_command}
 use Rattle.rml_syntax.specs.Tree.{no_block, and_block}
 

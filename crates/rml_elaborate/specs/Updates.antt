@@ -2,8 +2,8 @@
 use Rattle.std.specs.Prelude.{ℕ, zero, suc, List, [], Option, Some, None}
 use Rattle.fol_formula.specs.Syntax.{FormTree, FormTrees, TermTree, TermTrees, rel, equal, negation, conjunction}
 use Rattle.fol_formula.specs.Syntax.{disjunction, no_forms, form_then, bound, app, ite, no_terms, term_then}
-use Rattle.rml_syntax.specs.declared.tree.Name.{Name}
-use Rattle.rml_syntax.specs.Tree.{ExprTree}
+use Rattle.rml_terms.specs.declared.tree.Name.{Name}
+use Rattle.rml_terms.specs.Tree.{ExprTree}
 use Rattle.rml_command.specs.Trees.{PrimitiveTree, set_rel, set_fun, havoc, abort}
 use Rattle.rml_command.specs.Models.{ModelTree}
 use Rattle.rml_names.specs.declared.meaning.Meaning.{Meaning}

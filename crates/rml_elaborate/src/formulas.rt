@@ -1,9 +1,9 @@
 // The formulas and terms that expressions stand for.
 ghost use Rattle.std.specs.Prelude.{◌≡◌, ◌-◌, ◌≤◌, length, IfOk};
 ghost use Rattle.fol_formula.specs.View.{form, forms, term as term_view, terms as terms_view};
-ghost use Rattle.rml_syntax.specs.Tree.{expr_tree, expr_trees, exprs_of, Quantified, Apply};
-ghost use Rattle.rml_syntax.specs.Shape.{ExprNests, ExprsNest};
-ghost use Rattle.rml_syntax.specs.Within.{NameWithin, BinderWithin, ExprWithin, ExprsWithin};
+ghost use Rattle.rml_terms.specs.Tree.{expr_tree, expr_trees, exprs_of, Quantified, Apply};
+ghost use Rattle.rml_terms.specs.Shape.{ExprNests, ExprsNest};
+ghost use Rattle.rml_terms.specs.Within.{NameWithin, BinderWithin, ExprWithin, ExprsWithin};
 ghost use Rattle.rml_names.specs.Meanings.{bytes_of, sort_number};
 ghost use Rattle.rml_elaborate.specs.Formulas.{formula_of, formulas_of, term_of, terms_of};
 ghost use Rattle.rml_names.specs.Scopes.{bound_names};
@@ -14,7 +14,7 @@ use base::Mem;
 use fol_formula::{Formula, Term};
 use fol_sig::{FunId, RelId, Sort};
 use rml_names::{Meaning, ModelDraft, Scope, bytes};
-use rml_syntax::{Binder, Expr, Name, Quantifier};
+use rml_terms::{Binder, Expr, Name, Quantifier};
 use std::alloc::Global;
 
 // The formula of an expression in a formula's place, under the binders of the scope.

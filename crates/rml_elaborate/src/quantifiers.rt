@@ -1,13 +1,15 @@
 // The places of quantifiers where none may stand: inside an `ite`, and on the right of an update.
 ghost use Rattle.std.specs.Prelude.{◌≡◌, ◌++◌, ◌∷◌, [], OnOk, true, false, if◌then◌else◌, option_map};
-ghost use Rattle.rml_syntax.specs.Tree.{expr_tree, expr_trees, exprs_of, command_tree, command_trees, block_trees};
+ghost use Rattle.rml_terms.specs.Tree.{expr_tree, expr_trees, exprs_of};
+ghost use Rattle.rml_syntax.specs.Tree.{command_tree, command_trees, block_trees};
 ghost use Rattle.rml_syntax.specs.Tree.{block_of, blocks_of};
 ghost use Rattle.rml_elaborate.specs.Quantifiers.{quantifiers_in, quantifiers_in_each};
 ghost use Rattle.rml_elaborate.specs.Quantifiers.{quantifiers_of, quantifiers_of_block, quantifiers_of_blocks};
 ghost use Rattle.rml_elaborate.specs.Quantifiers.{quantifiers_of_side};
 
 use base::Mem;
-use rml_syntax::{Command, Expr};
+use rml_syntax::Command;
+use rml_terms::Expr;
 
 /// Adds the places of the quantifiers of an expression that stand inside an `ite`, or of all of them.
 #[cycle(places)]

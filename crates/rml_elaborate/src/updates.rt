@@ -4,9 +4,11 @@ ghost use Rattle.fol_sig.specs.Tables.{numbers};
 ghost use Rattle.fol_formula.specs.Syntax.{rel, equal, negation, conjunction, disjunction, form_then, no_forms, bound};
 ghost use Rattle.fol_formula.specs.Syntax.{app, ite};
 ghost use Rattle.fol_formula.specs.View.{form, forms, term as term_view, terms as terms_view};
-ghost use Rattle.rml_syntax.specs.Tree.{expr_tree, expr_trees, exprs_of};
-ghost use Rattle.rml_syntax.specs.Shape.{ExprNests, ExprsNest, SideNests};
-ghost use Rattle.rml_syntax.specs.Within.{NameWithin, NamesWithin, ExprWithin, ExprsWithin, ValueWithin};
+ghost use Rattle.rml_terms.specs.Tree.{expr_tree, expr_trees, exprs_of};
+ghost use Rattle.rml_terms.specs.Shape.{ExprNests, ExprsNest};
+ghost use Rattle.rml_syntax.specs.Shape.{SideNests};
+ghost use Rattle.rml_terms.specs.Within.{NameWithin, NamesWithin, ExprWithin, ExprsWithin};
+ghost use Rattle.rml_syntax.specs.Within.{ValueWithin};
 ghost use Rattle.rml_command.specs.View.{primitive};
 ghost use Rattle.rml_names.specs.Meanings.{bytes_of, symbol_of, argument_sorts as sorts_of_arguments};
 ghost use Rattle.rml_names.specs.Meanings.{with_parameters as names_with};
@@ -24,7 +26,7 @@ use fol_formula::{Formula, Term};
 use fol_sig::{FunId, RelId, Sort};
 use rml_command::Primitive;
 use rml_names::{Meaning, ModelDraft, Scope, bytes};
-use rml_syntax::{Expr, Name};
+use rml_terms::{Expr, Name};
 use std::alloc::Global;
 
 /// insert r(t..) is r(x..) := r(x..) | (x1 = t1 & ..)

@@ -1,6 +1,6 @@
 -- The model without items, and the model with a function more.
 use Rattle.std.specs.Prelude.{ℕ, List, [], ◌∷◌, ◌++◌}
-use Rattle.rml_syntax.specs.declared.tree.Name.{Name}
+use Rattle.rml_terms.specs.declared.tree.Name.{Name}
 use Rattle.rml_command.specs.Trees.{seq, no_commands}
 use Rattle.rml_command.specs.Models.{ModelTree}
 use Rattle.rml_names.specs.Meanings.{bytes_of}

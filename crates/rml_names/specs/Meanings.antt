@@ -4,9 +4,9 @@ use Rattle.std.specs.Prelude.{drop, position, unwrap_or, Option, Some, None}
 use Rattle.std.specs.List.{list_any}
 use Rattle.std.specs.Str.{bytes_eq}
 use Rattle.fol_sig.specs.Symbols.{symbols}
-use Rattle.rml_syntax.specs.declared.tree.Name.{Name}
-use Rattle.rml_syntax.specs.declared.tree.Binder.{Binder}
-use Rattle.rml_syntax.specs.Tree.{ExprTree, True, False, Apply, Ite, Equal, Not, And, Or, Implies, Iff, Quantified}
+use Rattle.rml_terms.specs.declared.tree.Name.{Name}
+use Rattle.rml_terms.specs.declared.tree.Binder.{Binder}
+use Rattle.rml_terms.specs.Tree.{ExprTree, True, False, Apply, Ite, Equal, Not, And, Or, Implies, Iff, Quantified}
 use Rattle.rml_command.specs.declared.names.Names.{Names}
 use Rattle.rml_command.specs.Models.{ModelTree}
 use Rattle.rml_names.specs.declared.meaning.Meaning.{Meaning}

@@ -2,9 +2,9 @@
 -- here, since it is an induction over trees that no clause speaks of.
 use Rattle.std.specs.Prelude.{◌≤◌, ℕ, zero, suc}
 use Rattle.std.proofs.Common.{arith}
-use Rattle.rml_syntax.specs.Tree.{ExprTree, ExprTrees, True, False, Apply, Ite, Equal, Not, And, Or, Implies, Iff}
-use Rattle.rml_syntax.specs.Tree.{Quantified, no_expr, and_expr}
-use Rattle.rml_syntax.specs.Shape.{ExprNests, ExprsNest}
+use Rattle.rml_terms.specs.Tree.{ExprTree, ExprTrees, True, False, Apply, Ite, Equal, Not, And, Or, Implies, Iff}
+use Rattle.rml_terms.specs.Tree.{Quantified, no_expr, and_expr}
+use Rattle.rml_terms.specs.Shape.{ExprNests, ExprsNest}
 
 -- an expression that nests at most n binders nests at most so many
 mutual

@@ -1,7 +1,7 @@
 // The model of the items that were read so far, and what a name means there.
 ghost use Rattle.std.specs.Prelude.{◌≡◌, ◌≤◌, ◌+◌, length};
 ghost use Rattle.fol_sig.specs.Tables.{numbers};
-ghost use Rattle.rml_syntax.specs.Within.{NameWithin};
+ghost use Rattle.rml_terms.specs.Within.{NameWithin};
 ghost use Rattle.rml_names.specs.Meanings.{bytes_of, place_among, symbol_of, is_symbol};
 ghost use Rattle.rml_names.specs.Meanings.{argument_sorts as sorts_of_arguments, result_sort as sort_of_result};
 ghost use Rattle.rml_names.specs.Meanings.{meaning_from, name_count};
@@ -15,7 +15,7 @@ use crate::table::NameTable;
 use fol_formula::Sentence;
 use fol_sig::{FunId, RelId, Signature, Sort};
 use rml_command::{Command, Condition};
-use rml_syntax::Name;
+use rml_terms::Name;
 
 /// The names of what is declared, those of each kind in a table.
 #[derive(Drop)]

@@ -2,8 +2,8 @@
 // there is room for it; that a text demands both is the business of the crates above.
 ghost use Rattle.std.specs.Prelude.{◌≡◌, ◌<◌, ◌+◌, ◌++◌, ◌∷◌, [], false, length, map, OnOk, IfOk};
 ghost use Rattle.fol_sig.specs.Tables.{AreSorts};
-ghost use Rattle.rml_syntax.specs.declared.tree.Name.{Name};
-ghost use Rattle.rml_syntax.specs.Within.{NameWithin};
+ghost use Rattle.rml_terms.specs.declared.tree.Name.{Name};
+ghost use Rattle.rml_terms.specs.Within.{NameWithin};
 ghost use Rattle.rml_command.specs.View.{command as command_view};
 ghost use Rattle.rml_command.specs.Models.{IsModel};
 ghost use Rattle.rml_names.specs.Meanings.{bytes_of, is_among, max_names, name_count, is_symbol};
@@ -17,7 +17,7 @@ use base::{Mem, Row};
 use fol_formula::Sentence;
 use fol_sig::{Signature, Sort, Sorts};
 use rml_command::{Command, Condition, Model, Names, Parts, Places};
-use rml_syntax::Name;
+use rml_terms::Name;
 use std::alloc::Global;
 
 // No name of any kind.

@@ -5,10 +5,10 @@ use Rattle.std.proofs.lemmas.List.{drop_more, take_rest}
 use Rattle.fol_sig.specs.declared.Sort.{Sort}
 use Rattle.fol_sig.specs.Tables.{numbers}
 use Rattle.rml_lex.specs.declared.token.Fault.{Fault}
-use Rattle.rml_syntax.specs.declared.tree.Expr.{Expr}
-use Rattle.rml_syntax.specs.declared.tree.Name.{Name}
-use Rattle.rml_syntax.specs.Tree.{ExprTree, ExprTrees, Apply, Ite, Equal, Implies, Iff, no_expr, and_expr, exprs_of}
-use Rattle.rml_syntax.specs.Tree.{expr_tree, expr_trees}
+use Rattle.rml_terms.specs.declared.tree.Expr.{Expr}
+use Rattle.rml_terms.specs.declared.tree.Name.{Name}
+use Rattle.rml_terms.specs.Tree.{ExprTree, ExprTrees, Apply, Ite, Equal, Implies, Iff, no_expr, and_expr, exprs_of}
+use Rattle.rml_terms.specs.Tree.{expr_tree, expr_trees}
 use Rattle.rml_command.specs.Models.{ModelTree}
 use Rattle.rml_names.specs.declared.meaning.Meaning.{Meaning}
 use Rattle.rml_sort_check.specs.declared.wanted.Wanted.{Wanted}

@@ -1,7 +1,7 @@
 -- An expression under at most 8 names.
 use Rattle.std.proofs.Common.{◌≤◌, ◌-◌, ℕ, arith}
-use Rattle.rml_syntax.specs.Tree.{ExprTree, ExprTrees}
-use Rattle.rml_syntax.specs.Shape.{ExprNests, ExprsNest}
+use Rattle.rml_terms.specs.Tree.{ExprTree, ExprTrees}
+use Rattle.rml_terms.specs.Shape.{ExprNests, ExprsNest}
 use Rattle.rml_names.specs.Nesting.{nests_more, nest_more}
 
 -- under at most 8 names a hundred binders may stand

@@ -6,10 +6,11 @@ use Rattle.std.specs.Prelude.{◌++◌, length, Option, Some, None}
 use Rattle.rml_lex.specs.declared.token.Fault.{Fault}
 use Rattle.rml_lex.specs.declared.fault_code.FaultCode.{FaultCode}
 use Rattle.rml_lex.specs.declared.fault_code.FaultCode.TheVariants as fault_code
-use Rattle.rml_syntax.specs.declared.tree.Name.{Name}
-use Rattle.rml_syntax.specs.declared.tree.Binder.{Binder}
-use Rattle.rml_syntax.specs.Tree.{ExprTree, ExprTrees, True, False, Apply, Ite, Equal, Not, And, Or, Implies, Iff}
-use Rattle.rml_syntax.specs.Tree.{Quantified, no_expr, and_expr, CommandTree, Block, Blocks, Skip, Abort, Assume}
+use Rattle.rml_terms.specs.declared.tree.Name.{Name}
+use Rattle.rml_terms.specs.declared.tree.Binder.{Binder}
+use Rattle.rml_terms.specs.Tree.{ExprTree, ExprTrees, True, False, Apply, Ite, Equal, Not, And, Or, Implies, Iff}
+use Rattle.rml_terms.specs.Tree.{Quantified, no_expr, and_expr}
+use Rattle.rml_syntax.specs.Tree.{CommandTree, Block, Blocks, Skip, Abort, Assume}
 use Rattle.rml_syntax.specs.Tree.{Assert, If, Choose, Insert, Remove, Put, Assign, no_command, and_command, no_block}
 use Rattle.rml_syntax.specs.Tree.{and_block}
 use Rattle.rml_command.specs.Models.{ModelTree}

@@ -1,10 +1,10 @@
 // The first fault of an expression where it stands.
 ghost use Rattle.std.specs.Prelude.{◌≡◌, ◌≤◌, ◌-◌, ◌++◌, [], ◌∷◌, None, Some, if◌then◌else◌, length};
 ghost use Rattle.fol_sig.specs.Tables.{numbers};
-ghost use Rattle.rml_syntax.specs.Tree.{expr_tree, expr_trees, exprs_of, Apply as ApplyTree};
-ghost use Rattle.rml_syntax.specs.Tree.{Quantified as QuantifiedTree};
-ghost use Rattle.rml_syntax.specs.Shape.{ExprNests, ExprsNest};
-ghost use Rattle.rml_syntax.specs.Within.{ExprWithin, ExprsWithin};
+ghost use Rattle.rml_terms.specs.Tree.{expr_tree, expr_trees, exprs_of, Apply as ApplyTree};
+ghost use Rattle.rml_terms.specs.Tree.{Quantified as QuantifiedTree};
+ghost use Rattle.rml_terms.specs.Shape.{ExprNests, ExprsNest};
+ghost use Rattle.rml_terms.specs.Within.{ExprWithin, ExprsWithin};
 ghost use Rattle.rml_sort_check.specs.declared.wanted.Wanted.TheVariants.{Formula, Term};
 ghost use Rattle.rml_names.specs.Meanings.{bytes_of, is_known as means_known, is_relation as means_relation, binding};
 ghost use Rattle.rml_names.specs.Meanings.{term_sort as sort_of_term};
@@ -21,7 +21,7 @@ use crate::wanted::Wanted;
 use fol_sig::Sort;
 use rml_lex::{Fault, FaultCode};
 use rml_names::{Meaning, ModelDraft, Scope, bytes};
-use rml_syntax::{Binder, Expr, Name, Quantifier};
+use rml_terms::{Binder, Expr, Name, Quantifier};
 
 // The fault of one demand.
 pub fn fault_unless(met: bool, code: FaultCode, at: u64) -> Option<Fault>

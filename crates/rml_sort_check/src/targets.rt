@@ -1,9 +1,11 @@
 // The first fault of the left side of an update, and of what becomes of it.
 ghost use Rattle.std.specs.Prelude.{◌≡◌, ◌==◌, ◌||◌, ◌≤◌, is_some, ◌+◌, ◌++◌, ◌∷◌, [], None, Some, length, option_map};
 ghost use Rattle.fol_sig.specs.Tables.{numbers};
-ghost use Rattle.rml_syntax.specs.Tree.{expr_tree, expr_trees, exprs_of};
-ghost use Rattle.rml_syntax.specs.Shape.{ExprNests, ExprsNest, SideNests};
-ghost use Rattle.rml_syntax.specs.Within.{NameWithin, NamesWithin, ExprWithin, ExprsWithin, ValueWithin};
+ghost use Rattle.rml_terms.specs.Tree.{expr_tree, expr_trees, exprs_of};
+ghost use Rattle.rml_terms.specs.Shape.{ExprNests, ExprsNest};
+ghost use Rattle.rml_syntax.specs.Shape.{SideNests};
+ghost use Rattle.rml_terms.specs.Within.{NameWithin, NamesWithin, ExprWithin, ExprsWithin};
+ghost use Rattle.rml_syntax.specs.Within.{ValueWithin};
 ghost use Rattle.rml_sort_check.specs.declared.wanted.Wanted.TheVariants.{Formula, Term};
 ghost use Rattle.rml_names.specs.Meanings.{bytes_of, symbol_of, is_among, argument_sorts as sorts_of_arguments};
 ghost use Rattle.rml_names.specs.Meanings.{result_sort as sort_of_result, is_variable as means_variable};
@@ -21,7 +23,7 @@ use crate::wanted::Wanted;
 use fol_sig::Sort;
 use rml_lex::{Fault, FaultCode};
 use rml_names::{Meaning, ModelDraft, Scope, bytes};
-use rml_syntax::{Expr, Name};
+use rml_terms::{Expr, Name};
 
 // A fault where a name begins.
 fn fault_at(code: FaultCode, name: Name) -> Fault

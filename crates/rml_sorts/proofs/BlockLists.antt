@@ -7,7 +7,8 @@ use Rattle.base.proofs.Lists.{drop_read}
 use Rattle.rml_syntax.specs.declared.tree.Command.{Command}
 use Rattle.rml_syntax.specs.declared.tree.Command.TheVariants as variants
 use Rattle.rml_syntax.specs.Tree as syntax
-use Rattle.rml_syntax.specs.Tree.{Block, no_command, and_command, Blocks, no_block, and_block, expr_tree, command_step}
+use Rattle.rml_terms.specs.Tree.{expr_tree}
+use Rattle.rml_syntax.specs.Tree.{Block, no_command, and_command, Blocks, no_block, and_block, command_step}
 use Rattle.rml_syntax.specs.Tree.{command_tree, command_trees, block_of, block_trees, blocks_of}
 use Rattle.rml_syntax.specs.Shape.{CommandNests, BlockNests, BlocksNest, CommandsNest}
 use Rattle.rml_syntax.specs.Within.{CommandWithin, BlockWithin, BlocksWithin, CommandsWithin}
@@ -24,7 +25,7 @@ use Rattle.rml_lex.specs.declared.token.Fault.{Fault}
 use Rattle.rml_sort_check.specs.Firsts.{first_right}
 use Rattle.rml_sorts.proofs.Answered.{Refuses, refuses_as, refuses_left}
 use Rattle.rml_elaborate.specs.Branches.{tree-choice}
-use Rattle.rml_syntax.specs.declared.tree.Expr.{Expr}
+use Rattle.rml_terms.specs.declared.tree.Expr.{Expr}
 use Rattle.rml_syntax.specs.declared.tree.Command.TheViews.{rolls-If}
 use Rattle.rml_syntax.specs.declared.tree.Command.TheOpen as opened
 use Rattle.rml_syntax.specs.declared.tree.Command.TheFolds.{fold-roll-Command}

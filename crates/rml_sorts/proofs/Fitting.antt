@@ -10,11 +10,11 @@ use Rattle.fol_formula.specs.Syntax.{FormTree, TermTrees}
 use Rattle.fol_formula.specs.Fits.{FitsForm, FitsForms, FitsTerm, FitsTerms}
 use Rattle.rml_lex.specs.declared.token.Fault.{Fault}
 use Rattle.rml_lex.specs.declared.fault_code.FaultCode.TheVariants as fault_code
-use Rattle.rml_syntax.specs.declared.tree.Name.{Name}
-use Rattle.rml_syntax.specs.declared.tree.Quantifier.{Quantifier}
-use Rattle.rml_syntax.specs.declared.tree.Quantifier.TheVariants.{Forall, Exists}
-use Rattle.rml_syntax.specs.Tree.{ExprTree, ExprTrees, True, False, Apply, Ite, Equal, Not, And, Or, Implies, Iff}
-use Rattle.rml_syntax.specs.Tree.{Quantified, no_expr, and_expr}
+use Rattle.rml_terms.specs.declared.tree.Name.{Name}
+use Rattle.rml_terms.specs.declared.tree.Quantifier.{Quantifier}
+use Rattle.rml_terms.specs.declared.tree.Quantifier.TheVariants.{Forall, Exists}
+use Rattle.rml_terms.specs.Tree.{ExprTree, ExprTrees, True, False, Apply, Ite, Equal, Not, And, Or, Implies, Iff}
+use Rattle.rml_terms.specs.Tree.{Quantified, no_expr, and_expr}
 use Rattle.rml_command.specs.Models.{ModelTree, IsNamed}
 use Rattle.rml_names.specs.declared.meaning.Meaning.{Meaning}
 use Rattle.rml_names.specs.declared.meaning.Meaning.TheVariants as meaning

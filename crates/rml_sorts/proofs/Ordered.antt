@@ -21,14 +21,16 @@ use Rattle.std.proofs.Common.{
 }
 use Rattle.std.specs.List.{AllByRecursion}
 use Rattle.rml_lex.specs.declared.token.Fault.{Fault}
-use Rattle.rml_syntax.specs.declared.tree.Name.{Name}
+use Rattle.rml_terms.specs.declared.tree.Name.{Name}
 use Rattle.rml_syntax.specs.Tree as syntax
-use Rattle.rml_syntax.specs.Tree.{ExprTree, ExprTrees, True, False, Apply, Ite, Equal, Not, And, Or, Implies, Iff}
-use Rattle.rml_syntax.specs.Tree.{Quantified, no_expr, and_expr, Block, Blocks, Skip, Abort, Assume, Assert, If, Choose}
+use Rattle.rml_terms.specs.Tree.{ExprTree, ExprTrees, True, False, Apply, Ite, Equal, Not, And, Or, Implies, Iff}
+use Rattle.rml_terms.specs.Tree.{Quantified, no_expr, and_expr}
+use Rattle.rml_syntax.specs.Tree.{Block, Blocks, Skip, Abort, Assume, Assert, If, Choose}
 use Rattle.rml_syntax.specs.Tree.{Insert, Remove, Put, Assign, no_command, and_command, no_block, and_block, ItemTree}
 use Rattle.rml_syntax.specs.Tree.{CommandTree, Relation, Function, Variable, Axiom, Conjecture, Init, Action, Final}
 use Rattle.rml_syntax.specs.Tree.{block_of}
-use Rattle.rml_syntax.specs.Places.{AscendBetween, name_places, places_in, places_of_exprs, places_of_expr}
+use Rattle.rml_phrases.specs.Ascending.{AscendBetween}
+use Rattle.rml_terms.specs.Places.{name_places, places_in, places_of_exprs, places_of_expr}
 use Rattle.rml_syntax.specs.Places.{places_of_side, places_of_command, places_of_block, places_of_blocks}
 use Rattle.rml_syntax.specs.Places.{places_of_item, places_of_items}
 use Rattle.rml_command.specs.Models.{ModelTree}

@@ -3,10 +3,10 @@ use Rattle.std.proofs.Common.{◌≡◌, ℕ, Bool, true, false, List, [], ◌�
 use Rattle.fol_formula.specs.Syntax.{FormTree, TermTrees}
 use Rattle.fol_formula.specs.Fragments.{IsQuantifierFree, AreQuantifierFree, IsQuantifierFreeTerm}
 use Rattle.fol_formula.specs.Fragments.{AreQuantifierFreeTerms, HasPlainTerms, HavePlainTerms}
-use Rattle.rml_syntax.specs.declared.tree.Quantifier.{Quantifier}
-use Rattle.rml_syntax.specs.declared.tree.Quantifier.TheVariants.{Forall, Exists}
-use Rattle.rml_syntax.specs.Tree.{ExprTree, ExprTrees, True, False, Apply, Ite, Equal, Not, And, Or, Implies, Iff}
-use Rattle.rml_syntax.specs.Tree.{Quantified, no_expr, and_expr}
+use Rattle.rml_terms.specs.declared.tree.Quantifier.{Quantifier}
+use Rattle.rml_terms.specs.declared.tree.Quantifier.TheVariants.{Forall, Exists}
+use Rattle.rml_terms.specs.Tree.{ExprTree, ExprTrees, True, False, Apply, Ite, Equal, Not, And, Or, Implies, Iff}
+use Rattle.rml_terms.specs.Tree.{Quantified, no_expr, and_expr}
 use Rattle.rml_command.specs.Models.{ModelTree}
 use Rattle.rml_names.specs.declared.meaning.Meaning.{Meaning}
 use Rattle.rml_names.specs.declared.meaning.Meaning.TheVariants as meaning

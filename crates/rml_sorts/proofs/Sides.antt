@@ -8,8 +8,8 @@ use Rattle.fol_sig.specs.Symbols.{Symbols, symbols, AreSorted}
 use Rattle.fol_formula.specs.Syntax.{TermTree, TermTrees, bound, no_terms, term_then}
 use Rattle.fol_formula.specs.Fits.{FitsForm, FitsForms, FitsTerm, FitsTerms}
 use Rattle.rml_lex.specs.declared.fault_code.FaultCode.TheVariants as fault_code
-use Rattle.rml_syntax.specs.declared.tree.Name.{Name}
-use Rattle.rml_syntax.specs.Tree.{ExprTree, ExprTrees}
+use Rattle.rml_terms.specs.declared.tree.Name.{Name}
+use Rattle.rml_terms.specs.Tree.{ExprTree, ExprTrees}
 use Rattle.rml_command.specs.Models.{ModelTree, IsNamed, FitsPrimitive}
 use Rattle.rml_names.specs.declared.meaning.Meaning.{Meaning}
 use Rattle.rml_names.specs.declared.meaning.Meaning.TheVariants as meaning

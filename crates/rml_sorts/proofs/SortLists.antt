@@ -8,8 +8,8 @@ use Rattle.fol_sig.specs.declared.Sort.{Sort}
 use Rattle.fol_sig.specs.Tables.{AreSorts, numbers}
 use Rattle.std.proofs.lemmas.List.{length-map}
 use Rattle.base.proofs.Lists.{drop_read}
-use Rattle.rml_syntax.specs.declared.tree.Name.{Name}
-use Rattle.rml_syntax.specs.Within.{NamesWithin}
+use Rattle.rml_terms.specs.declared.tree.Name.{Name}
+use Rattle.rml_terms.specs.Within.{NamesWithin}
 use Rattle.rml_command.specs.Models.{ModelTree}
 use Rattle.rml_sort_check.specs.Demands.{asks, first_fault}
 use Rattle.rml_sorts.specs.Items.{sort_known, sort_demands}

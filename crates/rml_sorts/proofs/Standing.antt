@@ -2,13 +2,15 @@
 use Rattle.std.proofs.Common.{◌≤◌, ℕ, Bool, true, false, if◌then◌else◌, List, [], ◌∷◌, ◌++◌, Option, Some, None, arith}
 use Rattle.std.specs.List.{AllByRecursion}
 use Rattle.base.proofs.Lists.{all_append, all_push}
-use Rattle.rml_syntax.specs.declared.tree.Name.{Name}
+use Rattle.rml_terms.specs.declared.tree.Name.{Name}
 use Rattle.rml_syntax.specs.Tree as syntax
-use Rattle.rml_syntax.specs.Tree.{ExprTree, ExprTrees, True, False, Apply, Ite, Equal, Not, And, Or, Implies, Iff}
-use Rattle.rml_syntax.specs.Tree.{Quantified, no_expr, and_expr, Block, Blocks, Skip, Abort, Assume, Assert, If, Choose}
+use Rattle.rml_terms.specs.Tree.{ExprTree, ExprTrees, True, False, Apply, Ite, Equal, Not, And, Or, Implies, Iff}
+use Rattle.rml_terms.specs.Tree.{Quantified, no_expr, and_expr}
+use Rattle.rml_syntax.specs.Tree.{Block, Blocks, Skip, Abort, Assume, Assert, If, Choose}
 use Rattle.rml_syntax.specs.Tree.{Insert, Remove, Put, Assign, no_command, and_command, no_block, and_block, ItemTree}
 use Rattle.rml_syntax.specs.Tree.{Relation, Function, Variable, Axiom, Conjecture, Init, Action, Final, block_of}
-use Rattle.rml_syntax.specs.Within.{NameWithin, ExprWithin, ExprsWithin, ValueWithin, CommandWithin, BlockWithin}
+use Rattle.rml_terms.specs.Within.{NameWithin, ExprWithin, ExprsWithin}
+use Rattle.rml_syntax.specs.Within.{ValueWithin, CommandWithin, BlockWithin}
 use Rattle.rml_syntax.specs.Within.{BlocksWithin, CommandsWithin, ItemWithin, TreeWithin}
 use Rattle.rml_command.specs.Models.{ModelTree, ArePlacesWithin}
 use Rattle.rml_command.specs.declared.places.Condition.{Condition}

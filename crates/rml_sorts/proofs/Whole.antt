@@ -12,9 +12,10 @@ use Rattle.fol_sig.specs.Symbols.{symbols, AreSorted, no_function}
 use Rattle.fol_formula.specs.Fits.{FitsForm}
 use Rattle.fol_formula.specs.Fragments.{HasPlainTerms}
 use Rattle.rml_lex.specs.declared.fault_code.FaultCode.TheVariants as fault_code
-use Rattle.rml_syntax.specs.declared.tree.Name.{Name}
+use Rattle.rml_terms.specs.declared.tree.Name.{Name}
 use Rattle.rml_syntax.specs.Tree as syntax
-use Rattle.rml_syntax.specs.Tree.{ExprTree, ItemTree, Relation, Function, Variable, Axiom, Conjecture, Init, Action}
+use Rattle.rml_terms.specs.Tree.{ExprTree}
+use Rattle.rml_syntax.specs.Tree.{ItemTree, Relation, Function, Variable, Axiom, Conjecture, Init, Action}
 use Rattle.rml_syntax.specs.Tree.{Final, block_of}
 use Rattle.rml_syntax.specs.Shape.{BlockNests, CommandsNest, ItemNests}
 use Rattle.rml_command.specs.Trees.{CommandTree, EachPrimitive, HasBranches}

@@ -7,8 +7,9 @@ use Rattle.fol_sig.specs.Symbols.{symbols, AreSorted}
 use Rattle.fol_formula.specs.Syntax.{TermTree, TermTrees, no_terms, term_then}
 use Rattle.fol_formula.specs.Fits.{FitsForm}
 use Rattle.fol_formula.specs.Fragments.{HasPlainTerms, AreQuantifierFree, IsQuantifierFreeTerm, AreQuantifierFreeTerms}
-use Rattle.rml_syntax.specs.declared.tree.Name.{Name}
-use Rattle.rml_syntax.specs.Tree.{ExprTree, Block, Blocks, Skip, Abort, Assume, Assert, If, Choose, Insert}
+use Rattle.rml_terms.specs.declared.tree.Name.{Name}
+use Rattle.rml_terms.specs.Tree.{ExprTree}
+use Rattle.rml_syntax.specs.Tree.{Block, Blocks, Skip, Abort, Assume, Assert, If, Choose, Insert}
 use Rattle.rml_syntax.specs.Tree.{Remove, Put, Assign, no_command, and_command, no_block, and_block}
 use Rattle.rml_syntax.specs.Tree as syntax
 use Rattle.rml_syntax.specs.Shape.{CommandNests, BlockNests, BlocksNest}

@@ -3,7 +3,7 @@
 use Rattle.std.specs.Prelude.{ℕ, suc, ◌+◌, nat_lt, Bool, true, false, not, is_some, List, [], ◌∷◌, ◌++◌, map, Option}
 use Rattle.rml_lex.specs.declared.token.Fault.{Fault}
 use Rattle.rml_lex.specs.declared.fault_code.FaultCode.TheVariants as fault_code
-use Rattle.rml_syntax.specs.declared.tree.Name.{Name}
+use Rattle.rml_terms.specs.declared.tree.Name.{Name}
 use Rattle.rml_syntax.specs.Tree as syntax
 use Rattle.rml_syntax.specs.Tree.{ItemTree, Relation, Function, Variable, Axiom, Conjecture, Init, Action, Final}
 use Rattle.rml_syntax.specs.Tree.{block_of}

@@ -6,7 +6,8 @@ use Rattle.rml_lex.specs.Tokens.{StandsBy}
 use Rattle.rml_syntax.specs.Tree.{ItemTree}
 use Rattle.rml_syntax.specs.Shape.{IsShaped}
 use Rattle.rml_syntax.specs.Within.{TreeWithin}
-use Rattle.rml_syntax.specs.Places.{Ascend, places_of_items}
+use Rattle.rml_phrases.specs.Ascending.{Ascend}
+use Rattle.rml_syntax.specs.Places.{places_of_items}
 use Rattle.rml_command.specs.Models.{IsModel, ArePlacesWithin}
 use Rattle.rml_sort_check.specs.Demands.{Demand}
 use Rattle.rml_sorts.specs.Items.{no_items, items_demands, model_of, fault_of}

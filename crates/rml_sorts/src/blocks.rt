@@ -1,11 +1,14 @@
 // Blocks: each command is judged, and made into one of primitives.
 ghost use Rattle.std.specs.Prelude.{◌≡◌, ◌++◌, [], length, OnOk};
-ghost use Rattle.rml_syntax.specs.Tree.{expr_tree, exprs_of, expr_trees, command_tree, command_trees, block_of};
+ghost use Rattle.rml_terms.specs.Tree.{expr_tree, exprs_of, expr_trees};
+ghost use Rattle.rml_syntax.specs.Tree.{command_tree, command_trees, block_of};
 ghost use Rattle.rml_syntax.specs.Tree.{block_trees, blocks_of, CommandTree};
 ghost use Rattle.rml_syntax.specs.Tree as syntax;
-ghost use Rattle.rml_syntax.specs.Within.{ExprWithin, ExprsWithin, NameWithin, NamesWithin, ValueWithin, CommandWithin};
+ghost use Rattle.rml_terms.specs.Within.{ExprWithin, ExprsWithin, NameWithin, NamesWithin};
+ghost use Rattle.rml_syntax.specs.Within.{ValueWithin, CommandWithin};
 ghost use Rattle.rml_syntax.specs.Within.{BlockWithin, BlocksWithin};
-ghost use Rattle.rml_syntax.specs.Shape.{ExprNests, ExprsNest, SideNests, CommandNests, BlockNests, BlocksNest};
+ghost use Rattle.rml_terms.specs.Shape.{ExprNests, ExprsNest};
+ghost use Rattle.rml_syntax.specs.Shape.{SideNests, CommandNests, BlockNests, BlocksNest};
 ghost use Rattle.rml_command.specs.View.{command as command_view, commands as commands_view};
 ghost use Rattle.rml_command.specs.Trees.{seq, choose};
 ghost use Rattle.rml_sort_check.specs.Demands.{command_demands, block_demands, blocks_demands};
@@ -22,7 +25,7 @@ use rml_command::{Command, Condition, Primitive, Word};
 use rml_lex::Fault;
 use rml_names::ModelDraft;
 use rml_syntax as syntax;
-use rml_syntax::Expr;
+use rml_terms::Expr;
 use std::alloc::Global;
 
 pub fn sequence(commands: Vec<Command>) -> Command

@@ -1,10 +1,13 @@
 // Items: each is judged in the model of those before it, and added to the draft.
 ghost use Rattle.std.specs.Prelude.{◌≡◌, ℕ, List, ◌++◌, ◌∷◌, ◌<◌, [], None, length, map, IfOk};
 ghost use Rattle.fol_sig.specs.Tables.{AreSorts};
-ghost use Rattle.rml_syntax.specs.Tree.{expr_tree, command_trees, item_tree, block_of};
+ghost use Rattle.rml_terms.specs.Tree.{expr_tree};
+ghost use Rattle.rml_syntax.specs.Tree.{command_trees, item_tree, block_of};
 ghost use Rattle.rml_syntax.specs.Tree as syntax;
-ghost use Rattle.rml_syntax.specs.Within.{NameWithin, NamesWithin, ExprWithin, CommandsWithin, ItemWithin};
-ghost use Rattle.rml_syntax.specs.Shape.{ExprNests, CommandsNest, ItemNests};
+ghost use Rattle.rml_terms.specs.Within.{NameWithin, NamesWithin, ExprWithin};
+ghost use Rattle.rml_syntax.specs.Within.{CommandsWithin, ItemWithin};
+ghost use Rattle.rml_terms.specs.Shape.{ExprNests};
+ghost use Rattle.rml_syntax.specs.Shape.{CommandsNest, ItemNests};
 ghost use Rattle.rml_sort_check.specs.declared.wanted.Wanted.TheVariants as wanted;
 ghost use Rattle.rml_names.specs.Meanings.{bytes_of, is_among, sort_number};
 ghost use Rattle.rml_sort_check.specs.Demands.{first_fault, demands, block_demands};
@@ -27,7 +30,8 @@ use rml_elaborate::{add_block_quantifiers, add_quantifiers};
 use rml_lex::{Fault, FaultCode};
 use rml_names::{MAX_NAMES, ModelDraft, bytes};
 use rml_syntax as syntax;
-use rml_syntax::{Expr, Item, Name};
+use rml_syntax::Item;
+use rml_terms::{Expr, Name};
 use std::alloc::Global;
 
 // How many arguments a symbol may have.

@@ -1,9 +1,9 @@
 // Sentences, and the commands that are made of one.
 ghost use Rattle.std.specs.Prelude.{◌≡◌, ◌++◌, ◌∷◌, [], None, length, OnOk, IfOk};
 ghost use Rattle.fol_formula.specs.Syntax.{negation};
-ghost use Rattle.rml_syntax.specs.Tree.{expr_tree};
-ghost use Rattle.rml_syntax.specs.Within.{ExprWithin};
-ghost use Rattle.rml_syntax.specs.Shape.{ExprNests};
+ghost use Rattle.rml_terms.specs.Tree.{expr_tree};
+ghost use Rattle.rml_terms.specs.Within.{ExprWithin};
+ghost use Rattle.rml_terms.specs.Shape.{ExprNests};
 ghost use Rattle.rml_command.specs.View.{command as command_view, commands as commands_view};
 ghost use Rattle.rml_command.specs.Trees.{assume, prim, seq, choose, command_then, no_commands};
 ghost use Rattle.rml_sort_check.specs.declared.wanted.Wanted.TheVariants as wanted;
@@ -21,7 +21,7 @@ use rml_elaborate::formula_outside;
 use rml_lex::Fault;
 use rml_names::ModelDraft;
 use rml_sort_check::sentence_fault;
-use rml_syntax::Expr;
+use rml_terms::Expr;
 use std::alloc::Global;
 
 // The sentence of an expression whose names and sorts have no fault.

@@ -1,8 +1,10 @@
 // Updates: each is judged, and made into a primitive.
 ghost use Rattle.std.specs.Prelude.{[], length, option_map};
-ghost use Rattle.rml_syntax.specs.Tree.{expr_tree, exprs_of, expr_trees};
-ghost use Rattle.rml_syntax.specs.Within.{ExprWithin, ExprsWithin, NameWithin, NamesWithin, ValueWithin};
-ghost use Rattle.rml_syntax.specs.Shape.{ExprNests, ExprsNest, SideNests};
+ghost use Rattle.rml_terms.specs.Tree.{expr_tree, exprs_of, expr_trees};
+ghost use Rattle.rml_terms.specs.Within.{ExprWithin, ExprsWithin, NameWithin, NamesWithin};
+ghost use Rattle.rml_syntax.specs.Within.{ValueWithin};
+ghost use Rattle.rml_terms.specs.Shape.{ExprNests, ExprsNest};
+ghost use Rattle.rml_syntax.specs.Shape.{SideNests};
 ghost use Rattle.rml_command.specs.View.{command as command_view};
 ghost use Rattle.rml_command.specs.Trees.{prim};
 ghost use Rattle.rml_names.specs.Meanings.{bytes_of, symbol_of};
@@ -20,7 +22,7 @@ use rml_elaborate::{assignment, insertion, placement, removal};
 use rml_lex::Fault;
 use rml_names::ModelDraft;
 use rml_sort_check::{assign_fault, put_fault, tuple_fault};
-use rml_syntax::{Expr, Name};
+use rml_terms::{Expr, Name};
 use std::alloc::Global;
 
 // `insert`

@@ -1,158 +1,31 @@
--- Each production's reader is good: the proof of a production is the production, in the words of Pieces.
-use Rattle.std.proofs.Common.{ℕ, zero, suc, true, false, List, [], ◌∷◌, ◌++◌, Option, Some, None, refl}
+-- Each production's reader is good for its piece: the proof of a production is the production, in the words of Pieces.
+use Rattle.std.proofs.Common.{ℕ, zero, suc, true, false, List, [], ◌∷◌, ◌++◌, Some, None, refl}
 use Rattle.rml_lex.specs.declared.token.Kind.{Kind}
 use Rattle.rml_lex.specs.declared.token.Kind.TheVariants.{Word, Sign}
 use Rattle.rml_lex.specs.declared.token.Kind.TheVariants as kind
-use Rattle.rml_lex.specs.declared.token.Word.TheVariants.{
-  Rml,
-  Sort,
-  Relation,
-  Function,
-  Variable,
-  Axiom,
-  Conjecture,
-  Init,
-  Action,
-  Final,
-  Skip,
-  Abort,
-  Assume,
-  Assert,
-  If,
-  Else,
-  Choose,
-  Or,
-  Insert,
-  Remove,
-  Put,
-  Forall,
-  Exists,
-  True,
-  False,
-  Ite,
-}
-use Rattle.rml_lex.specs.declared.token.Sign.TheVariants.{
-  DoubleArrow,
-  Arrow,
-  Becomes,
-  NotEqual,
-  OpenBrace,
-  CloseBrace,
-  OpenParen,
-  CloseParen,
-  Comma,
-  Semicolon,
-  Colon,
-  Dot,
-  Equal,
-  Not as Tilde,
-  And as Ampersand,
-  Or as Bar,
-  Star,
-}
-use Rattle.rml_syntax.specs.declared.tree.Quantifier.TheVariants as quantifier
-use Rattle.rml_syntax.specs.Piece.{Piece, nothing, ◌⊗◌, ◌⇒◌}
+use Rattle.rml_lex.specs.declared.token.Word.TheVariants.{Rml, Sort, Relation, Function, Variable, Axiom, Conjecture}
+use Rattle.rml_lex.specs.declared.token.Word.TheVariants.{Init, Action, Final, Skip, Abort, Assume, Assert, If, Else}
+use Rattle.rml_lex.specs.declared.token.Word.TheVariants.{Choose, Or, Insert, Remove, Put}
+use Rattle.rml_lex.specs.declared.token.Sign.TheVariants.{Arrow, Becomes, OpenBrace, CloseBrace, OpenParen, Comma}
+use Rattle.rml_lex.specs.declared.token.Sign.TheVariants.{Semicolon, Colon, Equal, Star}
+use Rattle.rml_phrases.specs.Language.{or_none}
+use Rattle.rml_phrases.specs.Piece.{Piece, nothing, ◌⊗◌, ◌⇒◌, after}
+use Rattle.rml_phrases.specs.Reading.{Reader}
+use Rattle.rml_phrases.specs.Good.{Good, Inside, IsNothing}
+use Rattle.rml_phrases.proofs.Pieces.{a_terminal, both, made, either, at_most_once, any_number, a_list, wider}
+use Rattle.rml_phrases.proofs.Pieces.{enclosing, leading, separating, no_listed}
+use Rattle.rml_terms.specs.Grammar.{name, parameters, enclosed, arguments, expr}
+use Rattle.rml_terms.specs.Reading.{parameters_at, enclosed_at, arguments_at, expr_at}
+use Rattle.rml_terms.specs.Laws.{AreRead, expr_starts, after_expr, after_exprs}
 use Rattle.rml_syntax.specs.Tree as node
-use Rattle.rml_syntax.specs.Tree.{name_of, or_none, applied, conditional, compared, negated, joined, implied, equivalent, binder_of, quantified, assumed, asserted, branched, choice, inserted, removed, putting, assigned}
+use Rattle.rml_syntax.specs.Tree.{assumed, asserted, branched, choice, inserted, removed, putting, assigned}
 use Rattle.rml_syntax.specs.Grammar as g
-use Rattle.rml_syntax.specs.Grammar.{Inner, after, separated, named, level, no_inner, file}
-use Rattle.rml_syntax.specs.Reading.{
-  Inners,
-  piece,
-  Reader,
-  inners,
-  name_at,
-  names_at,
-  named_at,
-  parameters_at,
-  binder_at,
-  enclosed_at,
-  arguments_at,
-  prim_at,
-  comparison_at,
-  cmp_at,
-  unary_at,
-  and_at,
-  or_at,
-  imp_at,
-  iff_at,
-  expr_at,
-  bound_at,
-  exprs_at,
-  three_at,
-  block_at,
-  else_block_at,
-  value_at,
-  called_at,
-  if_at,
-  put_at,
-  assign_at,
-  cmd_at,
-  cmd_starts,
-  cmds_at,
-  item_at,
-  item_starts,
-  items_at,
-}
-use Rattle.rml_syntax.proofs.Exact.{Some_of, some_terminal}
-use Rattle.rml_syntax.proofs.Pieces.{
-  Good,
-  Inside,
-  IsNothing,
-  a_terminal,
-  both,
-  made,
-  with_place,
-  either,
-  at_most_once,
-  any_number,
-  a_list,
-  opening,
-  wider,
-  enclosing,
-  leading,
-  separating,
-  some_both,
-  some_made,
-  some_placed,
-  some_left,
-  some_right,
-  no_optional,
-  no_many,
-  no_listed,
-}
+use Rattle.rml_syntax.specs.Grammar.{Inner, named, inside, level, file}
+use Rattle.rml_syntax.specs.Reading.{Inners, inside_at, inners, named_at, block_at, else_block_at, value_at, called_at}
+use Rattle.rml_syntax.specs.Reading.{if_at, put_at, assign_at, cmd_at, cmd_starts, cmds_at, item_at, item_starts}
+use Rattle.rml_syntax.specs.Reading.{items_at}
 
--- ---- what a piece begins with, and what it may go on with
-
-abbrev pub prim_starts : List Kind
-prim_starts = Word True ∷ Word False ∷ kind.Name ∷ Word Ite ∷ Sign OpenParen ∷ []
-
-abbrev pub unary_starts : List Kind
-unary_starts = Sign Tilde ∷ prim_starts
-
-abbrev pub expr_starts : List Kind
-expr_starts = Word Forall ∷ Word Exists ∷ unary_starts
-
-abbrev pub after_prim : List Kind
-after_prim = Sign OpenParen ∷ []
-
-abbrev pub after_cmp : List Kind
-after_cmp = Sign Equal ∷ Sign NotEqual ∷ Sign OpenParen ∷ []
-
-abbrev pub after_and : List Kind
-after_and = Sign Ampersand ∷ after_cmp
-
-abbrev pub after_or : List Kind
-after_or = Sign Bar ∷ after_and
-
-abbrev pub after_imp : List Kind
-after_imp = Sign Arrow ∷ after_or
-
-abbrev pub after_expr : List Kind
-after_expr = Sign DoubleArrow ∷ after_imp
-
-abbrev pub after_exprs : List Kind
-after_exprs = Sign Comma ∷ after_expr
+-- ---- what a piece may go on with
 
 abbrev pub after_cmd : List Kind
 after_cmd = Word Else ∷ Word Or ∷ after_expr
@@ -160,256 +33,120 @@ after_cmd = Word Else ∷ Word Or ∷ after_expr
 abbrev pub after_cmds : List Kind
 after_cmds = Sign Semicolon ∷ (after_cmd ++ cmd_starts)
 
--- ---- what is one level deeper
+-- ---- the terms, and what is one level deeper
 
-pub record Deeper (o r : Option Inners) (I J : Inner) : Type 0 where
-  pub expr : Inside (piece (λ x. x.expr) o) (piece (λ x. x.expr) r) I.expr J.expr expr_starts after_expr false
-  pub three : Inside (piece (λ x. x.three) o) (piece (λ x. x.three) r) I.three J.three expr_starts after_expr false
-  pub imp : Inside (piece (λ x. x.imp) o) (piece (λ x. x.imp) r) I.imp J.imp unary_starts after_imp false
-  pub unary : Inside (piece (λ x. x.unary) o) (piece (λ x. x.unary) r) I.unary J.unary unary_starts after_cmp false
-  pub bound : Inside (piece (λ x. x.bound) o) (piece (λ x. x.bound) r) I.bound J.bound (kind.Name ∷ []) after_expr false
-  pub names : Inside (piece (λ x. x.names) o) (piece (λ x. x.names) r) I.names J.names (kind.Name ∷ [])
-      (Sign Comma ∷ []) false
-  pub exprs : Inside (piece (λ x. x.exprs) o) (piece (λ x. x.exprs) r) I.exprs J.exprs expr_starts after_exprs false
-  pub cmds : Inside (piece (λ x. x.cmds) o) (piece (λ x. x.cmds) r) I.cmds J.cmds cmd_starts after_cmds true
-
--- ---- the productions
-
-pub name_good : Good name_at name_at g.name g.name (kind.Name ∷ []) [] false
-name_good = made name_of (a_terminal kind.Name)
-
-pub names_good : Good names_at names_at g.names g.names (kind.Name ∷ []) (Sign Comma ∷ []) false
-unfolding names_at
-names_good = separating (Sign Comma) name_good refl
-
-naming : {A : Type 0} {p q : Reader A} {a b : Piece A} {f m : List Kind} → Good p q a b f m false
-    → Good (named_at p) (named_at q) (named a) (named b) (kind.Name ∷ []) m false
-naming P = both name_good (leading (Sign Colon) P) refl
-
-pub binder_good : Good binder_at binder_at g.binder g.binder (kind.Name ∷ []) [] false
-unfolding binder_at
-binder_good = made binder_of (naming name_good)
-
-comparison_good : Good comparison_at comparison_at g.comparison g.comparison (Sign Equal ∷ Sign NotEqual ∷ []) [] false
-unfolding comparison_at
-comparison_good = either (made (λ t. true) (a_terminal (Sign Equal))) (made (λ t. false) (a_terminal (Sign NotEqual)))
-    refl
-
-module _ (o r : Option Inners) (I J : Inner) (d : Deeper o r I J) where
-  pub parameters_good : Good (parameters_at o) (parameters_at r) (g.parameters I) (g.parameters J)
+pub record Deeper (o r : Inners) (I J : Inner) : Type 0 where
+  pub parameters : Good (parameters_at o.terms) (parameters_at r.terms) (parameters I.terms) (parameters J.terms)
       (Sign OpenParen ∷ []) (Sign OpenParen ∷ []) true
-  unfolding parameters_at
-  parameters_good = made or_none (at_most_once (enclosing (Sign OpenParen) (Sign CloseParen) d.names refl))
+  pub enclosed : Good (enclosed_at o.terms) (enclosed_at r.terms) (enclosed I.terms) (enclosed J.terms)
+      (Sign OpenParen ∷ []) [] false
+  pub arguments : Good (arguments_at o.terms) (arguments_at r.terms) (arguments I.terms) (arguments J.terms)
+      (Sign OpenParen ∷ []) (Sign OpenParen ∷ []) true
+  pub expr : Good (expr_at o.terms) (expr_at r.terms) (expr I.terms) (expr J.terms) expr_starts after_expr false
+  pub cmds : Inside o.cmds r.cmds I.cmds J.cmds cmd_starts after_cmds true
 
-  enclosed_good : Good (enclosed_at o) (enclosed_at r) (g.enclosed I) (g.enclosed J) (Sign OpenParen ∷ []) [] false
-  enclosed_good = enclosing (Sign OpenParen) (Sign CloseParen) d.exprs refl
+module _ (terms : AreRead) where
+  -- ---- the productions
 
-  pub arguments_good : Good (arguments_at o) (arguments_at r) (g.arguments I) (g.arguments J) (Sign OpenParen ∷ [])
-      (Sign OpenParen ∷ []) true
-  unfolding arguments_at
-  arguments_good = made or_none (at_most_once enclosed_good)
+  naming : {A : Type 0} {p q : Reader A} {a b : Piece A} {f m : List Kind} → Good p q a b f m false
+      → Good (named_at p) (named_at q) (named a) (named b) (kind.Name ∷ []) m false
+  naming P = both terms.name (leading (Sign Colon) P) refl
 
-  pub prim_good : Good (prim_at o) (prim_at r) (g.prim I) (g.prim J) prim_starts after_prim false
-  unfolding prim_at
-  prim_good =
-      either (made (λ t. node.True t.start) (a_terminal (Word True)))
-      (either (made (λ t. node.False t.start) (a_terminal (Word False)))
-      (either (made applied (both name_good arguments_good refl))
-      (either (made conditional (both (a_terminal (Word Ite))
-      (enclosing (Sign OpenParen) (Sign CloseParen) d.three refl) refl))
-      (enclosing (Sign OpenParen) (Sign CloseParen) d.expr refl) refl) refl) refl) refl
+  module _ (o r : Inners) (I J : Inner) (d : Deeper o r I J) where
+    pub block_good : Good (block_at o) (block_at r) (g.block I) (g.block J) (Sign OpenBrace ∷ []) [] false
+    unfolding block_at
+    block_good = enclosing (Sign OpenBrace) (Sign CloseBrace) d.cmds refl
 
-  pub cmp_good : Good (cmp_at o) (cmp_at r) (g.cmp I) (g.cmp J) prim_starts after_cmp false
-  unfolding cmp_at
-  cmp_good = wider (made compared (with_place
-      (both prim_good (at_most_once (both comparison_good prim_good refl)) refl))) refl
+    else_block_good : Good (else_block_at o) (else_block_at r) (g.else_block I) (g.else_block J) (Word Else ∷ [])
+        (Word Else ∷ []) true
+    unfolding else_block_at
+    else_block_good = made or_none (at_most_once (leading (Word Else) block_good))
 
-  pub unary_good : Good (unary_at o) (unary_at r) (g.unary I) (g.unary J) unary_starts after_cmp false
-  unfolding unary_at
-  unary_good = wider (either (made negated (opening (Sign Tilde) d.unary)) cmp_good refl) refl
+    value_good : Good (value_at o) (value_at r) (g.value I) (g.value J) (Sign Star ∷ expr_starts) after_expr false
+    unfolding value_at
+    value_good = either (made (λ t. None) (a_terminal (Sign Star))) (made (λ e. Some e) d.expr) refl
 
-  pub and_good : Good (and_at o) (and_at r) (g.and I) (g.and J) unary_starts after_and false
-  unfolding and_at
-  and_good = wider (made (joined node.And) (with_place (separating (Sign Ampersand) unary_good refl))) refl
+    called_good : Good (called_at o) (called_at r) (name ⊗ arguments I.terms) (name ⊗ arguments J.terms)
+        (kind.Name ∷ []) (Sign OpenParen ∷ []) false
+    called_good = both terms.name d.arguments refl
 
-  pub or_good : Good (or_at o) (or_at r) (g.or I) (g.or J) unary_starts after_or false
-  unfolding or_at
-  or_good = wider (made (joined node.Or) (with_place (separating (Sign Bar) and_good refl))) refl
+    if_good : Good (if_at o) (if_at r) ((expr I.terms ⊗ g.block I) ⊗ g.else_block I)
+        ((expr J.terms ⊗ g.block J) ⊗ g.else_block J) expr_starts (Word Else ∷ []) false
+    if_good = both (both d.expr block_good refl) else_block_good refl
 
-  pub imp_good : Good (imp_at o) (imp_at r) (g.imp I) (g.imp J) unary_starts after_imp false
-  unfolding imp_at
-  imp_good = wider (made implied (with_place (both or_good (at_most_once (opening (Sign Arrow) d.imp)) refl))) refl
+    put_good : Good (put_at o) (put_at r) ((name ⊗ enclosed I.terms) ⊗ after (Sign Equal) (expr I.terms))
+        ((name ⊗ enclosed J.terms) ⊗ after (Sign Equal) (expr J.terms)) (kind.Name ∷ []) after_expr false
+    put_good = both (both terms.name d.enclosed refl) (leading (Sign Equal) d.expr) refl
 
-  pub iff_good : Good (iff_at o) (iff_at r) (g.iff I) (g.iff J) unary_starts after_expr false
-  unfolding iff_at
-  iff_good = wider (made equivalent (with_place
-      (both imp_good (at_most_once (leading (Sign DoubleArrow) imp_good)) refl))) refl
+    assign_good : Good (assign_at o) (assign_at r)
+        ((name ⊗ parameters I.terms) ⊗ after (Sign Becomes) (g.value I) ⇒ assigned)
+        ((name ⊗ parameters J.terms) ⊗ after (Sign Becomes) (g.value J) ⇒ assigned) (kind.Name ∷ []) after_expr false
+    assign_good = made assigned (both (both terms.name d.parameters refl) (leading (Sign Becomes) value_good) refl)
 
-  pub expr_good : Good (expr_at o) (expr_at r) (g.expr I) (g.expr J) expr_starts after_expr false
-  unfolding expr_at
-  expr_good =
-      wider (either (made (quantified quantifier.Forall) (opening (Word Forall) d.bound))
-      (either (made (quantified quantifier.Exists) (opening (Word Exists) d.bound)) iff_good refl) refl) refl
+    pub cmd_good : Good (cmd_at o) (cmd_at r) (g.cmd I) (g.cmd J) cmd_starts after_cmd false
+    unfolding cmd_at
+    cmd_good =
+        wider (either (made (λ t. node.Skip t.start) (a_terminal (Word Skip)))
+        (either (made (λ t. node.Abort t.start) (a_terminal (Word Abort)))
+        (either (made assumed (both (a_terminal (Word Assume)) d.expr refl))
+        (either (made asserted (both (a_terminal (Word Assert)) d.expr refl))
+        (either (made branched (both (a_terminal (Word If)) if_good refl))
+        (either (made choice (both (a_terminal (Word Choose)) (separating (Word Or) block_good refl) refl))
+        (either (made inserted (both (a_terminal (Word Insert)) called_good refl))
+        (either (made removed (both (a_terminal (Word Remove)) called_good refl))
+        (either (made putting (both (a_terminal (Word Put)) put_good refl))
+        assign_good refl) refl) refl) refl) refl) refl) refl) refl) refl) refl
 
-  pub bound_good : Good (bound_at o) (bound_at r) (g.bound I) (g.bound J) (kind.Name ∷ []) after_expr false
-  unfolding bound_at
-  bound_good =
-      wider (made (λ x. (x.0 ∷ x.1.0, x.1.1)) (both binder_good
-      (either (made (λ body. ([], body)) (leading (Sign Dot) expr_good))
-      (made (λ x. x.1) (opening (Sign Comma) d.bound)) refl) refl)) refl
+    pub cmds_good : Good (cmds_at o) (cmds_at r) (g.cmds I) (g.cmds J) cmd_starts after_cmds true
+    unfolding cmds_at
+    cmds_good = wider (a_list (Sign Semicolon) cmd_good refl) refl
 
-  pub exprs_good : Good (exprs_at o) (exprs_at r) (g.exprs I) (g.exprs J) expr_starts after_exprs false
-  unfolding exprs_at
-  exprs_good = wider (separating (Sign Comma) expr_good refl) refl
+    pub item_good : Good (item_at o) (item_at r) (g.item I) (g.item J) item_starts (Sign Comma ∷ after_expr) false
+    unfolding item_at
+    item_good =
+        wider (either (made node.Sort (leading (Word Sort) terms.name))
+        (either (made (λ x. node.Relation x.0 x.1) (leading (Word Relation) (both terms.name d.parameters refl)))
+        (either (made (λ x. node.Function x.0.0 x.0.1 x.1)
+        (leading (Word Function) (both (naming terms.names) (leading (Sign Arrow) terms.name) refl)))
+        (either (made (λ x. node.Variable x.0 x.1) (leading (Word Variable) (naming terms.name)))
+        (either (made (λ x. node.Axiom x.0 x.1) (leading (Word Axiom) (naming d.expr)))
+        (either (made (λ x. node.Conjecture x.0 x.1) (leading (Word Conjecture) (naming d.expr)))
+        (either (made (λ x. node.Init x.0.start x.1) (both (a_terminal (Word Init)) block_good refl))
+        (either (made (λ x. node.Action x.0 x.1) (leading (Word Action) (both terms.name block_good refl)))
+        (made (λ x. node.Final x.0.start x.1) (both (a_terminal (Word Final)) block_good refl)) refl) refl) refl) refl)
+        refl) refl) refl) refl) refl
 
-  pub three_good : Good (three_at o) (three_at r) (g.three I) (g.three J) expr_starts after_expr false
-  unfolding three_at
-  three_good = both (both expr_good (leading (Sign Comma) expr_good) refl) (leading (Sign Comma) expr_good) refl
+    pub items_good : Good (items_at o) (items_at r) (g.items I) (g.items J) (Word Rml ∷ item_starts)
+        (Word Rml ∷ (item_starts ++ after_exprs)) true
+    unfolding items_at
+    items_good = wider (either (made (λ x. x.1)
+        (leading (Word Rml) (both (a_terminal kind.Number) (any_number item_good refl) refl)))
+        (any_number item_good refl) refl) refl
 
-  pub block_good : Good (block_at o) (block_at r) (g.block I) (g.block J) (Sign OpenBrace ∷ []) [] false
-  unfolding block_at
-  block_good = enclosing (Sign OpenBrace) (Sign CloseBrace) d.cmds refl
+  -- ---- every level
 
-  else_block_good : Good (else_block_at o) (else_block_at r) (g.else_block I) (g.else_block J) (Word Else ∷ [])
-      (Word Else ∷ []) true
-  unfolding else_block_at
-  else_block_good = made or_none (at_most_once (leading (Word Else) block_good))
+  is_nothing : {A : Type 0} → IsNothing (nothing {A = A})
+  is_nothing = record { whole = λ ts x h. h; front = λ ts h. h }
 
-  value_good : Good (value_at o) (value_at r) (g.value I) (g.value J) (Sign Star ∷ expr_starts) after_expr false
-  unfolding value_at
-  value_good = either (made (λ t. None) (a_terminal (Sign Star))) (made (λ e. Some e) expr_good) refl
+  with_inside : (n : ℕ)
+      → Inside (inside_at n) (inside_at (suc n)) (inside n) (inside (suc n)) cmd_starts after_cmds true
+      → Deeper (inners n) (inners (suc n)) (level n) (level (suc n))
+  with_inside n h = record {
+    parameters = terms.parameters n;
+    enclosed = terms.enclosed n;
+    arguments = terms.arguments n;
+    expr = terms.expr n;
+    cmds = h;
+  }
 
-  called_good : Good (called_at o) (called_at r) (g.name ⊗ g.arguments I) (g.name ⊗ g.arguments J) (kind.Name ∷ [])
-      (Sign OpenParen ∷ []) false
-  called_good = both name_good arguments_good refl
+  inside_good : (n : ℕ)
+      → Inside (inside_at n) (inside_at (suc n)) (inside n) (inside (suc n)) cmd_starts after_cmds true
+  inside_good zero = record { held = (is_nothing, no_listed (Sign Semicolon) (g.cmd (level 0)).whole) }
+  inside_good (suc n) = record { held = cmds_good _ _ _ _ (with_inside n (inside_good n)) }
 
-  if_good : Good (if_at o) (if_at r) ((g.expr I ⊗ g.block I) ⊗ g.else_block I)
-      ((g.expr J ⊗ g.block J) ⊗ g.else_block J) expr_starts (Word Else ∷ []) false
-  if_good = both (both expr_good block_good refl) else_block_good refl
+  pub deeper : (n : ℕ) → Deeper (inners n) (inners (suc n)) (level n) (level (suc n))
+  deeper n = with_inside n (inside_good n)
 
-  put_good : Good (put_at o) (put_at r) ((g.name ⊗ g.enclosed I) ⊗ after (Sign Equal) (g.expr I))
-      ((g.name ⊗ g.enclosed J) ⊗ after (Sign Equal) (g.expr J)) (kind.Name ∷ []) after_expr false
-  put_good = both (both name_good enclosed_good refl) (leading (Sign Equal) expr_good) refl
-
-  assign_good : Good (assign_at o) (assign_at r)
-      ((g.name ⊗ g.parameters I) ⊗ after (Sign Becomes) (g.value I) ⇒ assigned)
-      ((g.name ⊗ g.parameters J) ⊗ after (Sign Becomes) (g.value J) ⇒ assigned) (kind.Name ∷ []) after_expr false
-  assign_good = made assigned (both (both name_good parameters_good refl) (leading (Sign Becomes) value_good) refl)
-
-  pub cmd_good : Good (cmd_at o) (cmd_at r) (g.cmd I) (g.cmd J) cmd_starts after_cmd false
-  unfolding cmd_at
-  cmd_good =
-      wider (either (made (λ t. node.Skip t.start) (a_terminal (Word Skip)))
-      (either (made (λ t. node.Abort t.start) (a_terminal (Word Abort)))
-      (either (made assumed (both (a_terminal (Word Assume)) expr_good refl))
-      (either (made asserted (both (a_terminal (Word Assert)) expr_good refl))
-      (either (made branched (both (a_terminal (Word If)) if_good refl))
-      (either (made choice (both (a_terminal (Word Choose)) (separating (Word Or) block_good refl) refl))
-      (either (made inserted (both (a_terminal (Word Insert)) called_good refl))
-      (either (made removed (both (a_terminal (Word Remove)) called_good refl))
-      (either (made putting (both (a_terminal (Word Put)) put_good refl))
-      assign_good refl) refl) refl) refl) refl) refl) refl) refl) refl) refl
-
-  pub cmds_good : Good (cmds_at o) (cmds_at r) (g.cmds I) (g.cmds J) cmd_starts after_cmds true
-  unfolding cmds_at
-  cmds_good = wider (a_list (Sign Semicolon) cmd_good refl) refl
-
-  pub item_good : Good (item_at o) (item_at r) (g.item I) (g.item J) item_starts (Sign Comma ∷ after_expr) false
-  unfolding item_at
-  item_good =
-      wider (either (made node.Sort (leading (Word Sort) name_good))
-      (either (made (λ x. node.Relation x.0 x.1) (leading (Word Relation) (both name_good parameters_good refl)))
-      (either (made (λ x. node.Function x.0.0 x.0.1 x.1)
-      (leading (Word Function) (both (naming names_good) (leading (Sign Arrow) name_good) refl)))
-      (either (made (λ x. node.Variable x.0 x.1) (leading (Word Variable) (naming name_good)))
-      (either (made (λ x. node.Axiom x.0 x.1) (leading (Word Axiom) (naming expr_good)))
-      (either (made (λ x. node.Conjecture x.0 x.1) (leading (Word Conjecture) (naming expr_good)))
-      (either (made (λ x. node.Init x.0.start x.1) (both (a_terminal (Word Init)) block_good refl))
-      (either (made (λ x. node.Action x.0 x.1) (leading (Word Action) (both name_good block_good refl)))
-      (made (λ x. node.Final x.0.start x.1) (both (a_terminal (Word Final)) block_good refl)) refl) refl) refl) refl)
-      refl) refl) refl) refl) refl
-
-  pub items_good : Good (items_at o) (items_at r) (g.items I) (g.items J) (Word Rml ∷ item_starts)
-      (Word Rml ∷ (item_starts ++ after_exprs)) true
-  unfolding items_at
-  items_good = wider (either (made (λ x. x.1)
-      (leading (Word Rml) (both (a_terminal kind.Number) (any_number item_good refl) refl)))
-      (any_number item_good refl) refl) refl
-
--- ---- some phrase of each
-
-some_name : Some_of g.name.whole
-some_name = some_made name_of (some_terminal kind.Name)
-
-some_after : {A : Type 0} (k : Kind) (a : Piece A) → Some_of a.whole → Some_of (after k a).whole
-some_after k a s = some_made (λ x. x.1) (some_both (some_terminal k) s)
-
-some_separated : {A : Type 0} (k : Kind) (a : Piece A) → Some_of a.whole → Some_of (separated k a).whole
-some_separated k a s = some_made (λ x. x.0 ∷ x.1) (some_both s (no_many (after k a).whole))
-
-some_prim : (I : Inner) → Some_of (g.prim I).whole
-some_prim I = some_left _ (some_made (λ t. node.True t.start) (some_terminal (Word True)))
-
-some_cmp : (I : Inner) → Some_of (g.cmp I).whole
-some_cmp I = some_made compared (some_placed (some_both (some_prim I) (no_optional _)))
-
-some_unary : (I : Inner) → Some_of (g.unary I).whole
-some_unary I = some_right _ (some_cmp I)
-
-some_and : (I : Inner) → Some_of (g.and I).whole
-some_and I = some_made (joined node.And) (some_placed (some_separated (Sign Ampersand) (g.unary I) (some_unary I)))
-
-some_or : (I : Inner) → Some_of (g.or I).whole
-some_or I = some_made (joined node.Or) (some_placed (some_separated (Sign Bar) (g.and I) (some_and I)))
-
-some_imp : (I : Inner) → Some_of (g.imp I).whole
-some_imp I = some_made implied (some_placed (some_both (some_or I) (no_optional _)))
-
-some_iff : (I : Inner) → Some_of (g.iff I).whole
-some_iff I = some_made equivalent (some_placed (some_both (some_imp I) (no_optional _)))
-
-some_expr : (I : Inner) → Some_of (g.expr I).whole
-some_expr I = some_right _ (some_right _ (some_iff I))
-
-some_three : (I : Inner) → Some_of (g.three I).whole
-some_three I = some_both (some_both (some_expr I) (some_after (Sign Comma) (g.expr I) (some_expr I)))
-    (some_after (Sign Comma) (g.expr I) (some_expr I))
-
-some_binder : Some_of g.binder.whole
-some_binder = some_made binder_of (some_both some_name (some_after (Sign Colon) g.name some_name))
-
-some_bound : (I : Inner) → Some_of (g.bound I).whole
-some_bound I = some_made (λ x. (x.0 ∷ x.1.0, x.1.1))
-    (some_both some_binder (some_left _ (some_made (λ body. ([], body))
-    (some_after (Sign Dot) (g.expr I) (some_expr I)))))
-
--- ---- every level
-
-is_nothing : {A : Type 0} → IsNothing (nothing {A = A})
-is_nothing = record { whole = λ ts x h. h; front = λ ts h. h }
-
-pub deeper : (n : ℕ) → Deeper (inners n) (inners (suc n)) (level n) (level (suc n))
-deeper zero = record {
-  expr = record { held = (is_nothing, some_expr no_inner) };
-  three = record { held = (is_nothing, some_three no_inner) };
-  imp = record { held = (is_nothing, some_imp no_inner) };
-  unary = record { held = (is_nothing, some_unary no_inner) };
-  bound = record { held = (is_nothing, some_bound no_inner) };
-  names = record { held = (is_nothing, some_separated (Sign Comma) g.name some_name) };
-  exprs = record { held = (is_nothing, some_separated (Sign Comma) (g.expr no_inner) (some_expr no_inner)) };
-  cmds = record { held = (is_nothing, no_listed (Sign Semicolon) (g.cmd no_inner).whole) };
-}
-deeper (suc n) = record {
-  expr = record { held = expr_good _ _ _ _ (deeper n) };
-  three = record { held = three_good _ _ _ _ (deeper n) };
-  imp = record { held = imp_good _ _ _ _ (deeper n) };
-  unary = record { held = unary_good _ _ _ _ (deeper n) };
-  bound = record { held = bound_good _ _ _ _ (deeper n) };
-  names = record { held = names_good };
-  exprs = record { held = exprs_good _ _ _ _ (deeper n) };
-  cmds = record { held = cmds_good _ _ _ _ (deeper n) };
-}
-
-pub file_good : (n : ℕ) → Good (items_at (inners n)) (items_at (inners (suc n))) (file n) (file (suc n))
-    (Word Rml ∷ item_starts) (Word Rml ∷ (item_starts ++ after_exprs)) true
-file_good n = items_good (inners n) (inners (suc n)) (level n) (level (suc n)) (deeper n)
+  pub file_good : (n : ℕ) → Good (items_at (inners n)) (items_at (inners (suc n))) (file n) (file (suc n))
+      (Word Rml ∷ item_starts) (Word Rml ∷ (item_starts ++ after_exprs)) true
+  file_good n = items_good (inners n) (inners (suc n)) (level n) (level (suc n)) (deeper n)

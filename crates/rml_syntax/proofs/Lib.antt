@@ -1,14 +1,6 @@
-pub mod Exact
-pub mod Levels
-pub mod Listed
-pub mod Fronts
-pub mod Pieces
 pub mod Grammar
+pub mod Shorter
 pub mod Whole
-pub mod First
-pub mod Loop
-pub mod Between
-pub mod Runs
 pub mod Texts
 pub mod Within
 pub mod Shapes

@@ -25,7 +25,7 @@ use Rattle.rml_lex.specs.declared.token.Word.TheVariants.{Rml}
 use Rattle.rml_lex.specs.declared.token.Fault.{Fault}
 use Rattle.rml_lex.specs.declared.fault_code.FaultCode.TheVariants as fault_code
 use Rattle.rml_lex.specs.Tokens.{word_of}
-use Rattle.rml_syntax.specs.Language.{Tokens, Phrase}
+use Rattle.rml_phrases.specs.Language.{Tokens, Begins}
 use Rattle.rml_syntax.specs.declared.tree.Tree.{Tree}
 use Rattle.rml_syntax.specs.Tree.{ItemTree, file_tree}
 use Rattle.rml_syntax.specs.Grammar.{file, max_levels}
@@ -44,12 +44,6 @@ IsFormat1 text (t ∷ u ∷ ts) = t.kind ≡ Word Rml → u.kind ≡ Number → 
 -- the tokens of a text are this tree's
 abbrev pub IsTree : List ℕ → Tokens → List ItemTree → Type 0
 IsTree text ts tree = IsFormat1 text ts × (file max_levels).whole ts tree
-
--- some tokens behind these make them a whole phrase
-pub record Begins {A : Type 0} (phrase : Phrase A) (front : Tokens) : Type 0 where
-  pub rest : Tokens
-  pub value : A
-  pub means : phrase (front ++ rest) value
 
 -- these tokens begin a file, of however many levels
 abbrev pub BeginsFile : Tokens → Type 0

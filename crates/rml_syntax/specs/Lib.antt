@@ -1,6 +1,4 @@
 pub mod Tree
-pub mod Language
-pub mod Piece
 pub mod Grammar
 pub mod Faults
 pub mod Reading

@@ -1,71 +1,13 @@
 -- How deep the binders of a tree lie inside one another, and that each choice of it has a branch.
-use Rattle.std.specs.Prelude.{ℕ, zero, suc, List, Option, Some, None}
+use Rattle.std.specs.Prelude.{ℕ, List, Option, Some, None}
 use Rattle.std.specs.List.{AllByRecursion}
-use Rattle.rml_syntax.specs.Tree.{
-  ExprTree,
-  ExprTrees,
-  True,
-  False,
-  Apply,
-  Ite,
-  Equal,
-  Not,
-  And,
-  Or,
-  Implies,
-  Iff,
-  Quantified,
-  no_expr,
-  and_expr,
-  CommandTree,
-  Block,
-  Blocks,
-  Skip,
-  Abort,
-  Assume,
-  Assert,
-  If,
-  Choose,
-  Insert,
-  Remove,
-  Put,
-  Assign,
-  no_command,
-  and_command,
-  no_block,
-  and_block,
-  ItemTree,
-  Sort,
-  Relation,
-  Function,
-  Variable,
-  Axiom,
-  Conjecture,
-  Init,
-  Action,
-  Final,
-}
+use Rattle.rml_terms.specs.Tree.{ExprTree}
+use Rattle.rml_terms.specs.Shape.{ExprNests, ExprsNest}
+use Rattle.rml_syntax.specs.Tree.{CommandTree, Block, Blocks, Skip, Abort, Assume, Assert, If, Choose, Insert, Remove}
+use Rattle.rml_syntax.specs.Tree.{Put, Assign, no_command, and_command, no_block, and_block, ItemTree, Sort, Relation}
+use Rattle.rml_syntax.specs.Tree.{Function, Variable, Axiom, Conjecture, Init, Action, Final}
 
--- at most n binders of an expression lie inside one another
-abbrev mutual
-  pub ExprNests : ℕ → ExprTree → Type 0
-  ExprNests n (True at) = Unit {0}
-  ExprNests n (False at) = Unit {0}
-  ExprNests n (Apply name args) = ExprsNest n args
-  ExprNests n (Ite at c a b) = ExprNests n c × ExprNests n a × ExprNests n b
-  ExprNests n (Equal at a b) = ExprNests n a × ExprNests n b
-  ExprNests n (Not at a) = ExprNests n a
-  ExprNests n (And at args) = ExprsNest n args
-  ExprNests n (Or at args) = ExprsNest n args
-  ExprNests n (Implies at a b) = ExprNests n a × ExprNests n b
-  ExprNests n (Iff at a b) = ExprNests n a × ExprNests n b
-  ExprNests zero (Quantified q at b a) = ⊥
-  ExprNests (suc n) (Quantified q at b a) = ExprNests n a
-
-  pub ExprsNest : ℕ → ExprTrees → Type 0
-  ExprsNest n no_expr = Unit {0}
-  ExprsNest n (and_expr e es) = ExprNests n e × ExprsNest n es
-
+-- at most n binders of a command's expression lie inside one another
 abbrev pub SideNests : ℕ → Option ExprTree → Type 0
 SideNests n None = Unit {0}
 SideNests n (Some e) = ExprNests n e

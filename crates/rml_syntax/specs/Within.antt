@@ -1,87 +1,17 @@
 -- Where the names and the nodes of a tree stand.
 use Rattle.std.specs.Prelude.{ℕ, ◌≤◌, List, Option, Some, None}
 use Rattle.std.specs.List.{AllByRecursion}
-use Rattle.rml_syntax.specs.declared.tree.Name.{Name}
-use Rattle.rml_syntax.specs.declared.tree.Binder.{Binder}
-use Rattle.rml_syntax.specs.Tree.{
-  ExprTree,
-  ExprTrees,
-  True,
-  False,
-  Apply,
-  Ite,
-  Equal,
-  Not,
-  And,
-  Or,
-  Implies,
-  Iff,
-  Quantified,
-  no_expr,
-  and_expr,
-  CommandTree,
-  Block,
-  Blocks,
-  Skip,
-  Abort,
-  Assume,
-  Assert,
-  If,
-  Choose,
-  Insert,
-  Remove,
-  Put,
-  Assign,
-  no_command,
-  and_command,
-  no_block,
-  and_block,
-  ItemTree,
-  Sort,
-  Relation,
-  Function,
-  Variable,
-  Axiom,
-  Conjecture,
-  Init,
-  Action,
-  Final,
-}
-
--- a name's bytes are among n
-abbrev pub NameWithin : ℕ → Name → Type 0
-NameWithin n name = (name.start ≤ name.end) × (name.end ≤ n)
-
-abbrev pub NamesWithin : ℕ → List Name → Type 0
-NamesWithin n names = AllByRecursion (NameWithin n) names
-
-abbrev pub BinderWithin : ℕ → Binder → Type 0
-BinderWithin n b = NameWithin n b.name × NameWithin n b.sort
-
--- the names of an expression are among n bytes, and its nodes stand there
-abbrev mutual
-  pub ExprWithin : ℕ → ExprTree → Type 0
-  ExprWithin n (True at) = at ≤ n
-  ExprWithin n (False at) = at ≤ n
-  ExprWithin n (Apply name args) = NameWithin n name × ExprsWithin n args
-  ExprWithin n (Ite at c a b) = (at ≤ n) × ExprWithin n c × ExprWithin n a × ExprWithin n b
-  ExprWithin n (Equal at a b) = (at ≤ n) × ExprWithin n a × ExprWithin n b
-  ExprWithin n (Not at a) = (at ≤ n) × ExprWithin n a
-  ExprWithin n (And at args) = (at ≤ n) × ExprsWithin n args
-  ExprWithin n (Or at args) = (at ≤ n) × ExprsWithin n args
-  ExprWithin n (Implies at a b) = (at ≤ n) × ExprWithin n a × ExprWithin n b
-  ExprWithin n (Iff at a b) = (at ≤ n) × ExprWithin n a × ExprWithin n b
-  ExprWithin n (Quantified q at b a) = (at ≤ n) × BinderWithin n b × ExprWithin n a
-
-  pub ExprsWithin : ℕ → ExprTrees → Type 0
-  ExprsWithin n no_expr = Unit {0}
-  ExprsWithin n (and_expr e es) = ExprWithin n e × ExprsWithin n es
+use Rattle.rml_terms.specs.Tree.{ExprTree}
+use Rattle.rml_terms.specs.Within.{NameWithin, NamesWithin, ExprWithin, ExprsWithin}
+use Rattle.rml_syntax.specs.Tree.{CommandTree, Block, Blocks, Skip, Abort, Assume, Assert, If, Choose, Insert, Remove}
+use Rattle.rml_syntax.specs.Tree.{Put, Assign, no_command, and_command, no_block, and_block, ItemTree, Sort, Relation}
+use Rattle.rml_syntax.specs.Tree.{Function, Variable, Axiom, Conjecture, Init, Action, Final}
 
 abbrev pub ValueWithin : ℕ → Option ExprTree → Type 0
 ValueWithin n None = Unit {0}
 ValueWithin n (Some e) = ExprWithin n e
 
--- the same of a command
+-- the names of a command are among n bytes, and its nodes stand there
 abbrev mutual
   pub CommandWithin : ℕ → CommandTree → Type 0
   CommandWithin n (Skip at) = at ≤ n

@@ -1,48 +1,20 @@
 //! Commands, one function for each production, so that each can be held against the line of the grammar that it reads.
 ghost use Rattle.std.specs.Prelude.{◌≡◌, [], ◌∷◌, ◌++◌, option_map, Some, None};
 ghost use Rattle.rml_syntax.specs.Tree as node;
-ghost use Rattle.rml_syntax.specs.Tree.{
-  expr_tree,
-  expr_trees,
-  command_tree,
-  command_trees,
-  block_trees,
-  or_none,
-  branched,
-  choice,
-  inserted,
-  removed,
-  putting,
-  assigned,
-};
-ghost use Rattle.rml_syntax.specs.Reading.{
-  Reads,
-  begins,
-  made_at,
-  both_at,
-  after_at,
-  more_at,
-  separated_at,
-  inners,
-  name_at,
-  names_at,
-  parameters_at,
-  value_at,
-  called_at,
-  block_at,
-  else_block_at,
-  if_at,
-  put_at,
-  cmd_starts,
-  cmd_at,
-  cmds_at,
-};
+ghost use Rattle.rml_phrases.specs.Language.{or_none};
+ghost use Rattle.rml_terms.specs.Tree.{expr_tree, expr_trees};
+ghost use Rattle.rml_syntax.specs.Tree.{command_tree, command_trees, block_trees, branched, choice, inserted, removed};
+ghost use Rattle.rml_syntax.specs.Tree.{putting, assigned};
+ghost use Rattle.rml_phrases.specs.Reading.{Reads, begins, made_at, both_at, after_at, more_at, separated_at};
+ghost use Rattle.rml_terms.specs.Reading.{name_at, names_at, parameters_at};
+ghost use Rattle.rml_syntax.specs.Reading.{inners, value_at, called_at, block_at, else_block_at, if_at, put_at};
+ghost use Rattle.rml_syntax.specs.Reading.{cmd_starts, cmd_at, cmds_at};
 
-use crate::front::{Read, Stop, after, expect, name};
-use crate::terms::{arguments, enclosed, expr};
-use crate::tree::{Command, Expr, Name};
+use crate::tree::Command;
 use base::Refused;
 use rml_lex::{Kind, Sign, Token, Word};
+use rml_phrases::{Read, Stop, after, expect};
+use rml_terms::{Expr, Name, arguments, enclosed, expr, name, parameters};
 use std::alloc::Global;
 
 // ---- the nodes
@@ -110,50 +82,6 @@ fn assignment(name: Name, parameters: Vec<Name>, value: Option<Expr>) -> Command
     Command::Assign(name, parameters, value)
 }
 
-// ---- names
-
-fn more_names<'a>(mut all: Vec<Name>, tokens: &'a [Token]) -> Read<'a, Vec<Name>>
-    ensures { Reads (λ v. v.items) result
-        (made_at (λ xs. all.items ++ xs)
-        (more_at (Kind.Sign Sign.Comma) name_at))
-        tokens.now }
-{
-    let mut rest = tokens;
-    while let Some(next) = after(Kind::Sign(Sign::Comma), rest) {
-        let (next, left) = name(next)?;
-        all.push(next)?;
-        rest = left;
-    }
-    Ok((all, rest))
-}
-
-/// NAME {"," NAME}
-#[tactic(auto, unfolding(crate::specs::Reading::names_at))]
-pub fn names<'a>(alloc: Global, tokens: &'a [Token]) -> Read<'a, Vec<Name>>
-    ensures { Reads (λ v. v.items) result names_at tokens.now }
-{
-    let (first, rest) = name(tokens)?;
-    let mut all = Vec::new(alloc);
-    all.push(first)?;
-    more_names(all, rest)
-}
-
-/// ["(" names ")"]
-#[tactic(auto, unfolding(crate::specs::Reading::parameters_at))]
-pub fn parameters<'a>(alloc: Global, levels: u8, tokens: &'a [Token]) -> Read<'a, Vec<Name>>
-    ensures { Reads (λ v. v.items) result (parameters_at (inners levels)) tokens.now }
-{
-    let Some(inside) = after(Kind::Sign(Sign::OpenParen), tokens) else {
-        return Ok((Vec::new(alloc), tokens));
-    };
-    if levels == 0 {
-        return Err(Refused::For(Stop::TooDeep(tokens)));
-    }
-    let (all, rest) = names(alloc, inside)?;
-    let (_, rest) = expect(Kind::Sign(Sign::CloseParen), rest)?;
-    Ok((all, rest))
-}
-
 // ---- what is behind a command's first token
 
 // "*" | expr
@@ -171,7 +99,7 @@ fn value<'a>(alloc: Global, levels: u8, tokens: &'a [Token]) -> Read<'a, Option<
 fn assigns<'a>(alloc: Global, levels: u8, name: Name, tokens: &'a [Token]) -> Read<'a, Command>
     ensures { Reads command_tree result
         (made_at (λ v. assigned ((name, v.0), v.1))
-        (both_at (parameters_at (inners levels)) (after_at (Kind.Sign Sign.Becomes) (value_at (inners levels)))))
+        (both_at (parameters_at (inners levels).terms) (after_at (Kind.Sign Sign.Becomes) (value_at (inners levels)))))
         tokens.now }
 {
     let (parameters, rest) = parameters(alloc, levels, tokens)?;
@@ -295,6 +223,7 @@ fn more_blocks<'a>(
         (more_at (Kind.Word Word.Or) (block_at (inners levels))))
         tokens.now }
 {
+    rml_terms::terms_are_read();
     let mut rest = tokens;
     while let Some(next) = after(Kind::Word(Word::Or), rest) {
         let (next, left) = block(alloc, levels, next)?;
@@ -354,6 +283,7 @@ fn cmd<'a>(alloc: Global, levels: u8, tokens: &'a [Token]) -> Read<'a, Command>
 fn cmds<'a>(alloc: Global, levels: u8, tokens: &'a [Token]) -> Read<'a, Vec<Command>>
     ensures { Reads (λ v. command_trees v.items) result (cmds_at (inners levels)) tokens.now }
 {
+    rml_terms::terms_are_read();
     let mut all = Vec::new(alloc);
     let mut rest = tokens;
     while begins_cmd(rest) {

@@ -2,31 +2,16 @@
 ghost use Rattle.std.specs.Prelude.{◌≡◌, [], ◌∷◌, ◌++◌};
 ghost use Rattle.rml_syntax.specs.Tree as node;
 ghost use Rattle.rml_syntax.specs.Tree.{item_tree, item_trees};
-ghost use Rattle.rml_syntax.specs.Reading.{
-  Reads,
-  begins,
-  both_at,
-  made_at,
-  many_at,
-  after_at,
-  inners,
-  name_at,
-  names_at,
-  named_at,
-  parameters_at,
-  expr_at,
-  block_at,
-  item_at,
-  item_starts,
-  items_at,
-};
+ghost use Rattle.rml_phrases.specs.Reading.{Reads, begins, both_at, made_at, many_at, after_at};
+ghost use Rattle.rml_terms.specs.Reading.{name_at, names_at, parameters_at, expr_at};
+ghost use Rattle.rml_syntax.specs.Reading.{inners, named_at, block_at, item_at, item_starts, items_at};
 
-use crate::commands::{block, names, parameters};
-use crate::front::{Read, Stop, after, expect, name};
-use crate::terms::expr;
+use crate::commands::block;
 use crate::tree::Item;
 use base::Refused;
 use rml_lex::{Kind, Sign, Token, Word};
+use rml_phrases::{Read, Stop, after, expect};
+use rml_terms::{expr, name, names, parameters};
 use std::alloc::Global;
 
 // ---- what is behind an item's word
@@ -34,7 +19,7 @@ use std::alloc::Global;
 fn relation<'a>(alloc: Global, levels: u8, tokens: &'a [Token]) -> Read<'a, Item>
     ensures { Reads item_tree result
         (made_at (λ v. node.Relation v.0 v.1)
-        (both_at name_at (parameters_at (inners levels))))
+        (both_at name_at (parameters_at (inners levels).terms)))
         tokens.now }
 {
     let (name, rest) = name(tokens)?;
@@ -68,7 +53,7 @@ fn variable<'a>(tokens: &'a [Token]) -> Read<'a, Item>
 fn axiom<'a>(alloc: Global, levels: u8, tokens: &'a [Token]) -> Read<'a, Item>
     ensures { Reads item_tree result
         (made_at (λ v. node.Axiom v.0 v.1)
-        (named_at (expr_at (inners levels))))
+        (named_at (expr_at (inners levels).terms)))
         tokens.now }
 {
     let (name, rest) = name(tokens)?;
@@ -80,7 +65,7 @@ fn axiom<'a>(alloc: Global, levels: u8, tokens: &'a [Token]) -> Read<'a, Item>
 fn conjecture<'a>(alloc: Global, levels: u8, tokens: &'a [Token]) -> Read<'a, Item>
     ensures { Reads item_tree result
         (made_at (λ v. node.Conjecture v.0 v.1)
-        (named_at (expr_at (inners levels))))
+        (named_at (expr_at (inners levels).terms)))
         tokens.now }
 {
     let (name, rest) = name(tokens)?;
@@ -158,6 +143,7 @@ fn begins_item(tokens: &[Token]) -> bool
 fn all_items<'a>(alloc: Global, levels: u8, tokens: &'a [Token]) -> Read<'a, Vec<Item>>
     ensures { Reads (λ v. item_trees v.items) result (many_at item_starts (item_at (inners levels))) tokens.now }
 {
+    rml_terms::terms_are_read();
     let mut all = Vec::new(alloc);
     let mut rest = tokens;
     while begins_item(rest) {

@@ -5,7 +5,8 @@ ghost use Rattle.rml_lex.specs.declared.token.Fault.{Fault};
 ghost use Rattle.rml_syntax.specs.Tree.{ItemTree};
 ghost use Rattle.rml_lex.specs.Tokens.{AreTokens};
 ghost use Rattle.rml_syntax.specs.Faults.{IsTree, IsFault};
-ghost use Rattle.rml_syntax.specs.Places.{AscendBetween, Ascend, places_of_items};
+ghost use Rattle.rml_phrases.specs.Ascending.{AscendBetween, Ascend};
+ghost use Rattle.rml_syntax.specs.Places.{places_of_items};
 
 /// A list of tokens has one tree or one first fault, and never both.
 pub fn one_tree_or_fault()
@@ -17,13 +18,17 @@ pub fn one_tree_or_fault()
         → IsFault text ts f → IsFault text ts g → f ≡ g }
     ensures not_both { (text : List ℕ) (ts : List Token) (tree : List ItemTree) (f : Fault)
         → IsTree text ts tree → IsFault text ts f → ⊥ }
-{}
+{
+    rml_terms::terms_are_read();
+}
 
 /// In the tree of a text no name and no node begins before the one in front of it.
 pub fn places_ascend()
     ensures { (text : List ℕ) (ts : List Token) (tree : List ItemTree)
         → AreTokens text ts → IsTree text ts tree → Ascend (places_of_items tree) }
-{}
+{
+    rml_terms::terms_ascend();
+}
 
 /// Ascending places, seen from an earlier one and taken apart.
 pub fn ascending()

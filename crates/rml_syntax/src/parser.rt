@@ -8,13 +8,14 @@ ghost use Rattle.rml_syntax.specs.Tree.{ItemTree, item_trees, file_tree};
 ghost use Rattle.rml_syntax.specs.Faults.{is_one, IsTree, IsFault, place_at, AnswersTree, AnswersFault};
 ghost use Rattle.rml_syntax.specs.Within.{TreeWithin};
 ghost use Rattle.rml_syntax.specs.Shape.{IsShaped};
-ghost use Rattle.rml_syntax.specs.Reading.{Gives, all_at, read_at, is_other_format, fault_of};
+ghost use Rattle.rml_phrases.specs.Reading.{Gives};
+ghost use Rattle.rml_syntax.specs.Reading.{all_at, read_at, is_other_format, fault_of};
 
-use crate::front::Stop;
 use crate::items::items;
 use crate::tree::{Item, Tree};
 use base::Refused;
 use rml_lex::{Fault, FaultCode, Kind, Token, Word, word};
+use rml_phrases::Stop;
 use std::alloc::Global;
 
 // How many levels may open inside one another.
@@ -117,6 +118,9 @@ pub fn parse(alloc: Global, text: &[u8], tokens: &[Token]) -> Result<Tree, Refus
     ensures refused { (fault : Fault) → IsFault text.now tokens.now fault → AnswersFault result fault }
     ensures place { IfErr result (Because (StandsBy (length text.now))) }
 {
+    rml_terms::terms_are_read();
+    rml_terms::terms_stand();
+    rml_terms::terms_nest();
     match read(alloc, text, tokens) {
         Ok(items) => Ok(Tree { items }),
         Err(Refused::For(stop)) => Err(Refused::For(fault_of(text, stop))),

@@ -1,8 +1,8 @@
 use Rattle.std.proofs.Common.{◌-◌, List, length, refl, subst, rules}
-use Rattle.rml_syntax.specs.declared.tree.Expr.{Expr}
-use Rattle.rml_syntax.specs.Tree.{expr_tree, expr_trees, exprs_of}
-use Rattle.rml_syntax.specs.Shape.{ExprsNest}
-use Rattle.rml_syntax.specs.Within.{ExprsWithin}
+use Rattle.rml_terms.specs.declared.tree.Expr.{Expr}
+use Rattle.rml_terms.specs.Tree.{expr_tree, expr_trees, exprs_of}
+use Rattle.rml_terms.specs.Shape.{ExprsNest}
+use Rattle.rml_terms.specs.Within.{ExprsWithin}
 use Rattle.rml_elaborate.specs.Formulas.{formula_of, formulas_of, term_of, terms_of}
 use Rattle.rml_names.specs.Scopes.{bound_names}
 use Rattle.rml_names.specs.Drafts.{model_in}

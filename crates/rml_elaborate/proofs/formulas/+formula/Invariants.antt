@@ -1,9 +1,9 @@
 use Rattle.std.proofs.Common.{◌≡◌, ◌-◌, length, map, drop}
 use Rattle.fol_formula.specs.Syntax.{forms_then, terms_then}
 use Rattle.fol_formula.specs.View.{form, term}
-use Rattle.rml_syntax.specs.Tree.{expr_trees, exprs_of}
-use Rattle.rml_syntax.specs.Shape.{ExprsNest}
-use Rattle.rml_syntax.specs.Within.{ExprsWithin}
+use Rattle.rml_terms.specs.Tree.{expr_trees, exprs_of}
+use Rattle.rml_terms.specs.Shape.{ExprsNest}
+use Rattle.rml_terms.specs.Within.{ExprsWithin}
 use Rattle.rml_elaborate.specs.Formulas.{formulas_of, terms_of}
 use Rattle.rml_names.specs.Scopes.{bound_names}
 use Rattle.rml_names.specs.Drafts.{model_in}

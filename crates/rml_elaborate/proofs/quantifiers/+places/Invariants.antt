@@ -1,5 +1,5 @@
 use Rattle.std.proofs.Common.{◌≡◌, ◌++◌, drop}
-use Rattle.rml_syntax.specs.Tree.{expr_trees, exprs_of}
+use Rattle.rml_terms.specs.Tree.{expr_trees, exprs_of}
 use Rattle.rml_elaborate.specs.Quantifiers.{quantifiers_in_each}
 use Rattle.rml_elaborate.proofs.quantifiers.+places.Given as goal
 

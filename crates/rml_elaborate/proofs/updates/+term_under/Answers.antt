@@ -1,5 +1,5 @@
 use Rattle.std.proofs.Common.{◌≤◌, ◌-◌, length, arith}
-use Rattle.rml_syntax.specs.Tree.{expr_tree}
+use Rattle.rml_terms.specs.Tree.{expr_tree}
 use Rattle.rml_names.specs.Scopes.{bound_names}
 use Rattle.rml_names.specs.Nesting.{nests_more}
 use Rattle.rml_elaborate.proofs.updates.+term_under.Goals as goal

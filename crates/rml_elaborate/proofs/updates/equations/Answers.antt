@@ -1,9 +1,9 @@
 use Rattle.std.proofs.Common.{◌≡◌, ◌-◌, ◌+◌, ℕ, List, [], length, length-drop, drop, refl, sym, subst, ap, ◌∙◌, arith}
 use Rattle.fol_formula.specs.Syntax.{equal, bound}
-use Rattle.rml_syntax.specs.declared.tree.Expr.{Expr}
-use Rattle.rml_syntax.specs.Tree.{expr_tree, expr_trees, exprs_of}
-use Rattle.rml_syntax.specs.Shape.{ExprsNest}
-use Rattle.rml_syntax.specs.Within.{ExprsWithin}
+use Rattle.rml_terms.specs.declared.tree.Expr.{Expr}
+use Rattle.rml_terms.specs.Tree.{expr_tree, expr_trees, exprs_of}
+use Rattle.rml_terms.specs.Shape.{ExprsNest}
+use Rattle.rml_terms.specs.Within.{ExprsWithin}
 use Rattle.rml_elaborate.specs.Formulas.{term_of, terms_of}
 use Rattle.rml_elaborate.specs.Updates.{equations, term_count}
 use Rattle.rml_names.specs.Drafts.{model_in}

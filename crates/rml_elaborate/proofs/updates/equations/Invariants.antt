@@ -1,9 +1,9 @@
 use Rattle.std.proofs.Common.{◌≡◌, ◌+◌, [], length, map, drop}
 use Rattle.fol_formula.specs.Syntax.{forms_then}
 use Rattle.fol_formula.specs.View.{form}
-use Rattle.rml_syntax.specs.Tree.{expr_trees, exprs_of}
-use Rattle.rml_syntax.specs.Shape.{ExprsNest}
-use Rattle.rml_syntax.specs.Within.{ExprsWithin}
+use Rattle.rml_terms.specs.Tree.{expr_trees, exprs_of}
+use Rattle.rml_terms.specs.Shape.{ExprsNest}
+use Rattle.rml_terms.specs.Within.{ExprsWithin}
 use Rattle.rml_elaborate.specs.Formulas.{terms_of}
 use Rattle.rml_elaborate.specs.Updates.{equations}
 use Rattle.rml_names.specs.Drafts.{model_in}

@@ -1,4 +1,4 @@
-use Rattle.rml_syntax.specs.Tree.{expr_tree}
+use Rattle.rml_terms.specs.Tree.{expr_tree}
 use Rattle.rml_elaborate.proofs.Nesting.{nests_outside}
 use Rattle.rml_elaborate.proofs.updates.term_outside.Goals as goal
 

@@ -1,11 +1,11 @@
 use Rattle.std.proofs.Common.{◌≡◌, ◌-◌, length, sym, ap, ◌∙◌, subst, rules, None, inl, inr}
 use Rattle.fol_sig.specs.Tables.{numbers}
-use Rattle.rml_syntax.specs.declared.tree.Expr.TheViews.{rolls-Ite, rolls-Equal, rolls-Implies, rolls-Iff}
-use Rattle.rml_syntax.specs.declared.tree.Expr.TheOpen as layer
-use Rattle.rml_syntax.specs.declared.tree.Expr.TheFolds.{fold-roll-Expr}
-use Rattle.rml_syntax.specs.Tree.{ExprTree, expr_step, ExprTrees, Ite, Equal, expr_tree}
-use Rattle.rml_syntax.specs.Shape.{ExprsNest}
-use Rattle.rml_syntax.specs.Within.{ExprsWithin}
+use Rattle.rml_terms.specs.declared.tree.Expr.TheViews.{rolls-Ite, rolls-Equal, rolls-Implies, rolls-Iff}
+use Rattle.rml_terms.specs.declared.tree.Expr.TheOpen as layer
+use Rattle.rml_terms.specs.declared.tree.Expr.TheFolds.{fold-roll-Expr}
+use Rattle.rml_terms.specs.Tree.{ExprTree, expr_step, ExprTrees, Ite, Equal, expr_tree}
+use Rattle.rml_terms.specs.Shape.{ExprsNest}
+use Rattle.rml_terms.specs.Within.{ExprsWithin}
 use Rattle.rml_sort_check.specs.declared.wanted.Wanted.TheVariants.{Formula, Term}
 use Rattle.rml_names.specs.Meanings.{term_sort}
 use Rattle.rml_sort_check.specs.Demands.{first_fault, demands, second_sort}

@@ -1,8 +1,8 @@
 use Rattle.std.proofs.Common.{◌≡◌, ◌-◌, length, drop}
 use Rattle.fol_sig.specs.Tables.{numbers}
-use Rattle.rml_syntax.specs.Tree.{expr_trees, exprs_of}
-use Rattle.rml_syntax.specs.Shape.{ExprsNest}
-use Rattle.rml_syntax.specs.Within.{ExprsWithin}
+use Rattle.rml_terms.specs.Tree.{expr_trees, exprs_of}
+use Rattle.rml_terms.specs.Shape.{ExprsNest}
+use Rattle.rml_terms.specs.Within.{ExprsWithin}
 use Rattle.rml_sort_check.specs.Demands.{first_fault, formula_demands, argument_demands}
 use Rattle.rml_names.specs.Scopes.{bound_names}
 use Rattle.rml_names.specs.Drafts.{model_in}

@@ -1,5 +1,5 @@
 use Rattle.std.proofs.Common.{◌≡◌, [], rules, ◌∙◌}
-use Rattle.rml_syntax.specs.Tree.{expr_tree, expr_trees, exprs_of}
+use Rattle.rml_terms.specs.Tree.{expr_tree, expr_trees, exprs_of}
 use Rattle.rml_sort_check.specs.declared.wanted.Wanted.TheVariants.{Term}
 use Rattle.rml_names.specs.Meanings.{argument_sorts, result_sort}
 use Rattle.rml_sort_check.specs.Demands.{first_fault, demands, argument_demands}

@@ -1,5 +1,5 @@
 use Rattle.std.proofs.Common.{ℕ, nat_eq, length, ap, sym, ◌∙◌}
-use Rattle.rml_syntax.specs.Tree.{expr_trees, exprs_of}
+use Rattle.rml_terms.specs.Tree.{expr_trees, exprs_of}
 use Rattle.rml_sort_check.specs.Demands.{expr_count}
 use Rattle.rml_sort_check.proofs.Judged.{expr_count-of, numbers-length}
 use Rattle.rml_sort_check.proofs.targets.is_counted.Goals as goal

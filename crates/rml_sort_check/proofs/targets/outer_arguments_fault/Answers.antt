@@ -1,5 +1,5 @@
 use Rattle.std.proofs.Common.{length, ap, arith, ◌≤◌}
-use Rattle.rml_syntax.specs.Tree.{expr_trees, exprs_of}
+use Rattle.rml_terms.specs.Tree.{expr_trees, exprs_of}
 use Rattle.rml_names.specs.Scopes.{bound_names}
 use Rattle.rml_sort_check.proofs.Nesting.{nest_below}
 use Rattle.rml_sort_check.proofs.targets.outer_arguments_fault.Goals as goal

@@ -1,5 +1,5 @@
 use Rattle.std.proofs.Common.{length}
-use Rattle.rml_syntax.specs.Tree.{expr_tree}
+use Rattle.rml_terms.specs.Tree.{expr_tree}
 use Rattle.rml_names.specs.Scopes.{bound_names}
 use Rattle.rml_sort_check.proofs.Nesting.{nests_below}
 use Rattle.rml_sort_check.proofs.targets.shallow_fault.Goals as goal

@@ -1,6 +1,7 @@
 use Rattle.std.proofs.Common.{arith, ◌≡◌, ◌++◌, ◌∷◌, [], None, length, map, refl, sym, subst, ap, ◌∙◌}
 use Rattle.base.proofs.Lists.{list_turn, list_end}
-use Rattle.rml_syntax.specs.Tree.{expr_tree, command_tree}
+use Rattle.rml_terms.specs.Tree.{expr_tree}
+use Rattle.rml_syntax.specs.Tree.{command_tree}
 use Rattle.rml_syntax.specs.Shape.{CommandNests, BlockNests}
 use Rattle.rml_syntax.specs.Within.{CommandWithin, BlockWithin}
 use Rattle.rml_command.specs.Trees.{choose, seq}

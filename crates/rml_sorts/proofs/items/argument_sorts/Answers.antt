@@ -2,7 +2,7 @@ use Rattle.std.proofs.Common.{◌≡◌, ℕ, ◌+◌, ◌<◌, ◌++◌, ◌∷
 use Rattle.std.proofs.Common.{arith, length-append}
 use Rattle.std.proofs.lemmas.Bool.Decides.{nat_tests}
 use Rattle.base.proofs.Lists.{list_turn}
-use Rattle.rml_syntax.specs.declared.tree.Name.{Name}
+use Rattle.rml_terms.specs.declared.tree.Name.{Name}
 use Rattle.rml_names.specs.Meanings.{sort_number}
 use Rattle.rml_names.specs.Drafts.{model_in}
 use Rattle.rml_sorts.proofs.SortLists.{read_again, names_left, sort_turn, sort_more, as_many}

@@ -1,6 +1,6 @@
 use Rattle.std.proofs.Common.{◌≡◌, ◌≤◌, ◌++◌, drop, length, map}
 use Rattle.fol_sig.specs.Tables.{AreSorts}
-use Rattle.rml_syntax.specs.Within.{NamesWithin}
+use Rattle.rml_terms.specs.Within.{NamesWithin}
 use Rattle.rml_names.specs.Meanings.{sort_number}
 use Rattle.rml_sort_check.specs.Demands.{first_fault}
 use Rattle.rml_sorts.specs.Items.{sort_demands}

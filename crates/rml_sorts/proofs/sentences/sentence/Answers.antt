@@ -1,7 +1,7 @@
 use Rattle.std.proofs.Common.{[], sym, subst}
 use Rattle.fol_sig.specs.Symbols.{symbols}
 use Rattle.fol_formula.specs.Fits.{BoundForm}
-use Rattle.rml_syntax.specs.Tree.{expr_tree}
+use Rattle.rml_terms.specs.Tree.{expr_tree}
 use Rattle.rml_elaborate.specs.Formulas.{formula_of}
 use Rattle.rml_names.specs.Drafts.{model_in}
 use Rattle.rml_sorts.proofs.Fitting.{formula_fits}

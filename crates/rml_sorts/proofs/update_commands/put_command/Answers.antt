@@ -1,5 +1,5 @@
 use Rattle.std.proofs.Common.{sym, ◌∙◌}
-use Rattle.rml_syntax.specs.Tree.{expr_tree}
+use Rattle.rml_terms.specs.Tree.{expr_tree}
 use Rattle.rml_names.specs.Drafts.{model_in}
 use Rattle.rml_sorts.proofs.Few.{few_for_put}
 use Rattle.rml_sorts.proofs.update_commands.put_command.Goals as goal

@@ -4,8 +4,8 @@ use Rattle.rml_lex.specs.declared.token.Word.TheVariants.{Or}
 use Rattle.rml_lex.specs.declared.token.Sign.TheVariants.{Semicolon}
 use Rattle.rml_syntax.specs.Tree.{command_trees, block_trees}
 use Rattle.rml_syntax.specs.Reading.{cmd_at, block_at, cmd_starts, inners}
-use Rattle.rml_syntax.proofs.Loop.{Goes}
-use Rattle.rml_syntax.proofs.Between.{Lists}
+use Rattle.rml_phrases.proofs.Loop.{Goes}
+use Rattle.rml_phrases.proofs.Between.{Lists}
 use Rattle.rml_syntax.proofs.commands.+commands.Given as goal
 
 abbrev pub decreases-block : goal.decreases-block

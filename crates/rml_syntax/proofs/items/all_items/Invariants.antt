@@ -1,7 +1,7 @@
 use Rattle.std.proofs.Common.{length}
 use Rattle.rml_syntax.specs.Tree.{item_trees}
 use Rattle.rml_syntax.specs.Reading.{item_at, item_starts, inners}
-use Rattle.rml_syntax.proofs.Runs.{Runs}
+use Rattle.rml_phrases.proofs.Runs.{Runs}
 use Rattle.rml_syntax.proofs.items.all_items.Given as goal
 
 abbrev pub invariant-loop-alloc : goal.invariant-loop-alloc

@@ -1,4 +1,4 @@
-use Rattle.rml_syntax.proofs.Order.{in_order, earlier, cut}
+use Rattle.rml_phrases.proofs.Ascending.{in_order, earlier, cut}
 use Rattle.rml_syntax.proofs.laws.ascending.Goals as goal
 
 pub returns-clause-bounds : goal.returns-clause-bounds

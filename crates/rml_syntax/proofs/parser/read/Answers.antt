@@ -1,6 +1,6 @@
 use Rattle.std.proofs.Common.{subst}
 use Rattle.rml_syntax.specs.Tree.{item_trees}
-use Rattle.rml_syntax.specs.Reading.{Gives}
+use Rattle.rml_phrases.specs.Reading.{Gives}
 use Rattle.rml_syntax.proofs.Texts.{grammar_alone}
 use Rattle.rml_syntax.proofs.parser.read.Goals as goal
 

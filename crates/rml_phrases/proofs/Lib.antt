@@ -1,0 +1,12 @@
+pub mod Exact
+pub mod Levels
+pub mod Listed
+pub mod Fronts
+pub mod Pieces
+pub mod First
+pub mod Loop
+pub mod Between
+pub mod Runs
+pub mod Walk
+pub mod Ascending
+pub mod Standing

@@ -1,0 +1,6 @@
+pub mod Grammar
+pub mod Shorter
+pub mod Walk
+pub mod Within
+pub mod Order
+pub mod Shapes
