@@ -1,8 +1,15 @@
 // What a sentence would cost, counted before anything is built.
-ghost use Rattle.std.specs.Prelude.{[], IfOk};
+ghost use Rattle.std.specs.Prelude.{◌≡◌, ℕ, List, [], sum, IfOk};
+ghost use Rattle.fol_sig.specs.Tables.{Declared};
 ghost use Rattle.fol_sig.specs.Symbols.{symbols};
 ghost use Rattle.fol_sig.specs.Strata.{IsStrata};
+ghost use Rattle.fol_formula.specs.Syntax.{FormTree};
+ghost use Rattle.fol_formula.specs.Counts.{saturated};
 ghost use Rattle.fol_formula.specs.Fits.{FitsForm};
+ghost use Rattle.fol_formula.specs.Fragments.{IsEa};
+ghost use Rattle.ground_size.specs.Conjoined.{and_of};
+ghost use Rattle.ground_size.specs.Counting.{AreTermCounts};
+ghost use Rattle.ground_size.specs.Sizes.{size_of};
 ghost use Rattle.ea_decide.specs.Passing.{ceilings};
 ghost use Rattle.ea_decide.specs.Measuring.{IsMeasured};
 
@@ -10,7 +17,7 @@ use crate::decided::{Measured, Passed};
 use base::Mem;
 use fol_formula::Ea;
 use fol_sig::{Signature, Strata};
-use ground_size::{count, ground_size};
+use ground_size::{Part, count, count_parts, ground_size, ground_size_of_parts};
 use lrat_log::Limits;
 use std::alloc::Global;
 
@@ -28,13 +35,39 @@ pub fn measure(
     ensures { IfOk result (IsMeasured (ceilings limits.now) signature.now sentence.now) }
 {
     let counts = count(alloc, signature, strata, sentence)?;
-    let terms = counts.total();
-    if terms > limits.terms {
-        return Ok(Measured::Over(Passed::Terms(terms)));
-    }
     let size = ground_size(signature, &counts, sentence);
-    if size > limits.ground_size {
-        return Ok(Measured::Over(Passed::GroundSize(size)));
+    Ok(measured(counts.total(), size, limits))
+}
+
+/// The same of the And of these parts, which is not built either.
+pub fn measure_parts(
+    alloc: Global,
+    signature: &Signature,
+    strata: &Strata,
+    parts: &[Part],
+    limits: &Limits,
+) -> Mem<Measured>
+    requires strata { IsStrata (symbols signature.now) strata.now }
+    requires fragment { IsEa (and_of parts.now) }
+    requires fits { FitsForm (symbols signature.now) [] (and_of parts.now) }
+    ensures { IfOk result (IsMeasured (ceilings limits.now) signature.now (and_of parts.now)) }
+{
+    let counts = count_parts(alloc, signature, strata, parts)?;
+    let size = ground_size_of_parts(signature, &counts, parts);
+    Ok(measured(counts.total(), size, limits))
+}
+
+// What is told of so many ground terms and ground formulas of this size.
+fn measured(terms: u64, size: u64, limits: &Limits) -> Measured
+    ensures { (sig : Declared) (p : FormTree) (counts : List ℕ) → AreTermCounts sig p counts
+        → terms ≡ saturated (sum counts) → size ≡ saturated (size_of sig counts p)
+        → IsMeasured (ceilings limits.now) sig p result }
+{
+    if terms > limits.terms {
+        return Measured::Over(Passed::Terms(terms));
     }
-    Ok(Measured::Within(size))
+    if size > limits.ground_size {
+        return Measured::Over(Passed::GroundSize(size));
+    }
+    Measured::Within(size)
 }

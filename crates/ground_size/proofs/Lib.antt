@@ -4,6 +4,7 @@ mod Turns
 mod RowSums
 mod Along
 mod Counted
+mod Conjoining
 mod LeafCounts
 mod Capped
 mod Instances

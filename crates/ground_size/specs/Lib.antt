@@ -1,4 +1,5 @@
 pub mod Counting
+pub mod Conjoined
 pub mod Sizes
 pub mod Laws
 pub mod Walks

@@ -33,8 +33,8 @@ pub fn count(alloc: Global, signature: &Signature, strata: &Strata, sentence: &E
     Ok(Counts { terms })
 }
 
-// The terms of each sort from those of the sorts before it.
-fn counts_along(
+/// The terms of each sort from those of the sorts before it.
+pub(crate) fn counts_along(
     alloc: Global,
     signature: &Signature,
     strata: &Strata,

@@ -6,9 +6,11 @@ mod counting;
 mod counts;
 mod existentials;
 mod laws;
+mod parts;
 mod sizes;
 
 pub use counting::count;
 pub use counts::Counts;
 pub use laws::size_laws;
+pub use parts::{Part, count_parts, ground_size_of_parts};
 pub use sizes::ground_size;

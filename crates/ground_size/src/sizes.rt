@@ -34,11 +34,11 @@ fn size(signature: &Signature, counts: &[u64], sentence: &Ea) -> u64
     instance.saturating_add(axioms(signature, counts))
 }
 
-// The nodes of the instances of a formula's normal form and of its negation's.
+/// The nodes of the instances of a formula's normal form and of its negation's.
 #[derive(Clone, Copy)]
-struct Sizes {
-    positive: u64,
-    negative: u64,
+pub(crate) struct Sizes {
+    pub(crate) positive: u64,
+    pub(crate) negative: u64,
 }
 
 impl Sizes {
@@ -184,8 +184,9 @@ impl Leaves {
     }
 }
 
+/// The sizes of a formula.
 #[cycle(sizes)]
-fn sizes_of(counts: &[u64], formula: &Formula) -> Sizes
+pub(crate) fn sizes_of(counts: &[u64], formula: &Formula) -> Sizes
     ensures { AreSizesOf result counts.now (form formula.now) }
 {
     match formula {

@@ -2,6 +2,7 @@ mod SameAnswer
 mod Shown
 mod FewConstants
 mod Conjoined
+mod Counted
 mod Cycles
 mod OneCount
 mod FirstLimit

@@ -6,8 +6,6 @@ use Rattle.rml_command.specs.Models.{ModelTree}
 use Rattle.ea_decide.specs.Passing.{Ceilings}
 use Rattle.ea_decide.specs.Decisions.{IsDecided}
 use Rattle.ea_decide.specs.declared.decided.Decided.{Decided}
-use Rattle.ea_decide.specs.declared.decided.Measured.{Measured}
-use Rattle.ea_decide.specs.Measuring.{IsMeasured}
 
 -- the signature of a model, and how many functions that has
 pub signature_of : (given : Declared) (held m : ModelTree) → given ≡ held.signature → held ≡ m → given ≡ m.signature
@@ -20,6 +18,10 @@ functions_of f given m is same = is ∙ ap (λ (z : Declared). length z.function
 pub axioms_of : (given : List FormTree) (held m : ModelTree) → given ≡ held.axioms → held ≡ m → given ≡ m.axioms
 axioms_of given held m is same = is ∙ ap (λ (z : ModelTree). z.axioms) same
 
+pub conjectures_of : (given : List FormTree) (held m : ModelTree) → given ≡ held.conjectures → held ≡ m
+    → given ≡ m.conjectures
+conjectures_of given held m is same = is ∙ ap (λ (z : ModelTree). z.conjectures) same
+
 -- the answer to a sentence of the signature
 module _ (limits : Ceilings) (given sig : Declared) (p q : FormTree) (d e : Decided) where
   pub same_answer : given ≡ sig → p ≡ q → d ≡ e → IsDecided limits given p d → IsDecided limits sig q e
@@ -27,9 +29,3 @@ module _ (limits : Ceilings) (given sig : Declared) (p q : FormTree) (d e : Deci
       let by_signature = subst (λ (z : Declared). IsDecided limits z p d) s h in
       let by_sentence = subst (λ (r : FormTree). IsDecided limits sig r d) t by_signature in
       subst (λ (a : Decided). IsDecided limits sig q a) u by_sentence
-
--- what a sentence of the signature would cost
-pub same_measure : (limits : Ceilings) (given sig : Declared) (p : FormTree) (d e : Measured) → given ≡ sig → d ≡ e
-    → IsMeasured limits given p d → IsMeasured limits sig p e
-same_measure limits given sig p d e s u h =
-    subst (λ (a : Measured). IsMeasured limits sig p a) u (subst (λ (z : Declared). IsMeasured limits z p d) s h)

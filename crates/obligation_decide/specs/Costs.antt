@@ -1,8 +1,11 @@
 -- What a goal would cost where the structures must satisfy further sentences, or the limit that it passes by its size.
-use Rattle.std.specs.Prelude.{◌≡◌, ◌≤◌, List, Some, None}
+use Rattle.std.specs.Prelude.{◌≡◌, ◌≤◌, List, [], ◌∷◌, Some, None}
 use Rattle.fol_formula.specs.Syntax.{FormTree}
 use Rattle.rml_command.specs.Models.{ModelTree}
+use Rattle.rml_command.specs.Outcomes.{all_of}
 use Rattle.rml_command.specs.declared.goal.Goal.{Goal}
+use Rattle.rml_command.specs.declared.goal.Stage.{Stage}
+use Rattle.rml_command.specs.declared.goal.Stage.TheVariants as stage
 use Rattle.rml_wp.specs.Added.{refuting_all}
 use Rattle.ea_decide.specs.declared.decided.Passed.{Passed}
 use Rattle.ea_decide.specs.Passing.{Ceilings, Passes}
@@ -11,6 +14,12 @@ use Rattle.obligation_decide.specs.GoalPassing.{cause_of}
 use Rattle.obligation_decide.specs.Restricted.{RestrictedPassesFirst}
 use Rattle.obligation_decide.specs.declared.decision.Measured.{Measured}
 use Rattle.obligation_decide.specs.declared.decision.Measured.TheVariants.{Within, Over}
+
+-- The part of a refuting sentence that stands for these conjectures. Private contracts alone cite this.
+abbrev pub held_before : Stage → List FormTree → List FormTree
+held_before stage.Init held = []
+held_before (stage.Action a) held = all_of held ∷ []
+held_before stage.Final held = all_of held ∷ []
 
 -- Of the sentence. Private contracts alone cite this.
 abbrev pub IsSentenceMeasured : Ceilings → ModelTree → FormTree → Measured → Type 0

@@ -1,24 +1,27 @@
-// What a goal would cost.
-ghost use Rattle.std.specs.Prelude.{[], IfOk};
+// What a goal would cost. Its refuting sentence is counted where its parts stand: of many conjectures, most of it, none
+// is copied.
+ghost use Rattle.std.specs.Prelude.{◌≡◌, [], IfOk};
 ghost use Rattle.std.specs.List.{AllByRecursion};
 ghost use Rattle.fol_sig.specs.Symbols.{symbols};
 ghost use Rattle.fol_formula.specs.Fits.{FitsForm};
 ghost use Rattle.fol_formula.specs.Fragments.{IsEa};
 ghost use Rattle.rml_command.specs.Goals.{IsGoal};
-ghost use Rattle.rml_wp.specs.declared.premises.Premises.TheVariants.{All};
+ghost use Rattle.rml_wp.specs.Preconditions.{goal_precondition};
+ghost use Rattle.rml_wp.specs.Added.{refuting_all};
+ghost use Rattle.ground_size.specs.Conjoined.{forms_at};
 ghost use Rattle.ea_decide.specs.Passing.{ceilings};
-ghost use Rattle.obligation_decide.specs.Restricted.{IsRefutingWith};
-ghost use Rattle.obligation_decide.specs.Costs.{IsSentenceMeasured, IsRestrictedMeasured};
+ghost use Rattle.obligation_decide.specs.Costs.{IsSentenceMeasured, IsRestrictedMeasured, held_before};
 
 use crate::cause_of;
 use crate::decision::Measured;
-use crate::parts::restricted_by;
 use base::{Mem, Refused};
-use fol_formula::{Ea, Sentence};
+use ea_decide::measure_parts;
+use fol_formula::{Ae, Sentence};
+use ground_size::Part;
 use lrat_log::Limits;
-use rml_command::{Checked, Goal};
+use rml_command::{Checked, Goal, Stage};
 use rml_report::Cause;
-use rml_wp::Premises;
+use rml_wp::precondition;
 use std::alloc::{AllocError, Global};
 
 /// What it would cost to decide whether a goal of the model has a counterexample in a structure that satisfies further
@@ -35,11 +38,9 @@ pub fn measure_where(
     requires fits { AllByRecursion (FitsForm (symbols checked.now.signature) []) more.now }
     ensures { IfOk result (IsRestrictedMeasured (ceilings limits.now) checked.now more.now goal.now) }
 {
-    rml_wp::sentence_law();
-    let _checked = checked.model();
-    match restricted_by(alloc, checked, Premises::All, goal, more) {
-        Ok(sentence) => {
-            let measured = measure_sentence(alloc, checked, goal, &sentence, limits)?;
+    match precondition(alloc, checked, goal) {
+        Ok(precondition) => {
+            let measured = measure_refuting(alloc, checked, goal, &precondition, more, limits)?;
             Ok(measured)
         }
         Err(Refused::NoMemory) => Err(AllocError),
@@ -47,22 +48,46 @@ pub fn measure_where(
     }
 }
 
-// By its refuting sentence, which may have further parts.
-fn measure_sentence(
+// By its refuting sentence with further parts, given its precondition.
+fn measure_refuting(
     alloc: Global,
     checked: &Checked,
     goal: &Goal,
-    sentence: &Ea,
+    precondition: &Ae,
+    more: &[Sentence],
     limits: &Limits,
 ) -> Mem<Measured>
     requires goal { IsGoal checked.now goal.now }
-    requires sentence { IsRefutingWith All checked.now goal.now sentence.now }
-    ensures { IfOk result (IsSentenceMeasured (ceilings limits.now) checked.now sentence.now) }
+    requires precondition { precondition.now ≡ goal_precondition checked.now goal.now }
+    requires fragment { AllByRecursion IsEa more.now }
+    requires fits { AllByRecursion (FitsForm (symbols checked.now.signature) []) more.now }
+    ensures { IfOk result (IsSentenceMeasured (ceilings limits.now) checked.now
+        (refuting_all checked.now checked.now.conjectures more.now goal.now)) }
 {
     rml_wp::sentence_law();
-    let signature = checked.model().signature();
-    match ea_decide::measure(alloc, signature, checked.strata(), sentence, limits)? {
+    let model = checked.model();
+    let axioms = model.axioms();
+    let held = held_before(goal.stage, model.conjectures());
+    let parts = [
+        Part::All(axioms),
+        held,
+        Part::Not(precondition.sentence()),
+        Part::Each(more),
+    ];
+    let signature = model.signature();
+    match measure_parts(alloc, signature, checked.strata(), &parts, limits)? {
         ea_decide::Measured::Within(size) => Ok(Measured::Within(size)),
         ea_decide::Measured::Over(passed) => Ok(Measured::Over(cause_of(passed))),
+    }
+}
+
+// What holds before a stage beside the axioms: the conjectures, but before init nothing.
+fn held_before<'a>(stage: Stage, conjectures: &'a [Sentence]) -> Part<'a>
+    ensures { forms_at result ≡ held_before stage conjectures.now }
+{
+    match stage {
+        Stage::Init => Part::Each(&[]),
+        Stage::Action(_) => Part::All(conjectures),
+        Stage::Final => Part::All(conjectures),
     }
 }
