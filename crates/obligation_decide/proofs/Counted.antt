@@ -1,5 +1,5 @@
 -- A refuting sentence that is counted where its parts stand.
-use Rattle.std.proofs.Common.{◌≡◌, List, [], ◌∷◌, ◌++◌, refl, sym, ap, ◌∙◌, subst, append-nil}
+use Rattle.std.proofs.Common.{◌≡◌, List, [], ◌∷◌, ◌++◌, sym, ap, ◌∙◌, subst, append-nil}
 use Rattle.fol_sig.specs.Tables.{Declared}
 use Rattle.fol_sig.specs.Symbols.{symbols}
 use Rattle.fol_formula.specs.Syntax.{FormTree, negation}
@@ -17,6 +17,7 @@ use Rattle.ea_decide.specs.Passing.{Ceilings}
 use Rattle.ea_decide.specs.Measuring.{IsMeasured}
 use Rattle.ea_decide.specs.declared.decided.Measured.{Measured}
 use Rattle.obligation_decide.specs.Costs.{held_before}
+use Rattle.obligation_decide.proofs.SameAnswer.{axioms_of}
 
 -- the parts as they are counted, the axioms first
 abbrev pub counted_parts : List FormTree → List FormTree → FormTree → List FormTree → FormTree
@@ -33,7 +34,7 @@ in_order (stage.Action a) axioms held more p =
 in_order stage.Final axioms held more p =
     ap (λ qs. all_of (all_of axioms ∷ (all_of held ∷ (negation p ∷ qs)))) (append-nil more)
 
-pub is_refuting : (m : ModelTree) (goal : Goal) (axioms held more : List FormTree) (p : FormTree) → axioms ≡ m.axioms
+is_refuting : (m : ModelTree) (goal : Goal) (axioms held more : List FormTree) (p : FormTree) → axioms ≡ m.axioms
     → held ≡ held_before goal.stage m.conjectures → p ≡ goal_precondition m goal
     → counted_parts axioms held p more ≡ refuting_all m m.conjectures more goal
 is_refuting m goal axioms held more p same before is =
@@ -41,6 +42,15 @@ is_refuting m goal axioms held more p same before is =
     ∙ ap (λ (ps : List FormTree). counted_parts m.axioms ps p more) before
     ∙ ap (λ (q : FormTree). counted_parts m.axioms (held_before goal.stage m.conjectures) q more) is
     ∙ in_order goal.stage m.axioms m.conjectures more (goal_precondition m goal)
+
+-- the parts that a model lends
+pub lent : (m given : ModelTree) (goal : Goal) (axioms conjectures held more : List FormTree) (p q : FormTree)
+    → given ≡ m → axioms ≡ given.axioms → conjectures ≡ given.conjectures → held ≡ held_before goal.stage conjectures
+    → p ≡ q → q ≡ goal_precondition m goal → counted_parts axioms held p more ≡ refuting_all m m.conjectures more goal
+lent m given goal axioms conjectures held more p q same by_axioms by_conjectures by_held is before =
+    let of_model = by_conjectures ∙ ap (λ (z : ModelTree). z.conjectures) same in
+    is_refuting m goal axioms held more p (axioms_of axioms given m by_axioms same)
+    (by_held ∙ ap (λ (cs : List FormTree). held_before goal.stage cs) of_model) (is ∙ before)
 
 module _ (m : ModelTree) (goal : Goal) (more : List FormTree) (p : FormTree)
     (is : p ≡ refuting_all m m.conjectures more goal) where

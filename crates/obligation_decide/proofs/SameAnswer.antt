@@ -18,10 +18,6 @@ functions_of f given m is same = is ∙ ap (λ (z : Declared). length z.function
 pub axioms_of : (given : List FormTree) (held m : ModelTree) → given ≡ held.axioms → held ≡ m → given ≡ m.axioms
 axioms_of given held m is same = is ∙ ap (λ (z : ModelTree). z.axioms) same
 
-pub conjectures_of : (given : List FormTree) (held m : ModelTree) → given ≡ held.conjectures → held ≡ m
-    → given ≡ m.conjectures
-conjectures_of given held m is same = is ∙ ap (λ (z : ModelTree). z.conjectures) same
-
 -- the answer to a sentence of the signature
 module _ (limits : Ceilings) (given sig : Declared) (p q : FormTree) (d e : Decided) where
   pub same_answer : given ≡ sig → p ≡ q → d ≡ e → IsDecided limits given p d → IsDecided limits sig q e
