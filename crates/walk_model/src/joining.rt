@@ -1,7 +1,7 @@
 // The joined paths of a walk, as a block: its primitives in sequence, so that the block has this one path.
-ghost use Rattle.std.specs.Prelude.{◌≡◌, ◌++◌, map, Some, IfOk, OnOk};
+ghost use Rattle.std.specs.Prelude.{◌≡◌, ◌∷◌, ◌++◌, [], map, Some, IfOk, OnOk};
 ghost use Rattle.std.specs.List.{AllByRecursion};
-ghost use Rattle.rml_command.specs.Trees.{prim, seq, no_commands, commands_of};
+ghost use Rattle.rml_command.specs.Trees.{abort, prim, seq, no_commands, commands_of};
 ghost use Rattle.base.specs.Lists.{numbered};
 ghost use Rattle.rml_command.specs.Goals.{stage_paths};
 ghost use Rattle.rml_command.specs.View.{command as command_view, primitive as primitive_view};
@@ -52,10 +52,10 @@ fn add_path(alloc: Global, path: &Path, into: &mut Vec<Command>) -> Mem<()>
     Ok(())
 }
 
-/// The paths of a walk, joined.
-pub fn join(alloc: Global, checked: &Checked, legs: &[Leg]) -> Mem<Command>
+// The primitives of a walk.
+fn primitives(alloc: Global, checked: &Checked, legs: &[Leg]) -> Mem<Vec<Command>>
     requires { AllByRecursion (IsLeg checked.now) legs.now }
-    ensures { IfOk result (λ c. command_view c ≡ seq (commands_of (map prim (joined checked.now legs.now)))) }
+    ensures { IfOk result (λ cs. map command_view cs.items ≡ map prim (joined checked.now legs.now)) }
 {
     let mut commands = Vec::new(alloc);
     let mut rest = legs;
@@ -63,5 +63,25 @@ pub fn join(alloc: Global, checked: &Checked, legs: &[Leg]) -> Mem<Command>
         add_path(alloc, &path_of(checked, leg), &mut commands)?;
         rest = after;
     }
+    Ok(commands)
+}
+
+/// The paths of a walk, joined.
+pub fn join(alloc: Global, checked: &Checked, legs: &[Leg]) -> Mem<Command>
+    requires { AllByRecursion (IsLeg checked.now) legs.now }
+    ensures { IfOk result (λ c. command_view c ≡ seq (commands_of (map prim (joined checked.now legs.now)))) }
+{
+    let commands = primitives(alloc, checked, legs)?;
+    Ok(sequence(commands))
+}
+
+/// The paths of a walk, joined, and an abort.
+pub fn join_and_abort(alloc: Global, checked: &Checked, legs: &[Leg]) -> Mem<Command>
+    requires { AllByRecursion (IsLeg checked.now) legs.now }
+    ensures { IfOk result
+        (λ c. command_view c ≡ seq (commands_of (map prim (joined checked.now legs.now ++ abort ∷ [])))) }
+{
+    let mut commands = primitives(alloc, checked, legs)?;
+    commands.push(step(Primitive::Abort))?;
     Ok(sequence(commands))
 }
