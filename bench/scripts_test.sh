@@ -415,6 +415,9 @@ else
     expect 'examples: each has a verdict' ended 0
     bench examples.py "$room/none.rml"
     expect 'examples: a file without a verdict is told' ended 1
+    bench houdini.py 3 1 "$examples/lock_server.rml"
+    expect 'houdini: a line' wrote '| `lock_server.rml` | 3 | '
+    expect 'houdini: its answer is inductive' ended 0
     bench ground.py "$examples/lock_server.rml"
     expect 'ground: a line' wrote '| `lock_server.rml` '
     bench sentences.py "$examples/flag.rml"
