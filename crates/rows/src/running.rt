@@ -206,17 +206,18 @@ fn run_between<F: Files>(
         Written::All => "all",
         Written::Failed => "failed",
     };
-    let actual = Actual {
-        status: ended.status,
-        outcome: name_of(&ended.outcome),
+    let outcome = name_of(&ended.outcome);
+    let loads = (ended.loaded.first.len(), ended.loaded.second.len());
+    let stands_in_text = stands_in_text(&ended);
+    Actual {
+        status: ended.into_status(),
+        outcome,
         written,
-        loads: (ended.loaded.first.len(), ended.loaded.second.len()),
-        stands_in_text: stands_in_text(&ended),
+        loads,
+        stands_in_text,
         out,
         err,
-    };
-    drop(ended);
-    actual
+    }
 }
 
 fn run_over<F: Files>(alloc: Global, row: &Row, files: &mut F) -> Parsed<Actual> {
