@@ -1,0 +1,7 @@
+mod Unmet
+mod Sizes
+mod Ready
+mod Confirmed
+mod Converse
+mod Heights
+mod Ascending
