@@ -392,9 +392,11 @@ if python3 -c 'import z3' 2>/dev/null; then
     bench z3_goals.py "$here/examples/flag.rml"
     expect 'z3_goals: the group that fails' wrote_line 'action raise down: fails'
     expect 'z3_goals: its status is that of the verdict' ended 1
+    bench z3_reasons.py "$here/examples/lock_server.rml"
+    expect 'z3_reasons: a conjecture that carries a group' wrote_line '    linked_down, without which path 1 fails'
 else
     skipped=$((skipped + 1))
-    echo "skipped, since there is no z3 for Python: z3_goals.py"
+    echo "skipped, since there is no z3 for Python: z3_goals.py, z3_reasons.py"
 fi
 
 bench ivycheck_test.sh
