@@ -1,5 +1,5 @@
 -- The goals of a group, path by path; the groups of a stage; the stages of a round.
-use Rattle.std.proofs.Common.{◌≡◌, ◌+◌, ◌-◌, ◌<◌, ◌≤◌, ℕ, zero, suc, Bool, true, false, cond, not, List, [], ◌∷◌, ◌++◌}
+use Rattle.std.proofs.Common.{◌≡◌, ◌+◌, ◌-◌, ◌<◌, ◌≤◌, ℕ, zero, suc, Bool, true, false, cond, List, [], ◌∷◌, ◌++◌}
 use Rattle.std.proofs.Common.{length, drop, get_or, map, Some, sym, ap, ◌∙◌, subst, arith}
 use Rattle.std.proofs.lemmas.List.{drop_all, drop_more}
 use Rattle.std.specs.Prelude.{slice_get}
@@ -7,13 +7,11 @@ use Rattle.std.specs.List.{flat_map}
 use Rattle.rml_command.specs.Trees.{PrimitiveTree}
 use Rattle.base.specs.Lists.{count_from, numbered}
 use Rattle.rml_command.specs.Models.{ModelTree}
-use Rattle.rml_command.specs.Paths.{has_abort}
 use Rattle.rml_command.specs.Goals.{Group, goals_among, stage_paths, is_for, HasAbout, IsGoal}
 use Rattle.rml_command.specs.declared.goal.Stage.{Stage}
 use Rattle.rml_command.specs.declared.goal.Stage.TheVariants as stage
 use Rattle.rml_command.specs.declared.goal.About.TheVariants as about
 use Rattle.rml_command.specs.declared.goal.Goal.{Goal}
-use Rattle.rml_houdini.specs.Rounds.{group_at}
 use Rattle.rml_houdini.specs.Progress.{IsConjectureStage}
 
 dropped : (ps : List (List PrimitiveTree)) (i : ℕ) (p : List PrimitiveTree) → slice_get ps i ≡ Some p
@@ -38,38 +36,38 @@ turn group ps i p b at is =
     ∙ ap (λ b. cond b (first ∷ goals_among group (suc (i + 1)) rest) (goals_among group (suc (i + 1)) rest)) is
     ∙ ap (λ n. cond b (first ∷ goals_among group n rest) (goals_among group n rest)) next
 
--- a path that ends in abort is no goal
-pub passed : (st : Stage) (k : ℕ) (ps : List (List PrimitiveTree)) (i : ℕ) (p : List PrimitiveTree)
-    → slice_get ps i ≡ Some p → has_abort p ≡ true
-    → goals_among (group_at st k) (i + 1) (drop i ps) ≡ goals_among (group_at st k) (i + 1 + 1) (drop (i + 1) ps)
-passed st k ps i p at aborts = turn (group_at st k) ps i p false at (ap not aborts)
+-- a path of the other kind is no goal
+pub passed : (group : Group) (ps : List (List PrimitiveTree)) (i : ℕ) (p : List PrimitiveTree)
+    → slice_get ps i ≡ Some p → is_for group.about p ≡ false
+    → goals_among group (i + 1) (drop i ps) ≡ goals_among group (i + 1 + 1) (drop (i + 1) ps)
+passed group ps i p at is = turn group ps i p false at is
 
 -- another is the next
-pub listed : (st : Stage) (k : ℕ) (ps : List (List PrimitiveTree)) (i : ℕ) (p : List PrimitiveTree)
-    → slice_get ps i ≡ Some p → has_abort p ≡ false
-    → goals_among (group_at st k) (i + 1) (drop i ps)
-    ≡ record { stage = st; path = i + 1; about = about.Conjecture k }
-    ∷ goals_among (group_at st k) (i + 1 + 1) (drop (i + 1) ps)
-listed st k ps i p at ends = turn (group_at st k) ps i p true at (ap not ends)
+pub listed : (group : Group) (ps : List (List PrimitiveTree)) (i : ℕ) (p : List PrimitiveTree)
+    → slice_get ps i ≡ Some p → is_for group.about p ≡ true
+    → goals_among group (i + 1) (drop i ps)
+    ≡ record { stage = group.stage; path = i + 1; about = group.about }
+    ∷ goals_among group (i + 1 + 1) (drop (i + 1) ps)
+listed group ps i p at is = turn group ps i p true at is
 
 -- no path is left
-pub no_path : (st : Stage) (k : ℕ) (ps : List (List PrimitiveTree)) (i : ℕ) → length ps ≤ i
-    → goals_among (group_at st k) (i + 1) (drop i ps) ≡ []
-no_path st k ps i le = ap (goals_among (group_at st k) (i + 1)) (drop_all i ps le)
+pub no_path : (group : Group) (ps : List (List PrimitiveTree)) (i : ℕ) → length ps ≤ i
+    → goals_among group (i + 1) (drop i ps) ≡ []
+no_path group ps i le = ap (goals_among group (i + 1)) (drop_all i ps le)
 
 -- such a path is a goal of the model
-pub is_goal : (m : ModelTree) (st : Stage) (k i : ℕ) (ps : List (List PrimitiveTree)) (p : List PrimitiveTree)
-    → ps ≡ stage_paths m st → slice_get ps i ≡ Some p → has_abort p ≡ false
-    → HasAbout m st (about.Conjecture k)
-    → IsGoal m (record { stage = st; path = i + 1; about = about.Conjecture k })
-is_goal m st k i ps p same at ends has =
+pub is_goal : (m : ModelTree) (group : Group) (i : ℕ) (ps : List (List PrimitiveTree)) (p : List PrimitiveTree)
+    → ps ≡ stage_paths m group.stage → slice_get ps i ≡ Some p → is_for group.about p ≡ true
+    → HasAbout m group.stage group.about
+    → IsGoal m (record { stage = group.stage; path = i + 1; about = group.about })
+is_goal m group i ps p same at kind has =
     let next : suc i ≡ i + 1 = omega arith in
-    let here : slice_get (stage_paths m st) i ≡ Some p =
+    let here : slice_get (stage_paths m group.stage) i ≡ Some p =
     subst (λ (qs : List (List PrimitiveTree)). slice_get qs i ≡ Some p) same at in
     record {
       path = p;
-      is_path = subst (λ (n : ℕ). numbered (stage_paths m st) n ≡ Some p) next here;
-      kind = ap not ends;
+      is_path = subst (λ (n : ℕ). numbered (stage_paths m group.stage) n ≡ Some p) next here;
+      kind = kind;
       about = has;
     }
 

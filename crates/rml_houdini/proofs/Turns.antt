@@ -6,11 +6,9 @@ use Rattle.std.specs.List.{flat_map}
 use Rattle.rml_command.specs.Trees.{PrimitiveTree}
 use Rattle.base.specs.Lists.{count_from}
 use Rattle.rml_command.specs.Models.{ModelTree}
-use Rattle.rml_command.specs.Paths.{has_abort}
-use Rattle.rml_command.specs.Goals.{goals_among, group_goals, stage_paths, IsGoal}
+use Rattle.rml_command.specs.Goals.{Group, goals_among, group_goals, is_for, stage_paths, IsGoal}
 use Rattle.rml_command.specs.declared.goal.Stage.{Stage}
 use Rattle.rml_command.specs.declared.goal.Stage.TheVariants as stage
-use Rattle.rml_command.specs.declared.goal.About.TheVariants as about
 use Rattle.rml_command.specs.declared.goal.Goal.{Goal}
 use Rattle.rml_exec.specs.declared.trace.Counterexample.{Counterexample}
 use Rattle.rml_wp.specs.Preconditions.{conjectures_of}
@@ -28,55 +26,55 @@ use Rattle.rml_houdini.proofs.Paths.{passed, listed, no_path, next_of, none_of, 
 
 module _ (limits : Ceilings) (m : ModelTree) (held : List ℕ) (start : Option (Goal × Cause)) where
   -- the goals of a group, along its paths
-  module _ (st : Stage) (k : ℕ) (ps : List (List PrimitiveTree)) where
+  module _ (group : Group) (ps : List (List PrimitiveTree)) where
     abbrev pub ThroughPaths : Option (Goal × Cause) → ℕ → Type 0
-    ThroughPaths now i = Completes limits m held start (group_goals m (group_at st k)) now
-        (goals_among (group_at st k) (i + 1) (drop i ps))
+    ThroughPaths now i = Completes limits m held start (group_goals m group) now
+        (goals_among group (i + 1) (drop i ps))
 
     abbrev pub goal_at : ℕ → Goal
-    goal_at i = record { stage = st; path = i + 1; about = about.Conjecture k }
+    goal_at i = record { stage = group.stage; path = i + 1; about = group.about }
 
-    pub first_path : ps ≡ stage_paths m st → ThroughPaths start 0
+    pub first_path : ps ≡ stage_paths m group.stage → ThroughPaths start 0
     first_path same r h =
-        subst (λ (qs : List (List PrimitiveTree)). IsRound limits m held start (goals_among (group_at st k) 1 qs) r) same
+        subst (λ (qs : List (List PrimitiveTree)). IsRound limits m held start (goals_among group 1 qs) r) same
         h
 
     module _ (now : Option (Goal × Cause)) (i : ℕ) (p : List PrimitiveTree) (at : slice_get ps i ≡ Some p)
         (whole : ThroughPaths now i) where
-      pub path_passed : has_abort p ≡ true → ThroughPaths now (i + 1)
-      path_passed aborts r h =
-          whole r (subst (λ (gs : List Goal). IsRound limits m held now gs r) (sym (passed st k ps i p at aborts)) h)
+      pub path_passed : is_for group.about p ≡ false → ThroughPaths now (i + 1)
+      path_passed other r h =
+          whole r (subst (λ (gs : List Goal). IsRound limits m held now gs r) (sym (passed group ps i p at other)) h)
 
-      here : has_abort p ≡ false → Completes limits m held start (group_goals m (group_at st k)) now
-          (goal_at i ∷ goals_among (group_at st k) (i + 1 + 1) (drop (i + 1) ps))
-      here ends r h =
-          whole r (subst (λ (gs : List Goal). IsRound limits m held now gs r) (sym (listed st k ps i p at ends)) h)
+      here : is_for group.about p ≡ true → Completes limits m held start (group_goals m group) now
+          (goal_at i ∷ goals_among group (i + 1 + 1) (drop (i + 1) ps))
+      here kind r h =
+          whole r (subst (λ (gs : List Goal). IsRound limits m held now gs r) (sym (listed group ps i p at kind)) h)
 
-      pub path_safe : has_abort p ≡ false → IsSafe limits m held (goal_at i) → ThroughPaths now (i + 1)
-      path_safe ends safe =
-          behind_safe limits m held start (group_goals m (group_at st k)) now (goal_at i)
-          (goals_among (group_at st k) (i + 1 + 1) (drop (i + 1) ps)) (here ends) safe
+      pub path_safe : is_for group.about p ≡ true → IsSafe limits m held (goal_at i) → ThroughPaths now (i + 1)
+      path_safe kind safe =
+          behind_safe limits m held start (group_goals m group) now (goal_at i)
+          (goals_among group (i + 1 + 1) (drop (i + 1) ps)) (here kind) safe
 
-      pub path_open : has_abort p ≡ false → (c : Cause) → IsOpen limits m held (goal_at i) c
+      pub path_open : is_for group.about p ≡ true → (c : Cause) → IsOpen limits m held (goal_at i) c
           → ThroughPaths (earlier_of now (goal_at i) c) (i + 1)
-      path_open ends c left =
-          behind_open limits m held start (group_goals m (group_at st k)) now (goal_at i) c
-          (goals_among (group_at st k) (i + 1 + 1) (drop (i + 1) ps)) (here ends) left
+      path_open kind c left =
+          behind_open limits m held start (group_goals m group) now (goal_at i) c
+          (goals_among group (i + 1 + 1) (drop (i + 1) ps)) (here kind) left
 
-      pub path_fails : has_abort p ≡ false → (shown : Counterexample) → IsGoal m (goal_at i)
+      pub path_fails : is_for group.about p ≡ true → (shown : Counterexample) → IsGoal m (goal_at i)
           → PassesFirstBy limits m (conjectures_of m held) (goal_at i) None
           → IsFailingBy limits m (conjectures_of m held) (goal_at i) shown
-          → IsRound limits m held start (group_goals m (group_at st k)) (Fails shown)
-      path_fails ends shown is within fails =
-          here ends (Fails shown) (round_failing limits m held now (goal_at i)
-          (goals_among (group_at st k) (i + 1 + 1) (drop (i + 1) ps)) shown is within fails)
+          → IsRound limits m held start (group_goals m group) (Fails shown)
+      path_fails kind shown is within fails =
+          here kind (Fails shown) (round_failing limits m held now (goal_at i)
+          (goals_among group (i + 1 + 1) (drop (i + 1) ps)) shown is within fails)
 
     pub paths_end : (now : Option (Goal × Cause)) (i : ℕ) → length ps ≤ i → ThroughPaths now i
-        → IsRound limits m held start (group_goals m (group_at st k)) (Passes now)
+        → IsRound limits m held start (group_goals m group) (Passes now)
     paths_end now i le whole =
-        at_last limits m held start (group_goals m (group_at st k)) now
-        (subst (λ (gs : List Goal). Completes limits m held start (group_goals m (group_at st k)) now gs)
-        (no_path st k ps i le) whole)
+        at_last limits m held start (group_goals m group) now
+        (subst (λ (gs : List Goal). Completes limits m held start (group_goals m group) now gs)
+        (no_path group ps i le) whole)
 
   -- the goals of a stage, along the conjectures
   module _ (st : Stage) where

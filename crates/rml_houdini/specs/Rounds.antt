@@ -14,6 +14,8 @@ use Rattle.rml_report.specs.declared.cause.Cause.{Cause}
 use Rattle.ea_decide.specs.Passing.{Ceilings}
 use Rattle.obligation_decide.specs.GoalPassing.{PassesFirstBy}
 use Rattle.obligation_decide.specs.GoalDecisions.{HasNoneBy, IsFailingBy, IsLeftOpenBy}
+use Rattle.rml_houdini.specs.declared.round.Round.{Round}
+use Rattle.rml_houdini.specs.declared.round.Round.TheVariants.{Fails, Passes}
 
 -- init and each action: behind these a conjecture is to hold
 abbrev pub conjecture_stages : ModelTree → List Stage
@@ -67,3 +69,8 @@ pub record IsFirstOpen (limits : Ceilings) (m : ModelTree) (held : List ℕ) (go
 abbrev pub AreSettled : Ceilings → ModelTree → List ℕ → List Goal → Option (Goal × Cause) → Type 0
 AreSettled limits m held goals None = AllByRecursion (IsSafe limits m held) goals
 AreSettled limits m held goals (Some first) = IsFirstOpen limits m held goals first.0 first.1
+
+-- what was found of goals where these are held
+abbrev pub IsDecided : Ceilings → ModelTree → List ℕ → List Goal → Round → Type 0
+IsDecided limits m held goals (Fails shown) = IsFirstFailing limits m held goals shown
+IsDecided limits m held goals (Passes unsettled) = AreSettled limits m held goals unsettled

@@ -1,7 +1,5 @@
 // Conjectures are dropped one by one. Each drop leaves fewer, so the rounds end.
-ghost use Rattle.std.specs.Prelude.{◌≡◌, ◌==◌, not, length, IfOk};
-ghost use Rattle.std.specs.List.{filter};
-ghost use Rattle.base.specs.Lists.{count_from};
+ghost use Rattle.std.specs.Prelude.{◌≡◌, IfOk};
 ghost use Rattle.ea_decide.specs.Passing.{ceilings};
 ghost use Rattle.rml_houdini.specs.Greatest.{IsFound};
 ghost use Rattle.rml_houdini.specs.Progress.{IsConjecture};
@@ -9,35 +7,11 @@ ghost use Rattle.rml_houdini.specs.Progress.{IsConjecture};
 use crate::houdini::{Dropped, Houdini};
 use crate::laws::{dropping_law, settled_law};
 use crate::round::{Round, decide_round};
+use crate::sets::{all_conjectures, without};
 use base::{Mem, Row};
 use lrat_log::Limits;
 use rml_command::{About, Checked};
 use std::alloc::Global;
-
-// All conjectures of a model, by their numbers.
-fn all_conjectures(alloc: Global, checked: &Checked) -> Mem<Vec<u32>>
-    ensures { IfOk result (λ all. all.items ≡ count_from 0 (length checked.now.conjectures)) }
-{
-    let count = checked.model().conjectures().len() as u32;
-    let mut all = Vec::with_capacity(alloc, count as usize)?;
-    for k in 0..count {
-        all.push(k)?;
-    }
-    Ok(all)
-}
-
-// The numbers but this one.
-fn without(alloc: Global, numbers: &[u32], number: u32) -> Mem<Vec<u32>>
-    ensures { IfOk result (λ left. left.items ≡ filter (λ k. not (number == k)) numbers.now) }
-{
-    let mut left = Vec::with_capacity(alloc, numbers.len())?;
-    for k in numbers {
-        if number != *k {
-            left.push(*k)?;
-        }
-    }
-    Ok(left)
-}
 
 // The conjecture that a goal is about.
 fn conjecture_of(about: About) -> u32

@@ -1,6 +1,6 @@
 use Rattle.std.proofs.Common.{◌≡◌, ◌-◌, ◌++◌, length}
 use Rattle.base.specs.Lists.{count_from}
-use Rattle.rml_houdini.proofs.finding.all_conjectures.Given as goal
+use Rattle.rml_houdini.proofs.sets.all_conjectures.Given as goal
 
 abbrev pub invariant-loop-k : goal.invariant-loop-k
 invariant-loop-k l = record {

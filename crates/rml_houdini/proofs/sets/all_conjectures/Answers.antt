@@ -1,7 +1,7 @@
 use Rattle.std.proofs.Common.{◌∙◌, ap}
 use Rattle.base.specs.Lists.{count_from}
 use Rattle.rml_houdini.proofs.Drops.{pushed_count, whole_count}
-use Rattle.rml_houdini.proofs.finding.all_conjectures.Goals as goal
+use Rattle.rml_houdini.proofs.sets.all_conjectures.Goals as goal
 
 pub loop-k-preserved : goal.loop-k-preserved
 loop-k-preserved c = record {

@@ -1,0 +1,11 @@
+-- What a reason means.
+use Rattle.std.specs.Prelude.{ℕ, List}
+use Rattle.rml_command.specs.Models.{ModelTree}
+use Rattle.rml_command.specs.Goals.{Group, Holds}
+use Rattle.ea_decide.specs.Passing.{Ceilings}
+use Rattle.rml_reasons.specs.Reasons.{IsReason}
+
+-- A group that some conjectures carry holds: none of its goals has a counterexample where all conjectures are held.
+abbrev pub CarriedGroupsHold : Type 0
+CarriedGroupsHold = (limits : Ceilings) (m : ModelTree) (group : Group) (ks : List ℕ) → IsReason limits m group ks
+    → Holds m group
