@@ -392,9 +392,11 @@ if python3 -c 'import z3' 2>/dev/null; then
     bench z3_goals.py "$here/examples/flag.rml"
     expect 'z3_goals: the group that fails' wrote_line 'action raise down: fails'
     expect 'z3_goals: its status is that of the verdict' ended 1
+    bench z3_reasons.py "$here/examples/lock_server.rml"
+    expect 'z3_reasons: the lines that show_reasons prints' diff "$room/out" <(sed -n '2,/^[^ ]/{/^ /p}' "$here/crates/show_reasons/stdout")
 else
     skipped=$((skipped + 1))
-    echo "skipped, since there is no z3 for Python: z3_goals.py"
+    echo "skipped, since there is no z3 for Python: z3_goals.py, z3_reasons.py"
 fi
 
 bench ivycheck_test.sh
@@ -415,6 +417,9 @@ else
     expect 'examples: each has a verdict' ended 0
     bench examples.py "$room/none.rml"
     expect 'examples: a file without a verdict is told' ended 1
+    bench houdini.py 3 1 "$examples/lock_server.rml"
+    expect 'houdini: a line' wrote '| `lock_server.rml` | 3 | '
+    expect 'houdini: its answer is inductive' ended 0
     bench ground.py "$examples/lock_server.rml"
     expect 'ground: a line' wrote '| `lock_server.rml` '
     bench sentences.py "$examples/flag.rml"
