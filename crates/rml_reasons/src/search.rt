@@ -40,6 +40,29 @@ fn short_list(
     Ok(None)
 }
 
+// Leaves out this one, where the rest carries the group.
+fn try_without(
+    alloc: Global,
+    checked: &Checked,
+    stage: Stage,
+    about: About,
+    held: Vec<u32>,
+    conjecture: u32,
+    limits: &Limits,
+) -> Mem<Vec<u32>>
+    requires about { HasAbout checked.now stage about }
+    requires held { Carry (ceilings limits.now) checked.now (record { stage = stage; about = about }) held.items }
+    ensures { IfOk result (λ left.
+        Carry (ceilings limits.now) checked.now (record { stage = stage; about = about }) left.items) }
+{
+    let fewer = without(alloc, &held, conjecture)?;
+    if carries(alloc, checked, stage, about, &fewer, limits)? {
+        Ok(fewer)
+    } else {
+        Ok(held)
+    }
+}
+
 // Leaves out one after another where the rest carries the group.
 fn shrink(
     alloc: Global,
@@ -57,10 +80,7 @@ fn shrink(
     let mut left = Vec::with_capacity(alloc, held.len())?;
     left.extend_from_slice(held)?;
     for conjecture in held {
-        let fewer = without(alloc, &left, *conjecture)?;
-        if carries(alloc, checked, stage, about, &fewer, limits)? {
-            left = fewer;
-        }
+        left = try_without(alloc, checked, stage, about, left, *conjecture, limits)?;
     }
     Ok(left)
 }
@@ -90,6 +110,27 @@ fn least_list(
     }
 }
 
+// The same, where no short list was found.
+fn carried_by_all(
+    alloc: Global,
+    checked: &Checked,
+    stage: Stage,
+    about: About,
+    limits: &Limits,
+) -> Mem<Carried>
+    requires { HasAbout checked.now stage about }
+    ensures { IfOk result (IsCarried (ceilings limits.now) checked.now (record { stage = stage; about = about })) }
+{
+    let all = all_conjectures(alloc, checked)?;
+    match lack_of(alloc, checked, stage, about, &all, limits)? {
+        Some(lack) => Ok(Carried::Not(lack)),
+        None => {
+            let carried = least_list(alloc, checked, stage, about, &all, limits)?;
+            Ok(carried)
+        }
+    }
+}
+
 /// Which conjectures carry a group of the model, none of which can be left out, or what the group lacks even where all
 /// are held. Of several such lists one is told.
 pub fn carried_by(
@@ -102,15 +143,13 @@ pub fn carried_by(
     requires { HasAbout checked.now stage about }
     ensures { IfOk result (IsCarried (ceilings limits.now) checked.now (record { stage = stage; about = about })) }
 {
-    if let Some(held) = short_list(alloc, checked, stage, about, limits)? {
-        let carried = least_list(alloc, checked, stage, about, &held, limits)?;
-        return Ok(carried);
-    }
-    let all = all_conjectures(alloc, checked)?;
-    match lack_of(alloc, checked, stage, about, &all, limits)? {
-        Some(lack) => Ok(Carried::Not(lack)),
+    match short_list(alloc, checked, stage, about, limits)? {
+        Some(held) => {
+            let carried = least_list(alloc, checked, stage, about, &held, limits)?;
+            Ok(carried)
+        }
         None => {
-            let carried = least_list(alloc, checked, stage, about, &all, limits)?;
+            let carried = carried_by_all(alloc, checked, stage, about, limits)?;
             Ok(carried)
         }
     }
