@@ -18,6 +18,12 @@ at-places P [] h i d lt = absurd (omega (arith, lt))
 at-places P (k ∷ ks) h zero d lt = h.0
 at-places P (k ∷ ks) h (suc i) d lt = at-places P ks h.1 i d (omega (arith, lt))
 
+-- each number at its place is one of them
+pub has_at : (ks : List ℕ) (i d : ℕ) → i < length ks → Has ks (slice_index_or ks i d)
+has_at [] i d lt = absurd (omega (arith, lt))
+has_at (k ∷ ks) zero d lt = inl refl
+has_at (k ∷ ks) (suc i) d lt = inr (has_at ks i d (omega (arith, lt)))
+
 -- a filter leaves what is so of each
 all-filter : (P : ℕ → Type 0) (p : ℕ → Bool) (ks : List ℕ) → AllByRecursion P ks → AllByRecursion P (filter p ks)
 all-filter P p [] h = tt
