@@ -43,7 +43,8 @@ IsLack limits m group ks (Open goal c) = IsFirstOpen limits m ks (group_goals m 
 pub record IsMinimalReason (limits : Ceilings) (m : ModelTree) (group : Group) (needs : List Need) : Type 0 where
   pub conjectures : AreConjectures m (needed_conjectures needs)
   pub carry : IsReason limits m group (needed_conjectures needs)
-  pub needed : AllByRecursion (λ n. IsLack limits m group (without n.conjecture (needed_conjectures needs)) n.lack) needs
+  pub needed : AllByRecursion
+      (λ n. IsLack limits m group (without n.conjecture (needed_conjectures needs)) n.lack) needs
 
 -- what carries the group, or what it lacks where all conjectures are held
 abbrev pub IsCarried : Ceilings → ModelTree → Group → Carried → Type 0

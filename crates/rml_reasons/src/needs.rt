@@ -32,7 +32,8 @@ pub fn lack_of(
 ) -> Mem<Option<Lack>>
     requires held { All (λ k. k < length checked.now.conjectures) held.now }
     requires about { HasAbout checked.now stage about }
-    ensures { IfOk result (HasLack (ceilings limits.now) checked.now (record { stage = stage; about = about }) held.now) }
+    ensures { IfOk result
+        (HasLack (ceilings limits.now) checked.now (record { stage = stage; about = about }) held.now) }
 {
     match decide_group(alloc, checked, held, limits, stage, about)? {
         Round::Fails(shown) => Ok(Some(Lack::Fails(shown))),

@@ -1,5 +1,5 @@
-// Conjectures are left out one after another. What is tried first only saves time: that none of the rest can be left out
-// is decided at the end.
+// Conjectures are left out one after another. What is tried first only saves time: that none of the rest can be left
+// out is decided at the end.
 ghost use Rattle.std.specs.Prelude.{IfOk, IfSome};
 ghost use Rattle.rml_command.specs.Goals.{HasAbout};
 ghost use Rattle.ea_decide.specs.Passing.{ceilings};

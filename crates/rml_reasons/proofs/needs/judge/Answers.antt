@@ -16,5 +16,5 @@ returns-in-None c = (
   has_at c.args.held.now c.loop-k.k-index 0 c.loop-k-test.true,
   subst (IsReason (ceilings c.args.limits.now) c.args.checked.now
       (record { stage = c.args.stage; about = c.args.about })) (c.deref.ensures.value ∙ c.in_ok-fewer.ensures)
-      (rw c.in-None.is at c.in_ok-lack.ensures),
+      (rw c.in-None.is at c.in_ok-lack_of.ensures),
 )
