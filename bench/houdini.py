@@ -98,7 +98,8 @@ def main(words):
         _, answer, checked, also_told = timed("check", kept_alone(text, kept))
         lacks = lacks or not told or not also_told or answer == "not inductive" and verdict == "greatest"
         times = f"{found / checked:.1f}" if checked >= 0.01 else ""
-        print(f"| `{os.path.basename(file)}` | {count} | {dropped} | {found:.2f} | {checked:.2f} | {times} |", flush=True)
+        name = os.path.basename(file)
+        print(f"| `{name}` | {count} | {dropped} | {found:.2f} | {checked:.2f} | {times} |", flush=True)
     return 1 if lacks else 0
 
 

@@ -3,9 +3,9 @@
 
     bench/z3_reasons.py FILE [MILLISECONDS]     the limit for one goal (default 60000)
 
-The lists are found in the same order: no conjecture, the group's own, all; then one after another is left out. Each line
-below a group names a conjecture of its list, and the first path that fails, or that z3 leaves open, without it. It needs
-z3's Python interface (Debian: python3-z3).
+The lists are found in the same order: no conjecture, the group's own, all; then one after another is left out. Each
+line below a group names a conjecture of its list, and the first path that fails, or that z3 leaves open, without it. It
+needs z3's Python interface (Debian: python3-z3).
 """
 import copy
 import sys
@@ -52,7 +52,8 @@ def main(words):
         for name in [None] if stage == "final" else [None, *[name for name, _ in model.conjectures]]:
             needs, lack = carried(model, groups.get((stage, name), []), name, limit)
             head = f"  {stage} {name or 'abort'}: carried by"
-            print(f"{head} nothing, with all held {lack}" if needs is None else head if needs else f"{head} no conjecture")
+            none = "nothing, with all held " + lack if needs is None else "no conjecture"
+            print(head if needs else f"{head} {none}")
             for need, without in needs or []:
                 print(f"    {need}, without which {without}")
 
