@@ -1,6 +1,7 @@
 //! Prints which conjectures carry each group of worked models (`carried_by`), with the path that fails or is left open
-//! where one of them is left out. What `stdout` says of paths that fail was found apart from the code, by z3. The gate
-//! runs the program as two compilers make it, and compares what it writes to the byte.
+//! where one of them is left out. What `stdout` says of paths that fail was found apart from the code, by z3; what it
+//! says of goals that are left open is the program's own. The gate runs the program as two compilers make it, and
+//! compares what it writes to the byte.
 //!
 //! Each line of `reasons.txt` has a limit of the ground size and the file of a model.
 #![tactic(auto)]
