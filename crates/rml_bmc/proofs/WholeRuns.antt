@@ -24,8 +24,8 @@ use Rattle.walks.specs.Runs.{IsForbidden}
 use Rattle.walks.specs.Laws.{IsInit, IsAction, AreLater, AreInOrder, IsWalk, GoalsAreWalks}
 use Rattle.rml_bmc.specs.Shown.{outcome_of, IsPart, AreParts, last_from, leg_of, IsShownRun, IsRunAlong, step_before, steps_of}
 use Rattle.rml_bmc.specs.Shown.{final_or, final_of, run_with, BreaksOff}
-use Rattle.rml_bmc.specs.Lengths.{AreDecisions, first_run, first_open, open_or_safe, broken_or, IsDecidedLength}
-use Rattle.rml_bmc.specs.Laws.{BrokenIsBroken}
+use Rattle.rml_bmc.specs.Lengths.{AreDecisions, first_run, first_open, open_or_safe, broken_or, IsDecidedLength, IsLength}
+use Rattle.rml_bmc.specs.Laws.{BrokenIsBroken, BrokenIsShown}
 use Rattle.rml_bmc.specs.declared.answer.Part.{Part}
 use Rattle.rml_bmc.specs.declared.answer.Run.{Run}
 use Rattle.rml_bmc.specs.declared.answer.BoundCause.{BoundCause}
@@ -133,32 +133,52 @@ module _ (blocks : BlockHasPathOutcomes) (followed : PathHasFollowedOutcomes) (f
     forbidden = forbidden run.about run.values (last_from (ended run.start) run.parts) along.shown.fails;
   }
 
-  module _ (limits : Ceilings) where
-    by_decisions : (goals : List Walk) (ds : List WalkDecision) (run : Run) → AreDecisions limits m goals ds
-        → first_run ds ≡ Some run → AllByRecursion (IsWalk m) goals → BreaksOff m run
-    by_decisions [] [] run right e all = absurd (cc e)
-    by_decisions [] (d ∷ ds) run right e all = absurd right
-    by_decisions (goal ∷ goals) [] run right e all = absurd right
-    by_decisions (goal ∷ goals) (NoRun ∷ ds) run right e all = by_decisions goals ds run right.1 e all.1
-    by_decisions (goal ∷ goals) (Has r ∷ ds) run right e all =
-        let same : r ≡ run = cc e in subst (BreaksOff m) same (breaks_off goal r all.0 right.0.1.along)
-    by_decisions (goal ∷ goals) (Undecided c ∷ ds) run right e all = by_decisions goals ds run right.1 e all.1
+is_first : (r : Option Run) (c : Option BoundCause) (run : Run)
+    → answer.Broken run ≡ broken_or r (open_or_safe c) → r ≡ Some run
+is_first None None run e = absurd (cc e)
+is_first None (Some c) run e = absurd (cc e)
+is_first (Some r) c run e = let same : r ≡ run = sym (cc e) in ap Some same
 
-    is_first : (r : Option Run) (c : Option BoundCause) (run : Run)
-        → answer.Broken run ≡ broken_or r (open_or_safe c) → r ≡ Some run
-    is_first None None run e = absurd (cc e)
-    is_first None (Some c) run e = absurd (cc e)
-    is_first (Some r) c run e = let same : r ≡ run = sym (cc e) in ap Some same
+-- the goal whose run breaks a length, of which P holds as of each goal
+record FirstBroken (m : ModelTree) (P : Walk → Type 0) (run : Run) : Type 0 where
+  walk : Walk
+  holds : P walk
+  along : IsRunAlong m walk run
 
-    by_count : (k : ℕ) (run : Run) (b : Bool) → AllByRecursion (IsWalk m) (goals_of_length m k)
-        → MatchBool b (answer.Broken run ≡ answer.Undecided (cause.Paths (count_of m k)))
-        (IsDecidedLength limits m k (answer.Broken run)) → BreaksOff m run
-    by_count k run true all e = absurd (cc e)
-    by_count k run false all d =
-        by_decisions (goals_of_length m k) d.decisions run d.right
-        (is_first (first_run d.decisions) (first_open 0 d.decisions) run d.is) all
+module _ (limits : Ceilings) (m : ModelTree) (P : Walk → Type 0) where
+  by_decisions : (goals : List Walk) (ds : List WalkDecision) (run : Run) → AreDecisions limits m goals ds
+      → first_run ds ≡ Some run → AllByRecursion P goals → FirstBroken m P run
+  by_decisions [] [] run right e all = absurd (cc e)
+  by_decisions [] (d ∷ ds) run right e all = absurd right
+  by_decisions (goal ∷ goals) [] run right e all = absurd right
+  by_decisions (goal ∷ goals) (NoRun ∷ ds) run right e all = by_decisions goals ds run right.1 e all.1
+  by_decisions (goal ∷ goals) (Has r ∷ ds) run right e all =
+      let same : r ≡ run = cc e in
+      record { walk = goal; holds = all.0; along = subst (IsRunAlong m goal) same right.0.1.along }
+  by_decisions (goal ∷ goals) (Undecided c ∷ ds) run right e all = by_decisions goals ds run right.1 e all.1
+
+  by_count : (k : ℕ) (run : Run) (b : Bool) → AllByRecursion P (goals_of_length m k)
+      → MatchBool b (answer.Broken run ≡ answer.Undecided (cause.Paths (count_of m k)))
+      (IsDecidedLength limits m k (answer.Broken run)) → FirstBroken m P run
+  by_count k run true all e = absurd (cc e)
+  by_count k run false all d =
+      by_decisions (goals_of_length m k) d.decisions run d.right
+      (is_first (first_run d.decisions) (first_open 0 d.decisions) run d.is) all
+
+  first_broken : (k : ℕ) (run : Run) → AllByRecursion P (goals_of_length m k)
+      → IsLength limits m k (answer.Broken run) → FirstBroken m P run
+  first_broken k run all h = by_count k run (nat_lt 4096 (count_of m k)) all h
 
 pub broken_is_broken : BlockHasPathOutcomes → PathHasFollowedOutcomes → FalsehoodHasValues → GoalsAreWalks
     → BrokenIsBroken
 broken_is_broken blocks followed falsehood walks limits m k run checked h =
-    by_count blocks followed falsehood m limits k run (nat_lt 4096 (count_of m k)) (walks m k) h
+    let first = first_broken limits m (IsWalk m) k run (walks m k) h in
+    breaks_off blocks followed falsehood m first.walk run first.holds first.along
+
+any_goals : (goals : List Walk) → AllByRecursion (λ goal. Unit {0}) goals
+any_goals [] = tt
+any_goals (goal ∷ goals) = (tt, any_goals goals)
+
+pub broken_is_shown : BrokenIsShown
+broken_is_shown limits m k run h =
+    (first_broken limits m (λ goal. Unit {0}) k run (any_goals (goals_of_length m k)) h).along.shown

@@ -1,4 +1,5 @@
-// A goal along a walk is decided, as the goal of the walk's model.
+// A goal along a walk is decided, as the goal of the walk's model: under limits on its whole refuting sentence, by the
+// lean sentence where that decides.
 ghost use Rattle.std.specs.Prelude.{◌≡◌, IfOk};
 ghost use Rattle.ea_decide.specs.Passing.{ceilings};
 ghost use Rattle.rml_command.specs.Goals.{IsCounterexample};
@@ -10,9 +11,9 @@ ghost use Rattle.rml_bmc.specs.Shown.{IsRunAlong};
 use crate::answer::Run;
 use crate::following::follow_legs;
 use base::Mem;
+use lean_decide::{Counted, Settled, settle};
 use lrat_log::Limits;
-use obligation_decide::{Decision, decide};
-use rml_command::{Checked, Goal, Stage};
+use rml_command::{About, Checked, Goal, Stage};
 use rml_exec::Counterexample;
 use rml_report::Cause;
 use std::alloc::Global;
@@ -77,14 +78,14 @@ fn decide_in(
         path: 1,
         about: walk.about,
     };
-    let decision = decide(alloc, model, &goal, limits)?;
-    match decision {
-        Decision::Holds(_) => Ok(WalkDecision::NoRun),
-        Decision::Fails(shown) => {
+    let settled = settle(alloc, model, &goal, Counted::Whole, limits)?;
+    match settled {
+        Settled::Holds => Ok(WalkDecision::NoRun),
+        Settled::Fails(shown) => {
             let run = shown_run(alloc, checked, walk, shown)?;
             Ok(WalkDecision::Has(run))
         }
-        Decision::Undecided(cause) => Ok(WalkDecision::Undecided(cause)),
+        Settled::Undecided(cause) => Ok(WalkDecision::Undecided(cause)),
     }
 }
 

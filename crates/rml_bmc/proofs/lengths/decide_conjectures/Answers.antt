@@ -1,4 +1,4 @@
-use Rattle.std.proofs.Common.{ℕ, ◌-◌, [], ◌∷◌, length, map, sym, subst}
+use Rattle.std.proofs.Common.{ℕ, [], ◌∷◌, length, map, sym, subst}
 use Rattle.base.specs.Lists.{count_from}
 use Rattle.rml_command.specs.declared.goal.About.TheVariants as about
 use Rattle.ea_decide.specs.Passing.{ceilings}
