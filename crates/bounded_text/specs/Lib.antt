@@ -1,0 +1,2 @@
+pub mod BoundedText
+pub mod Laws

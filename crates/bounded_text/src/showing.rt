@@ -1,0 +1,115 @@
+// The lines of a run that breaks a length.
+ghost use Rattle.std.specs.Prelude.{◌≡◌, ◌++◌, Some, OnOk};
+ghost use Rattle.std.specs.List.{AllByRecursion, flat_map};
+ghost use Rattle.bounded_text.specs.BoundedText.{EndFits, CanShow, end_text, part_line, part_text, values_text};
+ghost use Rattle.bounded_text.specs.BoundedText.{broken_text, run_text};
+
+use base::{Mem, push_number, push_text};
+use fol_sig::Structure;
+use rml_bmc::{Part, Run};
+use rml_command::{About, Checked, Names};
+use rml_report::{push_labelled, push_numbers_line, push_sorts, push_stage, push_tables};
+use std::alloc::Global;
+
+// The tables of an end.
+#[tactic(auto, using(std::proofs::Common::append_assoc))]
+fn push_after(alloc: Global, out: &mut Vec<u8>, checked: &Checked, end: &Structure) -> Mem<()>
+    requires { EndFits checked.now (Some end.now) }
+    ensures { OnOk result (out.new.items ≡ out.old.items ++ end_text checked.now.names (Some end.now)) }
+{
+    push_text(out, "  after\n")?;
+    push_tables(alloc, out, checked.model(), end)?;
+    Ok(())
+}
+
+// How a part ends.
+fn push_end(alloc: Global, out: &mut Vec<u8>, checked: &Checked, part: &Part) -> Mem<()>
+    requires { EndFits checked.now part.now.end }
+    ensures { OnOk result (out.new.items ≡ out.old.items ++ end_text checked.now.names part.now.end) }
+{
+    match &part.end {
+        None => push_text(out, "  aborts\n"),
+        Some(end) => push_after(alloc, out, checked, end),
+    }
+}
+
+#[tactic(auto, using(std::proofs::Common::append_assoc), unfolding(crate::specs::BoundedText::part_line))]
+fn push_part_line(out: &mut Vec<u8>, checked: &Checked, part: &Part) -> Mem<()>
+    ensures { OnOk result (out.new.items ≡ out.old.items ++ part_line checked.now part.now) }
+{
+    let paths = checked.stage_paths(part.stage).len();
+    push_text(out, "  ")?;
+    push_stage(out, checked.model().names(), part.stage)?;
+    push_text(out, " path ")?;
+    push_number(out, part.trace.path as u64)?;
+    push_text(out, " of ")?;
+    push_number(out, paths as u64)?;
+    push_text(out, "\n")?;
+    Ok(())
+}
+
+#[tactic(auto, using(std::proofs::Common::append_assoc), unfolding(crate::specs::BoundedText::part_text))]
+fn push_part(alloc: Global, out: &mut Vec<u8>, checked: &Checked, part: &Part) -> Mem<()>
+    requires { EndFits checked.now part.now.end }
+    ensures { OnOk result (out.new.items ≡ out.old.items ++ part_text checked.now part.now) }
+{
+    push_part_line(out, checked, part)?;
+    push_numbers_line(out, "  havoc:", part.trace.havoc.as_slice())?;
+    push_end(alloc, out, checked, part)?;
+    Ok(())
+}
+
+#[tactic(auto, using(std::proofs::Common::append_assoc))]
+fn push_parts(alloc: Global, out: &mut Vec<u8>, checked: &Checked, parts: &[Part]) -> Mem<()>
+    requires { AllByRecursion (λ part. EndFits checked.now part.end) parts.now }
+    ensures { OnOk result (out.new.items ≡ out.old.items ++ flat_map (λ part. part_text checked.now part) parts.now) }
+{
+    let mut rest = parts;
+    while let [part, after @ ..] = rest {
+        push_part(alloc, out, checked, part)?;
+        rest = after;
+    }
+    Ok(())
+}
+
+// What the run does.
+fn push_broken(out: &mut Vec<u8>, names: &Names, about: About) -> Mem<()>
+    ensures { OnOk result (out.new.items ≡ out.old.items ++ broken_text names.now about) }
+{
+    match about {
+        About::Abort => push_text(out, "abort\n"),
+        About::Conjecture(conjecture) => push_labelled(
+            out,
+            "breaks ",
+            names.conjectures.as_slice(),
+            conjecture,
+            "\n",
+        ),
+    }
+}
+
+// The values under which the conjecture's body is false; none, where the run aborts.
+fn push_values(out: &mut Vec<u8>, about: About, values: &[u32]) -> Mem<()>
+    ensures { OnOk result (out.new.items ≡ out.old.items ++ values_text about values.now) }
+{
+    match about {
+        About::Abort => Ok(()),
+        About::Conjecture(_) => push_numbers_line(out, "  values:", values),
+    }
+}
+
+/// Adds the lines of a run that breaks a length, behind the length's number.
+#[tactic(auto, using(std::proofs::Common::append_assoc), unfolding(crate::specs::BoundedText::run_text))]
+pub fn push_run(alloc: Global, out: &mut Vec<u8>, checked: &Checked, run: &Run) -> Mem<()>
+    requires { CanShow checked.now run.now }
+    ensures { OnOk result (out.new.items ≡ out.old.items ++ run_text checked.now run.now) }
+{
+    let model = checked.model();
+    push_broken(out, model.names(), run.about)?;
+    push_text(out, "  before\n")?;
+    push_sorts(out, model, &run.start)?;
+    push_tables(alloc, out, model, &run.start)?;
+    push_parts(alloc, out, checked, run.parts.as_slice())?;
+    push_values(out, run.about, run.values.as_slice())?;
+    Ok(())
+}
