@@ -284,6 +284,7 @@ expect 'one file for lrat' is_usage lrat model
 expect 'emit without its last word' is_usage emit model 1
 expect 'emit with a word too many' is_usage emit model 1 cnf lrat
 expect 'a sample without its number' is_usage sample
+expect 'bounded runs without their bound' is_usage bmc model
 expect 'a first look at no command line' is_usage --first-look check
 expect 'the usage line is that of the program' grep -qxF "    $(cat "$room/err")" "$here/docs/FORMATS.md"
 run check model --help
@@ -294,6 +295,8 @@ run emit model 3 lrat
 expect 'so is the goal of emit' wrote '<emit> <model> <3> <lrat> '
 run sample 4
 expect 'and the size of a sample' wrote '<sample> <4> '
+run bmc model --steps 3
+expect 'and the bound of runs' wrote '<bmc> <model> <--steps> <3> '
 run prove "$(printf '\377')"
 expect 'and so is what may be no text' wrote 'main <prove> '
 
@@ -305,6 +308,8 @@ expect 'a first look says that nothing is proved, and how slow it is' said_once 
 expect 'a first look ends with the status' ended 4
 run --first-look check --terms 400 model --ground=400 --conflicts 400
 expect 'a value of an option is no file' wrote "<check> <--terms> <400> <$room/work/model> <--ground=400> <--conflicts> <400>"
+run --first-look bmc --steps 400 model
+expect 'a bound of runs is no file' wrote "<bmc> <--steps> <400> <$room/work/model>"
 run --first-look emit model 400 cnf
 expect 'a goal and what of it are no files' wrote "<emit> <$room/work/model> <400> <cnf>"
 run --first-look lrat cnf 400

@@ -4,9 +4,10 @@ use Rattle.std.specs.Prelude.{codes, if◌then◌else◌}
 use Rattle.std.specs.Str.{bytes_eq}
 use Rattle.clap.specs.declared.builder.action.ArgAction.TheVariants.{Set}
 use Rattle.clap.specs.Words.{App, Row, Rule, Text, new_app, new_rule, with_rule, fault_of, matches_of, first_of}
-use Rattle.command_line.specs.Numbers.{number_option, required_number, number_in, number_of}
+use Rattle.command_line.specs.Numbers.{number_option, required_option, required_number, number_in, number_of}
 use Rattle.command_line.specs.Asking.{default_asked}
 use Rattle.command_line.specs.declared.request.Asked.{Asked}
+use Rattle.command_line.specs.declared.request.Bound.{Bound}
 use Rattle.command_line.specs.declared.request.Emission.{Emission}
 use Rattle.command_line.specs.declared.request.What.{What}
 use Rattle.command_line.specs.declared.request.What.TheVariants.{Cnf, Lrat}
@@ -17,6 +18,7 @@ use Rattle.command_line.specs.declared.request.Request.TheVariants as request
 pub data Line : Type 0 where
   check : Text → Asked → Line
   houdini : Text → Asked → Line
+  bmc : Text → Bound → Line
   lrat : Text → Text → Line
   emit : Text → Emission → Line
   sample : ℕ → Line
@@ -24,6 +26,7 @@ pub data Line : Type 0 where
 abbrev pub request_line : Request → Line
 request_line (request.Check file asked) = check file.now asked
 request_line (request.Houdini file asked) = houdini file.now asked
+request_line (request.Bmc file bound) = bmc file.now bound
 request_line (request.Lrat formula log) = lrat formula.now log.now
 request_line (request.Emit file emission) = emit file.now emission
 request_line (request.Sample n) = sample n
@@ -49,6 +52,10 @@ check_app = model_app (codes "check")
 
 abbrev pub houdini_app : App
 houdini_app = model_app (codes "houdini")
+
+abbrev pub bmc_app : App
+bmc_app = with_limits (with_rule (with_rule (new_app (codes "bmc")) (required_rule (codes "FILE")))
+    (required_option (codes "steps") 0 12))
 
 abbrev pub lrat_app : App
 lrat_app = with_rule (with_rule (new_app (codes "lrat")) (required_rule (codes "CNF"))) (required_rule (codes "LOG"))
@@ -83,6 +90,17 @@ abbrev pub houdini_by : Option (List Row) → Option Line
 houdini_by rows =
     option_and_then
     (λ rows. option_and_then (λ file. option_map (houdini file) (asked_by rows)) (first_of (codes "FILE") rows)) rows
+
+-- how far runs are followed, and what a decision may spend
+abbrev pub bound_by : List Row → Option Bound
+bound_by rows =
+    option_and_then (λ steps. option_map (λ asked. record { steps = steps; limits = asked }) (asked_by rows))
+    (option_and_then (number_in 0 12) (first_of (codes "steps") rows))
+
+abbrev pub bmc_by : Option (List Row) → Option Line
+bmc_by rows =
+    option_and_then
+    (λ rows. option_and_then (λ file. option_map (bmc file) (bound_by rows)) (first_of (codes "FILE") rows)) rows
 
 abbrev pub lrat_by : Option (List Row) → Option Line
 lrat_by rows =
@@ -122,6 +140,9 @@ check_line words = check_by (matched check_app words)
 unfoldable pub houdini_line : List Text → Option Line
 houdini_line words = houdini_by (matched houdini_app words)
 
+unfoldable pub bmc_line : List Text → Option Line
+bmc_line words = bmc_by (matched bmc_app words)
+
 unfoldable pub lrat_line : List Text → Option Line
 lrat_line words = lrat_by (matched lrat_app words)
 
@@ -137,6 +158,7 @@ line_of [] = None
 line_of (command ∷ words) =
     if bytes_eq command (codes "check") then check_line (command ∷ words)
     else if bytes_eq command (codes "houdini") then houdini_line (command ∷ words)
+    else if bytes_eq command (codes "bmc") then bmc_line (command ∷ words)
     else if bytes_eq command (codes "lrat") then lrat_line (command ∷ words)
     else if bytes_eq command (codes "emit") then emit_line (command ∷ words)
     else if bytes_eq command (codes "sample") then sample_line (command ∷ words)

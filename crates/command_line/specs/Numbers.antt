@@ -11,6 +11,10 @@ abbrev pub number_option : Text → ℕ → ℕ → Rule
 number_option id low high =
     record (new_rule id) { long = Some id; action = Some Set; parser = Some (parser.Unsigned low high) }
 
+-- an option `--id N` that has to be there, with N in a range
+abbrev pub required_option : Text → ℕ → ℕ → Rule
+required_option id low high = record (number_option id low high) { required = true }
+
 -- an argument that has to be there, and is a number in a range
 abbrev pub required_number : Text → ℕ → ℕ → Rule
 required_number id low high =

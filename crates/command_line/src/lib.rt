@@ -1,6 +1,7 @@
 //! The words of the command line, read by `clap`.
 #![tactic(auto)]
 
+mod bmc;
 mod emit;
 mod houdini;
 mod number;
@@ -8,4 +9,4 @@ mod request;
 mod sample;
 mod words;
 
-pub use request::{Asked, Emission, Request, What, default_asked, read_words};
+pub use request::{Asked, Bound, Emission, Request, What, default_asked, read_words};

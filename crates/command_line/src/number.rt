@@ -1,7 +1,7 @@
 // Words that are numbers in a range.
 ghost use Rattle.std.specs.Prelude.{◌≡◌, ◌≤◌, false, IfSome, option_map};
 ghost use Rattle.clap.specs.Words.{rule_of};
-ghost use Rattle.command_line.specs.Numbers.{number_option, required_number, number_in, number_of};
+ghost use Rattle.command_line.specs.Numbers.{number_option, required_option, required_number, number_in, number_of};
 
 use clap::builder::ValueParser;
 use clap::{Arg, ArgAction};
@@ -16,6 +16,14 @@ pub fn number_option<'a>(alloc: Global, id: &'a str, low: u64, high: u64) -> Arg
         .long(id)
         .action(ArgAction::Set)
         .value_parser(ValueParser::unsigned(low, high))
+}
+
+/// An option that has to be there, and takes a number.
+pub fn required_option<'a>(alloc: Global, id: &'a str, low: u64, high: u64) -> Arg<'a>
+    ensures rule { rule_of result ≡ required_option id.entry.now low high }
+    ensures local { result.global ≡ false }
+{
+    number_option(alloc, id, low, high).required(true)
 }
 
 /// An argument that has to be there, and is a number.

@@ -6,6 +6,7 @@ ghost use Rattle.command_line.specs.Lines.{check_line, lrat_line, line_of, reque
 ghost use Rattle.command_line.specs.Asking.{default_asked, IsInRange, HasRanges};
 ghost use Rattle.command_line.specs.Rows.{rows_in};
 
+use crate::bmc::bmc;
 use crate::emit::emit;
 use crate::houdini::houdini;
 use crate::number::{number_of, number_option};
@@ -54,6 +55,13 @@ pub struct Emission {
     pub limits: Asked,
 }
 
+/// How far runs are followed: with at most so many actions (0 to 12), and what a decision may spend.
+#[derive(Clone, Copy, Debug)]
+pub struct Bound {
+    pub steps: u64,
+    pub limits: Asked,
+}
+
 /// A command line of the program.
 #[derive(Clone, Copy, Debug)]
 pub enum Request<'a> {
@@ -61,6 +69,8 @@ pub enum Request<'a> {
     Check(&'a str, Asked),
     /// `houdini FILE`: the file of a model.
     Houdini(&'a str, Asked),
+    /// `bmc FILE --steps K`: the file of a model, and how far its runs are followed.
+    Bmc(&'a str, Bound),
     /// `lrat CNF LOG`: the files of a formula and of a log.
     Lrat(&'a str, &'a str),
     /// `emit FILE GOAL WHAT`: the file of a model, and what is to be written of it.
@@ -82,6 +92,8 @@ pub fn read_words<'a>(alloc: Global, words: &'a [String]) -> Mem<Option<Request<
         check(alloc, words)
     } else if is_word(command.as_bytes(), "houdini") {
         houdini(alloc, words)
+    } else if is_word(command.as_bytes(), "bmc") {
+        bmc(alloc, words)
     } else if is_word(command.as_bytes(), "lrat") {
         lrat(alloc, words)
     } else if is_word(command.as_bytes(), "emit") {

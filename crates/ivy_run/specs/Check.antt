@@ -12,9 +12,8 @@ use Rattle.verdicts.specs.Answers.{IsReport}
 use Rattle.commands.specs.Due.{Due}
 use Rattle.command_line.specs.declared.request.Asked.{Asked}
 use Rattle.ivy_run.specs.ModelTexts.{IsTheModel, IsTheFault}
-use Rattle.ivy_run.specs.Saying.{on_out, on_err}
-use Rattle.ivy_run.specs.Faults.{fault_line}
-use Rattle.ivy_run.specs.declared.fault_text.ReportCode.TheVariants.{Model}
+use Rattle.ivy_run.specs.Saying.{on_out}
+use Rattle.ivy_run.specs.Faults.{model_fault_due}
 use Rattle.ivy_run.specs.declared.check.CheckAnswer.{CheckAnswer}
 use Rattle.ivy_run.specs.declared.check.CheckAnswer.TheVariants.{Checked, Fault}
 
@@ -42,4 +41,4 @@ verdict_status verdict.Undecided = 3
 
 abbrev pub check_due : List ℕ → CheckAnswer → Due
 check_due text (Checked model report) = on_out (report_text model report) (verdict_status report.verdict)
-check_due text (Fault fault) = on_err (fault_line (Model fault.code) text fault.at) 4
+check_due text (Fault fault) = model_fault_due text fault

@@ -25,8 +25,7 @@ use Rattle.command_line.specs.declared.request.What.TheVariants as what
 use Rattle.ivy_run.specs.Check.{ceilings_of}
 use Rattle.ivy_run.specs.ModelTexts.{IsTheModel, IsTheFault}
 use Rattle.ivy_run.specs.Saying.{on_out, on_err}
-use Rattle.ivy_run.specs.Faults.{fault_line}
-use Rattle.ivy_run.specs.declared.fault_text.ReportCode.TheVariants.{Model}
+use Rattle.ivy_run.specs.Faults.{model_fault_due}
 use Rattle.ivy_run.specs.declared.emit.Emitted.{Emitted}
 use Rattle.ivy_run.specs.declared.emit.Emitted.TheVariants.{Clauses, Refutation, Fails, Undecided, NoGoal}
 use Rattle.ivy_run.specs.declared.emit.EmitAnswer.{EmitAnswer}
@@ -110,4 +109,4 @@ emitted_due number (NoGoal goals) = on_err (no_goal_text goals) 4
 -- what is due for the goal of this number
 abbrev pub emit_due : ℕ → List ℕ → EmitAnswer → Due
 emit_due number text (answer.Emitted e) = emitted_due number e
-emit_due number text (answer.Fault fault) = on_err (fault_line (Model fault.code) text fault.at) 4
+emit_due number text (answer.Fault fault) = model_fault_due text fault

@@ -3,9 +3,12 @@ use Rattle.std.specs.Prelude.{ℕ, List, ◌++◌, codes}
 use Rattle.std.specs.Fmt.{decimal}
 use Rattle.rml_lex.specs.Place.{line_of, column_of}
 use Rattle.rml_lex.specs.FaultCodes as model
+use Rattle.rml_lex.specs.declared.token.Fault.{Fault}
 use Rattle.cnf_base.specs.FaultCodes as formula
 use Rattle.lrat_log.specs.FaultCodes as log
 use Rattle.lrat_log.specs.RefusalCodes as refusal
+use Rattle.commands.specs.Due.{Due}
+use Rattle.ivy_run.specs.Saying.{on_err}
 use Rattle.ivy_run.specs.declared.fault_text.ReportCode.{ReportCode}
 use Rattle.ivy_run.specs.declared.fault_text.ReportCode.TheVariants.{Model, Formula, Log, Refusal}
 
@@ -32,6 +35,10 @@ unfoldable pub fault_line : ReportCode → List ℕ → ℕ → List ℕ
 fault_line code text at =
     letter_of code ++ decimal (number_of code) ++ codes " at " ++ decimal (line_of text at) ++ codes ":"
     ++ decimal (column_of text at) ++ codes ": " ++ text_of code ++ codes "\n"
+
+-- what is due for a fault of a model's text
+abbrev pub model_fault_due : List ℕ → Fault → Due
+model_fault_due text fault = on_err (fault_line (Model fault.code) text fault.at) 4
 
 -- `C1 at id ID: TEXT`
 unfoldable pub refusal_line : ReportCode → ℕ → List ℕ

@@ -9,9 +9,8 @@ use Rattle.rml_houdini.specs.Greatest.{IsFound}
 use Rattle.rml_houdini.specs.HoudiniText.{houdini_text}
 use Rattle.commands.specs.Due.{Due}
 use Rattle.ivy_run.specs.ModelTexts.{IsTheModel, IsTheFault}
-use Rattle.ivy_run.specs.Saying.{on_out, on_err}
-use Rattle.ivy_run.specs.Faults.{fault_line}
-use Rattle.ivy_run.specs.declared.fault_text.ReportCode.TheVariants.{Model}
+use Rattle.ivy_run.specs.Saying.{on_out}
+use Rattle.ivy_run.specs.Faults.{model_fault_due}
 use Rattle.ivy_run.specs.declared.houdini.HoudiniAnswer.{HoudiniAnswer}
 use Rattle.ivy_run.specs.declared.houdini.HoudiniAnswer.TheVariants.{Found, Fault}
 
@@ -29,4 +28,4 @@ houdini_status (d ∷ ds) None = 1
 abbrev pub houdini_due : List ℕ → HoudiniAnswer → Due
 houdini_due text (Found model houdini) =
     on_out (houdini_text model houdini) (houdini_status houdini.dropped houdini.unsettled)
-houdini_due text (Fault fault) = on_err (fault_line (Model fault.code) text fault.at) 4
+houdini_due text (Fault fault) = model_fault_due text fault

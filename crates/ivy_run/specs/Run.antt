@@ -4,8 +4,9 @@ use Rattle.rml_bytes.specs.declared.outside.LoadError.{LoadError}
 use Rattle.rml_bytes.specs.Outside.{Told}
 use Rattle.commands.specs.Ends.{EndsNone, EndsOne, EndsTwo}
 use Rattle.commands.specs.Due.{Due, stop_due}
-use Rattle.command_line.specs.Lines.{Line, check, houdini, lrat, emit, sample}
+use Rattle.command_line.specs.Lines.{Line, check, houdini, bmc, lrat, emit, sample}
 use Rattle.command_line.specs.declared.request.Asked.{Asked}
+use Rattle.command_line.specs.declared.request.Bound.{Bound}
 use Rattle.command_line.specs.declared.request.Emission.{Emission}
 use Rattle.ivy_run.specs.ModelTexts.{model_limit}
 use Rattle.ivy_run.specs.Usage.{usage_due}
@@ -13,11 +14,13 @@ use Rattle.ivy_run.specs.Check.{IsCheckAnswer, ceilings_of, check_due}
 use Rattle.ivy_run.specs.Lrat.{IsRefutation, clause_limit, lrat_due}
 use Rattle.ivy_run.specs.Emit.{IsEmitAnswer, emit_due}
 use Rattle.ivy_run.specs.Houdini.{IsHoudiniAnswer, houdini_due}
+use Rattle.ivy_run.specs.Bmc.{IsBmcAnswer, bmc_due}
 use Rattle.ivy_run.specs.Sample.{IsSampleAnswer, sample_due}
 use Rattle.ivy_run.specs.declared.check.CheckAnswer.{CheckAnswer}
 use Rattle.ivy_run.specs.declared.lrat.LratAnswer.{LratAnswer}
 use Rattle.ivy_run.specs.declared.emit.EmitAnswer.{EmitAnswer}
 use Rattle.ivy_run.specs.declared.houdini.HoudiniAnswer.{HoudiniAnswer}
+use Rattle.ivy_run.specs.declared.bmc.BmcAnswer.{BmcAnswer}
 use Rattle.ivy_run.specs.declared.sample.SampleAnswer.{SampleAnswer}
 use Rattle.ivy_run.specs.declared.ended.Answer.{Answer}
 use Rattle.ivy_run.specs.declared.ended.Answer.TheVariants as answer
@@ -46,6 +49,11 @@ abbrev pub OfHoudini : (HoudiniAnswer → Type 0) → Answer → Type 0
 OfHoudini P (answer.Houdini a) = P a
 OfHoudini P _ = ⊥
 
+-- an answer of `bmc` of which P holds
+abbrev pub OfBmc : (BmcAnswer → Type 0) → Answer → Type 0
+OfBmc P (answer.Bmc a) = P a
+OfBmc P _ = ⊥
+
 -- an answer of `sample` of which P holds
 abbrev pub OfSample : (SampleAnswer → Type 0) → Answer → Type 0
 OfSample P (answer.Sample a) = P a
@@ -68,6 +76,8 @@ pub record Does (line : Option Line) (told : List ℕ → Told) (before now : �
   pub of_houdini : (file : List ℕ) (asked : Asked) → line ≡ Some (houdini file asked)
       → EndsOne (told file) model_limit before now first second
       (λ text other a. OfHoudini (IsHoudiniAnswer (ceilings_of asked) text) a) end
+  pub of_bmc : (file : List ℕ) (bound : Bound) → line ≡ Some (bmc file bound)
+      → EndsOne (told file) model_limit before now first second (λ text other a. OfBmc (IsBmcAnswer bound text) a) end
   pub of_sample : (n : ℕ) → line ≡ Some (sample n)
       → EndsNone before now first second (λ text other a. OfSample (IsSampleAnswer n) a) end
 
@@ -87,6 +97,7 @@ answer_due line first second (answer.Check a) = check_due first a
 answer_due line first second (answer.Lrat a) = lrat_due first second a
 answer_due line first second (answer.Emit a) = emit_due (emitted_goal line) first a
 answer_due line first second (answer.Houdini a) = houdini_due first a
+answer_due line first second (answer.Bmc a) = bmc_due first a
 answer_due line first second (answer.Sample a) = sample_due (sample_size line) a
 
 -- what is due, by the command line, the texts and the outcome

@@ -8,9 +8,8 @@ use Rattle.commands.specs.Due.{Due}
 use Rattle.command_line.specs.Asking.{default_asked}
 use Rattle.ivy_run.specs.Check.{IsCheckedModel, ceilings_of, verdict_status}
 use Rattle.ivy_run.specs.ModelTexts.{IsTheModel, IsTheFault}
-use Rattle.ivy_run.specs.Saying.{on_out, on_err}
-use Rattle.ivy_run.specs.Faults.{fault_line}
-use Rattle.ivy_run.specs.declared.fault_text.ReportCode.TheVariants.{Model}
+use Rattle.ivy_run.specs.Saying.{on_out}
+use Rattle.ivy_run.specs.Faults.{model_fault_due}
 use Rattle.ivy_run.specs.declared.sample.Sampled.{Sampled}
 use Rattle.ivy_run.specs.declared.sample.SampleAnswer.{SampleAnswer}
 use Rattle.ivy_run.specs.declared.sample.SampleAnswer.TheVariants as answer
@@ -38,4 +37,4 @@ sampled_text n sampled = count_line (codes "sample ") n ++ count_line (codes "by
 
 abbrev pub sample_due : ℕ → SampleAnswer → Due
 sample_due n (answer.Sampled sampled) = on_out (sampled_text n sampled) (verdict_status sampled.report.verdict)
-sample_due n (answer.Fault fault) = on_err (fault_line (Model fault.code) (sample_text n) fault.at) 4
+sample_due n (answer.Fault fault) = model_fault_due (sample_text n) fault

@@ -5,4 +5,5 @@ use Rattle.ivy_run.specs.Saying.{on_err}
 
 abbrev pub usage_due : Due
 usage_due =
-    on_err (codes "usage: ivycheck check FILE, emit FILE GOAL cnf|lrat, lrat CNF LOG, houdini FILE, or sample N\n") 2
+    on_err
+    (codes "usage: ivycheck check FILE, emit FILE GOAL cnf|lrat, lrat CNF LOG, bmc FILE, houdini FILE, or sample N\n") 2

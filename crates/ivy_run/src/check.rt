@@ -4,10 +4,10 @@ ghost use Rattle.command_line.specs.Asking.{IsInRange};
 ghost use Rattle.ivy_run.specs.Check.{IsCheckAnswer, IsCheckedModel, check_due, verdict_status, ceilings_of};
 ghost use Rattle.ivy_run.specs.ModelTexts.{IsTheModel};
 
-use crate::fault_text::{ReportCode, fault_line};
+use crate::fault_text::say_model_fault;
 use crate::limits::limits_of;
 use crate::model_text::read_model;
-use crate::saying::{complaint, shown};
+use crate::saying::shown;
 use base::{Mem, Refused};
 use command_line::Asked;
 use commands::{Command, Said};
@@ -96,10 +96,7 @@ impl Command for Check {
                 let text = render(alloc, model, report)?;
                 Ok(shown(text, status_of(report.verdict)))
             }
-            CheckAnswer::Fault(fault) => {
-                let line = fault_line(alloc, ReportCode::Model(fault.code), first, fault.at)?;
-                Ok(complaint(line, 4))
-            }
+            CheckAnswer::Fault(fault) => say_model_fault(alloc, first, fault),
         }
     }
 }

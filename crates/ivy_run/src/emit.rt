@@ -9,7 +9,7 @@ ghost use Rattle.ivy_run.specs.Emit.{AreClausesEmitted, IsLogEmitted, IsGoalEmit
 ghost use Rattle.ivy_run.specs.Emit.{emitted_due, emit_due};
 
 use crate::emit_text::{fails_line, no_goal_line, undecided_line};
-use crate::fault_text::{ReportCode, fault_line};
+use crate::fault_text::say_model_fault;
 use crate::limits::limits_of;
 use crate::model_text::read_model;
 use crate::saying::{complaint, shown};
@@ -168,10 +168,7 @@ impl Command for Emit {
     fn say(&self, alloc: Global, first: &[u8], second: &[u8], answer: &EmitAnswer) -> Mem<Said> {
         match answer {
             EmitAnswer::Emitted(emitted) => say_emitted(alloc, self.emission.goal, emitted),
-            EmitAnswer::Fault(fault) => {
-                let line = fault_line(alloc, ReportCode::Model(fault.code), first, fault.at)?;
-                Ok(complaint(line, 4))
-            }
+            EmitAnswer::Fault(fault) => say_model_fault(alloc, first, fault),
         }
     }
 }

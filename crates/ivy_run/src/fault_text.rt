@@ -1,12 +1,14 @@
 // The lines of faults and refusals. Each code knows its number and its words; what stands here is the letter that tells
 // whose code it is, and the place.
 ghost use Rattle.std.specs.Prelude.{◌≡◌, ◌≤◌, length, IfOk};
-ghost use Rattle.ivy_run.specs.Faults.{letter_of, number_of, text_of, fault_line, refusal_line};
+ghost use Rattle.ivy_run.specs.Faults.{letter_of, number_of, text_of, fault_line, model_fault_due, refusal_line};
 
+use crate::saying::complaint;
 use base::{Mem, push_number, push_text};
 use cnf_base::CnfFaultCode;
+use commands::Said;
 use lrat_log::{LogFaultCode, RefusalCode};
-use rml_lex::{FaultCode, place};
+use rml_lex::{Fault, FaultCode, place};
 use std::alloc::Global;
 
 /// What a line of a report names: a code, and whose it is.
@@ -75,6 +77,15 @@ pub fn fault_line(alloc: Global, code: ReportCode, text: &[u8], at: u64) -> Mem<
     push_text(&mut out, code.text())?;
     push_text(&mut out, "\n")?;
     Ok(out)
+}
+
+/// What is due for a fault of a model's text, whatever the command.
+pub fn say_model_fault(alloc: Global, text: &[u8], fault: &Fault) -> Mem<Said>
+    requires { fault.now.at ≤ length text.now }
+    ensures { IfOk result (λ s. s ≡ model_fault_due text.now fault.now) }
+{
+    let line = fault_line(alloc, ReportCode::Model(fault.code), text, fault.at)?;
+    Ok(complaint(line, 4))
 }
 
 /// The line of a refusal: its number, the id of the line that is not accepted, and why.

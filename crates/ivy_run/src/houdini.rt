@@ -5,10 +5,10 @@ ghost use Rattle.rml_houdini.specs.Greatest.{IsFound};
 ghost use Rattle.ivy_run.specs.Check.{ceilings_of};
 ghost use Rattle.ivy_run.specs.Houdini.{IsHoudiniAnswer, houdini_due, houdini_status};
 
-use crate::fault_text::{ReportCode, fault_line};
+use crate::fault_text::say_model_fault;
 use crate::limits::limits_of;
 use crate::model_text::read_model;
-use crate::saying::{complaint, shown};
+use crate::saying::shown;
 use base::{Mem, Refused};
 use command_line::Asked;
 use commands::{Command, Said};
@@ -95,10 +95,7 @@ impl Command for Houdini {
                 let text = render(alloc, model, houdini)?;
                 Ok(shown(text, status_of(houdini)))
             }
-            HoudiniAnswer::Fault(fault) => {
-                let line = fault_line(alloc, ReportCode::Model(fault.code), first, fault.at)?;
-                Ok(complaint(line, 4))
-            }
+            HoudiniAnswer::Fault(fault) => say_model_fault(alloc, first, fault),
         }
     }
 }

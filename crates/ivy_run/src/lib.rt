@@ -1,6 +1,7 @@
 //! The top call: from the words of a command line and the files to the sinks and the status. Each command is a module.
 #![tactic(auto)]
 
+mod bmc;
 mod check;
 mod emit;
 mod emit_text;
@@ -17,6 +18,7 @@ mod saying;
 mod top;
 mod usage;
 
+pub use bmc::BmcAnswer;
 pub use check::CheckAnswer;
 pub use commands::Written;
 pub use emit::{EmitAnswer, Emitted};

@@ -1,12 +1,13 @@
 // From the words to the answer with its text.
 ghost use Rattle.std.specs.Prelude.{◌≡◌, ◌≤◌, ℕ, List, [], Some, None, map, string_bytes};
-ghost use Rattle.command_line.specs.Lines.{check, houdini, lrat, emit, sample, line_of, request_line};
+ghost use Rattle.command_line.specs.Lines.{check, houdini, bmc, lrat, emit, sample, line_of, request_line};
 ghost use Rattle.command_line.specs.Asking.{IsInRange, HasRanges};
 ghost use Rattle.commands.specs.Ends.{EndsNone};
 ghost use Rattle.commands.specs.Done.{due_in, outcome_in};
 ghost use Rattle.ivy_run.specs.Sample.{IsSampleAnswer};
 ghost use Rattle.ivy_run.specs.Run.{Does, IsUsage, OfSample, due_of};
 
+use crate::bmc::Bmc;
 use crate::check::Check;
 use crate::emit::Emit;
 use crate::ended::Answer;
@@ -14,7 +15,7 @@ use crate::houdini::Houdini;
 use crate::lrat::Lrat;
 use crate::sample::Sample;
 use crate::usage::Usage;
-use command_line::{Asked, Emission, Request, read_words};
+use command_line::{Asked, Bound, Emission, Request, read_words};
 use commands::{Done, no_file, one_file, two_files};
 use rml_bytes::{Files, LoadError};
 use std::alloc::Global;
@@ -132,6 +133,31 @@ fn perform_houdini<F: Files>(
     }
 }
 
+// `bmc FILE --steps K`.
+fn perform_bmc<F: Files>(
+    alloc: Global,
+    file: &str,
+    bound: Bound,
+    files: &mut F,
+    first: &mut Vec<u8>,
+) -> Result<Done<Answer>, LoadError>
+    requires steps { bound.steps ≤ 12 }
+    requires ranges { IsInRange bound.limits }
+    requires first { first.old.items ≡ [] }
+    ensures same { (n : List ℕ) → F.told files.new n ≡ F.told files.old n }
+    ensures due { due_in result ≡ due_of (Some (bmc file.now bound)) first.new.items [] (outcome_in result) }
+    ensures does { Does (Some (bmc file.now bound)) (F.told files.old) (F.faults files.old) (F.faults files.new)
+        first.new.items [] (outcome_in result) }
+{
+    match one_file(&Bmc { bound }, alloc, files, file, MODEL_LIMIT, first) {
+        Ok(done) => Ok(Done {
+            answer: Answer::Bmc(done.answer),
+            said: done.said,
+        }),
+        Err(why) => Err(why),
+    }
+}
+
 // `sample N`.
 fn perform_sample(alloc: Global, number: u64) -> Result<Done<Answer>, LoadError>
     requires { number ≤ 40 }
@@ -167,6 +193,7 @@ fn perform<F: Files>(
     match request {
         Request::Check(file, asked) => perform_check(alloc, file, asked, files, first),
         Request::Houdini(file, asked) => perform_houdini(alloc, file, asked, files, first),
+        Request::Bmc(file, bound) => perform_bmc(alloc, file, bound, files, first),
         Request::Lrat(formula, log) => perform_lrat(alloc, formula, log, files, first, second),
         Request::Emit(file, emission) => perform_emit(alloc, file, emission, files, first),
         Request::Sample(number) => perform_sample(alloc, number),

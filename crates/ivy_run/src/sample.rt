@@ -3,14 +3,13 @@ ghost use Rattle.std.specs.Prelude.{◌≡◌, ◌≤◌, ◌++◌, length, IfOk
 ghost use Rattle.rml_report.specs.ReportText.{verdict_text};
 ghost use Rattle.rml_sample.specs.Sample.{sample_text};
 ghost use Rattle.ivy_run.specs.Sample.{IsSampled, IsSampleAnswer, count_line, sampled_text, sample_due};
-ghost use Rattle.ivy_run.specs.Faults.{fault_line};
-ghost use Rattle.ivy_run.specs.declared.fault_text.ReportCode.TheVariants.{Model};
+ghost use Rattle.ivy_run.specs.Faults.{model_fault_due};
 ghost use Rattle.ivy_run.specs.ModelTexts.{IsTheModel};
 
 use crate::check::{report_on, status_of};
-use crate::fault_text::{ReportCode, fault_line};
+use crate::fault_text::say_model_fault;
 use crate::model_text::read_model;
-use crate::saying::{complaint, shown};
+use crate::saying::shown;
 use base::{Mem, Refused, push_number, push_text};
 use command_line::default_asked;
 use commands::{Command, Said};
@@ -119,15 +118,15 @@ fn sampled_lines(alloc: Global, number: u64, sampled: &Sampled) -> Mem<Vec<u8>>
     Ok(out)
 }
 
-// The line of a fault of the text.
-fn sample_fault(alloc: Global, number: u64, fault: &Fault) -> Mem<Vec<u8>>
+// What is due for a fault of the text.
+fn say_fault(alloc: Global, number: u64, fault: &Fault) -> Mem<Said>
     requires small { number ≤ 40 }
     requires place { fault.now.at ≤ length (sample_text number) }
-    ensures { IfOk result (λ line. line.items ≡ fault_line (Model fault.now.code) (sample_text number) fault.now.at) }
+    ensures { IfOk result (λ s. s ≡ model_fault_due (sample_text number) fault.now) }
 {
     let text = sample_text(alloc, number)?;
-    let line = fault_line(alloc, ReportCode::Model(fault.code), &text, fault.at)?;
-    Ok(line)
+    let said = say_model_fault(alloc, &text, fault)?;
+    Ok(said)
 }
 
 impl Command for Sample {
@@ -147,10 +146,7 @@ impl Command for Sample {
                 let text = sampled_lines(alloc, self.number, sampled)?;
                 Ok(shown(text, status_of(sampled.report.verdict)))
             }
-            SampleAnswer::Fault(fault) => {
-                let line = sample_fault(alloc, self.number, fault)?;
-                Ok(complaint(line, 4))
-            }
+            SampleAnswer::Fault(fault) => say_fault(alloc, self.number, fault),
         }
     }
 }

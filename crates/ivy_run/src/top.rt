@@ -1,7 +1,8 @@
 // The top call: from the words and the files to the sinks and the status.
 ghost use Rattle.std.specs.Prelude.{◌≡◌, ℕ, List, Some, None, map, string_bytes};
-ghost use Rattle.command_line.specs.Lines.{line_of, check, houdini, lrat, emit, sample};
+ghost use Rattle.command_line.specs.Lines.{line_of, check, houdini, bmc, lrat, emit, sample};
 ghost use Rattle.command_line.specs.declared.request.Asked.{Asked};
+ghost use Rattle.command_line.specs.declared.request.Bound.{Bound};
 ghost use Rattle.command_line.specs.declared.request.Emission.{Emission};
 ghost use Rattle.commands.specs.Ends.{EndsNone, EndsOne, EndsTwo};
 ghost use Rattle.commands.specs.Due.{IsWritten};
@@ -10,8 +11,9 @@ ghost use Rattle.ivy_run.specs.Check.{IsCheckAnswer, ceilings_of};
 ghost use Rattle.ivy_run.specs.Lrat.{IsRefutation, clause_limit};
 ghost use Rattle.ivy_run.specs.Emit.{IsEmitAnswer};
 ghost use Rattle.ivy_run.specs.Houdini.{IsHoudiniAnswer};
+ghost use Rattle.ivy_run.specs.Bmc.{IsBmcAnswer};
 ghost use Rattle.ivy_run.specs.Sample.{IsSampleAnswer};
-ghost use Rattle.ivy_run.specs.Run.{IsUsage, OfCheck, OfLrat, OfEmit, OfHoudini, OfSample, due_of};
+ghost use Rattle.ivy_run.specs.Run.{IsUsage, OfCheck, OfLrat, OfEmit, OfHoudini, OfBmc, OfSample, due_of};
 
 use crate::ended::{Ended, Loaded};
 use crate::perform::work;
@@ -68,6 +70,17 @@ pub fn run<F: Files, O: Sink, E: Sink>(
         → EndsOne (F.told files.old file) model_limit (F.faults files.old) (F.faults files.new)
         result.loaded.first result.loaded.second
         (λ text other a. OfHoudini (IsHoudiniAnswer (ceilings_of asked) text) a) result.outcome }
+
+    // `bmc FILE --steps K`: the lengths 0, 1, .. of the runs of the text's one model are answered in order, up to K or
+    // to the first that is broken. Where the verdict is safe, no run with at most K actions aborts or breaks a
+    // conjecture. A length that is broken shows one whole run that does so at its last part. A length is left open
+    // exactly where it has more than 4,096 walks to be looked at, or by its first goal that passes a limit where none
+    // is found to have a run.
+    ensures bmc { (file : List ℕ) (bound : Bound)
+        → line_of (map (λ w. string_bytes w) words.now) ≡ Some (bmc file bound)
+        → EndsOne (F.told files.old file) model_limit (F.faults files.old) (F.faults files.new)
+        result.loaded.first result.loaded.second
+        (λ text other a. OfBmc (IsBmcAnswer bound text) a) result.outcome }
 
     // `sample N`: the report on the model of the sample text, under the limits of a `check` without options.
     ensures sample { (n : ℕ)

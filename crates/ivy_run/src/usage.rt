@@ -21,10 +21,9 @@ impl Command for Usage {
     }
 
     fn say(&self, alloc: Global, first: &[u8], second: &[u8], answer: &()) -> Mem<Said> {
-        let text =
-            b"usage: ivycheck check FILE, emit FILE GOAL cnf|lrat, lrat CNF LOG, houdini FILE, or sample N\n".to_vec(
-                alloc,
-            )?;
+        let line =
+            "usage: ivycheck check FILE, emit FILE GOAL cnf|lrat, lrat CNF LOG, bmc FILE, houdini FILE, or sample N\n";
+        let text = line.as_bytes().to_vec(alloc)?;
         Ok(Said {
             side: Side::Err,
             status: 2,

@@ -6,7 +6,9 @@ use crate::reader::Parsed;
 use crate::row::{Row, Stream, Text};
 use base::{Mem, Refused};
 use commands::Written;
-use ivy_run::{Answer, CheckAnswer, EmitAnswer, Emitted, Ended, HoudiniAnswer, LratAnswer, run};
+use ivy_run::{
+    Answer, BmcAnswer, CheckAnswer, EmitAnswer, Emitted, Ended, HoudiniAnswer, LratAnswer, run,
+};
 use rml_bytes::{Bytes, DiskFiles, FileName, Files, LoadError, MemFiles, MemSink};
 use std::alloc::Global;
 
@@ -165,6 +167,13 @@ fn name_of_houdini(answer: &HoudiniAnswer) -> &'static str {
     }
 }
 
+fn name_of_bmc(answer: &BmcAnswer) -> &'static str {
+    match answer {
+        BmcAnswer::Answered { .. } => "bounded",
+        BmcAnswer::Fault(_) => "fault",
+    }
+}
+
 fn name_of(outcome: &Result<Answer, LoadError>) -> &'static str {
     match outcome {
         Ok(Answer::Usage) => "usage",
@@ -172,6 +181,7 @@ fn name_of(outcome: &Result<Answer, LoadError>) -> &'static str {
         Ok(Answer::Lrat(answer)) => name_of_lrat(answer),
         Ok(Answer::Emit(answer)) => name_of_emit(answer),
         Ok(Answer::Houdini(answer)) => name_of_houdini(answer),
+        Ok(Answer::Bmc(answer)) => name_of_bmc(answer),
         Ok(Answer::Sample(_)) => "sampled",
         Err(LoadError::TooLong) => "too long",
         Err(LoadError::Failed) => "read fault",
@@ -185,6 +195,7 @@ fn stands_in_text(ended: &Ended) -> bool {
         Ok(Answer::Check(CheckAnswer::Fault(fault))) => fault.at <= first,
         Ok(Answer::Emit(EmitAnswer::Fault(fault))) => fault.at <= first,
         Ok(Answer::Houdini(HoudiniAnswer::Fault(fault))) => fault.at <= first,
+        Ok(Answer::Bmc(BmcAnswer::Fault(fault))) => fault.at <= first,
         Ok(Answer::Lrat(LratAnswer::CnfFault(fault))) => fault.at <= first,
         Ok(Answer::Lrat(LratAnswer::LogFault(fault))) => {
             fault.at <= ended.loaded.second.len() as u64
