@@ -1,5 +1,6 @@
 #!/usr/bin/env python3
-"""Holds `check` and `houdini` to brute force: random small models, and every structure of up to three elements a sort.
+"""Holds `check`, `houdini` and `bmc` to brute force: random small models, and every structure of up to three elements a
+sort.
 
     bench/models.py [COUNT [SEED]]      IVYCHECK is the program (the one that ./ivycheck runs); 1000 models from seed 1
 
@@ -17,9 +18,13 @@ Of what `houdini` finds it asks that each drop shows an execution that breaks th
 that satisfies those held at that time, and, where the verdict is `greatest`, that no structure it made breaks the kept
 ones.
 
+Of what `bmc` says of the runs with at most two actions it asks that no run through structures it made (of sizes that
+have at most 1,000) aborts or breaks a conjecture at a length that is called safe, and that each shown run, followed
+part by part, is one of the model and does what it is said to do.
+
 The last line says how many groups held, failed and were left open, how many of the failing ones had their sizes among
-those that were made, how many conjectures were dropped, and how many models differ. The status is 1 where one differs;
-such a model is printed.
+those that were made, how many conjectures were dropped, how many lengths were safe and broken, and how many models
+differ. The status is 1 where one differs; such a model is printed.
 """
 import itertools
 import multiprocessing
@@ -34,6 +39,9 @@ import rml
 from program import program
 
 MOST = 20_000
+
+# Runs are followed through the structures of sizes that have at most so many, up to so many actions.
+MOST_OF_RUNS, STEPS = 1_000, 2
 
 
 # -- The generator ------------------------------------------------------------
@@ -250,6 +258,29 @@ class World:
     def tally(self, s):
         return [sum(s[r].values()) for r in self.model.relations]
 
+    def read(self, lines):
+        """Gives the structure of printed tables."""
+        s = {}
+        for line in lines:
+            kind, name, rest = re.match(r"(\w+) (\w+):(.*)", line).groups()
+            if kind == "variable":
+                s[name] = {(): int(rest)}
+            elif kind == "relation" and not self.takes[name][0]:
+                s[name] = {(): rest.strip() == "true"}
+            else:
+                pairs = re.findall(r"\(([\d,]*)\)(?:->(\d+))?", rest)
+                told = {tuple(map(int, t.split(","))): int(x) if x else True for t, x in pairs}
+                s[name] = {t: told.get(t, False) for t in self.tuples(name)}
+        return s
+
+    def is_false(self, conjecture, values, s):
+        """Whether what stands behind the leading foralls of a conjecture is false of these values of theirs."""
+        names = []
+        while conjecture[0] == "forall":
+            names += [x for x, _ in conjecture[1]]
+            conjecture = conjecture[2]
+        return len(names) == len(values) and not self.function(conjecture, names)(s, *values)
+
 
 def name_of(bound):
     return "x_" + bound.replace("@", "at")
@@ -313,25 +344,11 @@ class Shown:
         before = lines[lines.index("before") + 1:at]
         self.sizes = tuple(int(line.split()[2]) for line in before if line.startswith("sort "))
         self.world = World(model, self.sizes)
-        self.before = self.structure([line for line in before if not line.startswith("sort ")])
+        self.before = self.world.read([line for line in before if not line.startswith("sort ")])
         self.havoc = [int(x) for x in lines[at].split()[1:]]
         self.aborts = lines[at + 1] == "aborts"
-        self.after = None if self.aborts else self.structure(lines[at + 2:-1])
+        self.after = None if self.aborts else self.world.read(lines[at + 2:-1])
         self.values = [] if self.aborts else [int(x) for x in lines[-1].split()[1:]]
-
-    def structure(self, lines):
-        s = {}
-        for line in lines:
-            kind, name, rest = re.match(r"(\w+) (\w+):(.*)", line).groups()
-            if kind == "variable":
-                s[name] = {(): int(rest)}
-            elif kind == "relation" and not self.world.takes[name][0]:
-                s[name] = {(): rest.strip() == "true"}
-            else:
-                pairs = re.findall(r"\(([\d,]*)\)(?:->(\d+))?", rest)
-                told = {tuple(map(int, t.split(","))): int(x) if x else True for t, x in pairs}
-                s[name] = {t: told.get(t, False) for t in self.world.tuples(name)}
-        return s
 
     def faults(self, stage, name, path, held):
         """Gives what is wrong with it as a counterexample where these conjectures are held, if something is."""
@@ -344,13 +361,95 @@ class Shown:
         if ends != [self.after]:
             yield "the path does not end as printed"
         elif not self.aborts:
-            conjecture = dict(self.model.conjectures)[name]
-            names = []
-            while conjecture[0] == "forall":
-                names += [x for x, _ in conjecture[1]]
-                conjecture = conjecture[2]
-            if len(names) != len(self.values) or world.function(conjecture, names)(self.after, *self.values):
+            if not world.is_false(dict(self.model.conjectures)[name], self.values, self.after):
                 yield "the conjecture is true at the printed values"
+
+
+class Run:
+    """A printed run: parts of (stage, number of the path, how many paths, elements, structure behind it or None)."""
+
+    def __init__(self, model, lines):
+        self.model, self.values = model, []
+        heads = [i for i, line in enumerate(lines) if re.search(r" path \d+ of \d+$", line)]
+        before = lines[1:heads[0]]
+        self.sizes = tuple(int(line.split()[2]) for line in before if line.startswith("sort "))
+        self.world = World(model, self.sizes)
+        self.before = self.world.read([line for line in before if not line.startswith("sort ")])
+        if lines[-1].startswith("values:"):
+            self.values = [int(x) for x in lines.pop().split()[1:]]
+        self.parts = []
+        for at, to in zip(heads, [*heads[1:], len(lines)]):
+            stage, number, count = re.match(r"(.*) path (\d+) of (\d+)$", lines[at]).groups()
+            elements = [int(x) for x in lines[at + 1].split()[1:]]
+            after = None if lines[at + 2] == "aborts" else self.world.read(lines[at + 3:to])
+            self.parts.append((stage, int(number), int(count), elements, after))
+
+    def faults(self, length, what):
+        """Gives what is wrong with it as a run of so many actions that does this, if something is."""
+        world, s, paths_of = self.world, self.before, dict(self.model.stages())
+        stages = [part[0] for part in self.parts]
+        if stages[:1] != ["init"] or sum(x.startswith("action ") for x in stages) != length:
+            yield f"the parts are {stages}"
+        if not world.holds(self.model.axioms, s):
+            yield "an axiom is false before"
+        for stage, number, count, elements, after in self.parts:
+            paths = paths_of[stage]
+            if s is None or count != len(paths) or list(world.ends(paths[number - 1], s, elements)) != [after]:
+                yield f"{stage} does not end as printed"
+            s = after
+        if what == "abort":
+            if s is not None:
+                yield "it does not abort"
+        elif s is None or not world.is_false(dict(self.model.conjectures)[what], self.values, s):
+            yield "the conjecture is true at the printed values"
+
+
+def broken_lengths(model):
+    """Gives for each number of actions by what its runs are broken, through structures of small sizes."""
+    found = [set() for _ in range(STEPS + 1)]
+    for sizes in itertools.product((1, 2, 3), repeat=len(model.sorts)):
+        world = World(model, sizes)
+        if world.count() <= MOST_OF_RUNS:
+            lawful = [s for s in world.structures() if world.holds(model.axioms, s)]
+            states = behind(world, model.init, lawful, found[0])
+            for length in range(STEPS + 1):
+                for s in states:
+                    found[length].update(name for name, c in model.conjectures if not world.function(c)(s))
+                behind(world, model.final, states, found[length])
+                if length < STEPS:
+                    paths = [path for _, paths in model.actions for path in paths]
+                    states = behind(world, paths, states, found[length + 1])
+    return found
+
+
+def behind(world, paths, states, found):
+    """Gives the structures behind these paths, each once; an abort is put into what was found."""
+    ends = {}
+    for s in states:
+        for path in paths:
+            for end in world.ends(path, s):
+                if end is None:
+                    found.add("abort")
+                else:
+                    ends[repr(end)] = end
+    return list(ends.values())
+
+
+def bounded_differences(model, told, tallies):
+    """Gives what of `bmc`'s answer brute force denies."""
+    found, lengths = broken_lengths(model), []
+    for line in told.splitlines():
+        if line.startswith(" "):
+            lengths[-1][1].append(line.strip())
+        elif line.startswith("steps "):
+            lengths.append((line.partition(": ")[2], []))
+    for length, (answer, lines) in enumerate(lengths):
+        tallies["safe lengths" if answer == "safe" else "broken lengths" if lines else "open lengths"] += 1
+        if answer == "safe" and found[length]:
+            yield f"steps {length}: safe, and broken by {found[length]}"
+        elif lines:
+            for fault in Run(model, lines).faults(length, answer.removeprefix("breaks ")):
+                yield f"steps {length}: {answer}: {fault}"
 
 
 def differences(model, report, tallies):
@@ -408,11 +507,11 @@ def found_differences(model, told, tallies):
                 yield f"kept are {kept}, and path {number} of {stage} breaks {name}"
 
 
-def answer(command, text):
+def answer(command, text, *options):
     with tempfile.NamedTemporaryFile("w", suffix=".rml") as it:
         it.write(text)
         it.flush()
-        ran = subprocess.run([program(), command, it.name], capture_output=True, text=True)
+        ran = subprocess.run([program(), command, it.name, *options], capture_output=True, text=True)
     if ran.returncode not in (0, 1, 3):
         raise ValueError(f"status {ran.returncode}: {(ran.stdout + ran.stderr).strip()}")
     return ran.stdout
@@ -425,6 +524,7 @@ def judged(seed):
         model = rml.read(text)
         told = list(differences(model, answer("check", text), tallies))
         told += found_differences(model, answer("houdini", text), tallies)
+        told += bounded_differences(model, answer("bmc", text, "--steps", str(STEPS)), tallies)
     except (KeyError, IndexError, ValueError, StopIteration, AttributeError) as fault:
         told = [f"the answer cannot be read: {fault!r}"]
     return [f"model {seed}:", *told, text] if told else [], tallies
@@ -440,8 +540,8 @@ def main():
             differ += bool(told)
             print(*told, sep="\n", end="\n" if told else "")
     print(f"{count} models: {tallies['holds']} groups hold, {tallies['fails']} fail ({tallies['compared']} of them "
-          f"compared by size), {tallies['undecided']} are left open, {tallies['dropped']} conjectures are dropped; "
-          f"{differ} models differ")
+          f"compared by size), {tallies['undecided']} are left open, {tallies['dropped']} conjectures are dropped, "
+          f"{tallies['safe lengths']} lengths are safe, {tallies['broken lengths']} broken; {differ} models differ")
     sys.exit(differ > 0)
 
 

@@ -455,6 +455,8 @@ else
     expect 'models: what fails and is said to hold is told' wrote ' holds, and fails on path '
     lie "sed 's/^\(    relation [a-z0-9]*:\)$/\1 (0)/'"
     expect 'models: a tuple too many is told' wrote ' tuples are enough'
+    lie "sed '/^steps/s/: breaks .*/: safe/'"
+    expect 'models: a length that is broken and called safe is told' wrote ': safe, and broken by '
     lie "sed 's/^  values: 0/  values: 1/'"
     expect 'models: values that are no elements are told' wrote 'the answer cannot be read: '
     if command -v cc >/dev/null; then
