@@ -1,5 +1,5 @@
 // What follows from the definitions alone. Each function is its contract, and does nothing.
-ghost use Rattle.obligation_decide.specs.Laws.{FirstLimitIsOne, PartsAreTrue};
+ghost use Rattle.obligation_decide.specs.Laws.{FirstLimitIsOne, PartsAreTrue, AxiomsAreJudged};
 
 /// The limit that a goal passes first, or that it passes none, is a function of the model.
 pub fn passing_law()
@@ -14,3 +14,12 @@ pub fn passing_law()
 pub fn parts_law()
     ensures { PartsAreTrue }
 {}
+
+/// The And of the axioms is a sentence of the model, and they are consistent where it has a model with constants,
+/// inconsistent where it has none.
+pub fn axioms_law()
+    ensures { AxiomsAreJudged }
+{
+    skolem::exactness();
+    fol_nnf::exactness();
+}

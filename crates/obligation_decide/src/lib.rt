@@ -25,12 +25,12 @@ ghost use Rattle.obligation_decide.specs.GoalPassing.{cause_of as named_cause};
 ghost use Rattle.obligation_decide.specs.GoalDecisions.{IsDecision, IsDecisionBy};
 ghost use Rattle.obligation_decide.specs.Restricted.{IsRefutingWith, IsSentenceDecision, IsRestrictedDecision};
 
-pub use axioms::decide_axioms;
+pub use axioms::{all_axioms, decide_axioms};
 use base::{Mem, Refused};
 pub use decision::{Decision, Measured};
 use ea_decide::{Decided, Passed};
 use fol_formula::{Ea, Sentence};
-pub use laws::{parts_law, passing_law};
+pub use laws::{axioms_law, parts_law, passing_law};
 use lrat_log::Limits;
 pub use measuring::measure_where;
 pub use parts::restricted_by;
