@@ -19,11 +19,17 @@ use Rattle.rml_report.specs.declared.report.Axioms.TheVariants.{Consistent, Inco
 use Rattle.ea_decide.specs.Passing.{Ceilings}
 use Rattle.ea_decide.specs.Decisions.{HasNoModel}
 use Rattle.obligation_decide.specs.GoalPassing.{PassesFirst}
+use Rattle.obligation_decide.specs.Restricted.{with_parts}
 use Rattle.obligation_decide.specs.WithConstants.{HoldsWithConstants}
 
 abbrev pub FirstLimitIsOne : Type 0
 FirstLimitIsOne = (limits : Ceilings) (m : ModelTree) (goal : Goal) (a b : Option Cause) → IsChecked m → IsGoal m goal
     → PassesFirst limits m goal a → PassesFirst limits m goal b → a ≡ b
+
+-- A refuting sentence with further parts is the sentence with these in its And.
+abbrev pub PartsAreAdded : Type 0
+PartsAreAdded = (premises : Premises) (m : ModelTree) (more : List FormTree) (goal : Goal)
+    → with_parts (refuting_by premises m m.conjectures goal) more ≡ refuting_all_by premises m m.conjectures more goal
 
 -- A refuting sentence with further parts is true exactly where it is true without them and they are true.
 abbrev pub PartsAreTrue : Type 0
