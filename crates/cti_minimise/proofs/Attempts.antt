@@ -1,5 +1,6 @@
 -- What is decided under bounds that are said otherwise, or only in part, holds under the bounds.
-use Rattle.std.proofs.Common.{◌≡◌, ℕ, ◌≤◌, List, sum, length, subst, arith}
+use Rattle.std.proofs.Common.{◌≡◌, ℕ, ◌+◌, ◌≤◌, List, [], ◌∷◌, ◌++◌, sum, length, take, subst, ⊎_elim, arith}
+use Rattle.std.proofs.lemmas.Bool.{cases_lt}
 use Rattle.fol_sig.specs.Tables.{Declared}
 use Rattle.fol_formula.specs.Syntax.{FormTree}
 use Rattle.rml_command.specs.Models.{ModelTree}
@@ -11,8 +12,10 @@ use Rattle.obligation_decide.specs.Restricted.{HasNoneWhere, IsFailingWhere}
 use Rattle.cti_minimise.specs.Bounding.{bound_at, bounds_by, bounds_on}
 use Rattle.cti_minimise.specs.Extents.{extent, places}
 use Rattle.cti_minimise.specs.Laws.{AreBounds, AreImplied}
+use Rattle.cti_minimise.specs.Steps.{PassWith, AllPassAt}
 use Rattle.cti_minimise.specs.Within.{numbers_within, AreBoundsFor, AreAtMost}
 use Rattle.cti_minimise.specs.declared.bounds.Bounds.{Bounds}
+use Rattle.cti_minimise.specs.declared.trials.Trials.{Trials}
 use Rattle.cti_minimise.proofs.Searching.{length-up-to}
 use Rattle.cti_minimise.proofs.BoundLaws.{implied-by}
 use Rattle.cti_minimise.proofs.Bounded.{bounded, within}
@@ -52,3 +55,18 @@ few-within sig b bounds =
     let count = bounds.count in
     let all = length-up-to b.numbers.now b.place b.most place in
     omega (arith, all, place, count)
+
+module _ (t : Trials) (numbers : List ℕ) (place low : ℕ) where
+  -- one bound more passes no limit
+  pub pass-next : (n : ℕ) → PassWith t (take place numbers ++ n ∷ []) → AllPassAt t numbers place low n
+      → AllPassAt t numbers place low (n + 1)
+  pass-next n here before k le below =
+      ⊎_elim
+      (λ less. before k le less)
+      (λ ge.
+      let same : n ≡ k = omega (arith, ge, below) in
+      subst (λ (j : ℕ). PassWith t (take place numbers ++ j ∷ [])) same here)
+      (cases_lt k n)
+
+  pub pass-fewer : (n high : ℕ) → high ≤ n → AllPassAt t numbers place low n → AllPassAt t numbers place low high
+  pass-fewer n high le all k least below = all k least (omega (arith, le, below))

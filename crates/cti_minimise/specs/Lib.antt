@@ -4,6 +4,6 @@ pub mod Bounding
 pub mod Saying
 pub mod Extents
 pub mod Minimal
+pub mod Within
 pub mod Steps
 pub mod Laws
-pub mod Within

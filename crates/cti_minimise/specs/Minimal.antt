@@ -1,5 +1,5 @@
 -- Which counterexamples of a goal are least, and where the search for smaller ones stopped.
-use Rattle.std.specs.Prelude.{◌≡◌, ◌⊎◌, ℕ, ◌-◌, ◌<◌, ◌≤◌, List, [], ◌∷◌, ◌++◌, length, take, get_or, None}
+use Rattle.std.specs.Prelude.{◌≡◌, ◌⊎◌, ℕ, ◌<◌, ◌≤◌, List, [], ◌∷◌, ◌++◌, length, take, get_or, None}
 use Rattle.fol_sig.specs.Tables.{Tables}
 use Rattle.rml_command.specs.Models.{ModelTree}
 use Rattle.rml_command.specs.Goals.{IsCounterexample}
@@ -28,21 +28,20 @@ HasNoSmaller m goal numbers =
 abbrev pub numbers_up_to : Tables → ℕ → ℕ → List ℕ
 numbers_up_to s place number = take place (extent s) ++ number ∷ []
 
--- The bound just below each of these numbers, where a structure may have fewer: with it, and with bounds on the numbers
--- before, the goal passes no limit by its size.
+-- Each bound below one of these numbers that a structure may have: with it, and with bounds on the numbers before, the
+-- goal passes no limit by its size.
 abbrev pub AreTried : Ceilings → ModelTree → Goal → List ℕ → Type 0
 AreTried limits m goal numbers =
-    (place : ℕ) → place < length numbers → lowest m.signature place < get_or numbers place 0
-    → RestrictedPassesFirst limits m
-    (bounds_on m.signature (take place numbers ++ (get_or numbers place 0 - 1) ∷ [])) goal None
+    (place n : ℕ) → place < length numbers → lowest m.signature place ≤ n → n < get_or numbers place 0
+    → RestrictedPassesFirst limits m (bounds_on m.signature (take place numbers ++ n ∷ [])) goal None
 
--- no counterexample has smaller numbers than these, and the bounds just below them were tried
+-- no counterexample has smaller numbers than these, and the bounds below them were tried
 pub record AreLeast (limits : Ceilings) (m : ModelTree) (goal : Goal) (numbers : List ℕ) : Type 0 where
   pub smaller : HasNoSmaller m goal numbers
   pub tried : AreTried limits m goal numbers
 
 -- Whether the number at a place may be at most `number` is left open: a structure may have so few, and it is more
--- there; those before the place, and this, are least; and the goal with the bounds on these is left open for this cause.
+-- there; those before the place, and this, are least; and the goal with bounds on these is left open for this cause.
 pub record IsStoppedAt (limits : Ceilings) (m : ModelTree) (goal : Goal) (s : Tables) (place number : ℕ) (cause : Cause)
     : Type 0 where
   pub possible : lowest m.signature place ≤ number

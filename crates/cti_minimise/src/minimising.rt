@@ -1,17 +1,18 @@
 // The search for smaller counterexamples.
-ghost use Rattle.std.specs.Prelude.{◌≡◌, ◌<◌, length, take, IfOk};
+ghost use Rattle.std.specs.Prelude.{◌<◌, take, IfOk};
 ghost use Rattle.rml_command.specs.Goals.{IsGoal};
 ghost use Rattle.ea_decide.specs.Passing.{ceilings};
 ghost use Rattle.obligation_decide.specs.GoalDecisions.{IsFailing};
 ghost use Rattle.cti_minimise.specs.Extents.{extent, places};
-ghost use Rattle.cti_minimise.specs.Minimal.{AreLeast, IsLeast};
-ghost use Rattle.cti_minimise.specs.Steps.{IsStep, IsDescent};
+ghost use Rattle.cti_minimise.specs.Minimal.{IsLeast};
+ghost use Rattle.cti_minimise.specs.Steps.{AreTrials, IsShown, LeastAre, IsStep, IsDescent, limits_of};
 
 use crate::bounds::Bounds;
 use crate::extents::{bound_of, extent, lowest, places};
 use crate::laws::bound_law;
-use crate::trials::{Attempt, Trial, try_bounds, try_short};
+use crate::trials::{Attempt, Trial, Trials};
 use base::Mem;
+use lean_decide::prepare;
 use lrat_log::Limits;
 use rml_command::{Checked, Goal};
 use rml_exec::Counterexample;
@@ -41,8 +42,8 @@ enum Descent {
 }
 
 /// A counterexample of the goal, found from this one, whose sizes, the sorts taken in order, and then the numbers of
-/// whose true tuples, the relations taken in order, are least among all counterexamples of the goal; or where the search
-/// for smaller ones stopped.
+/// whose true tuples, the relations taken in order, are least among all counterexamples of the goal; or where the
+/// search for smaller ones stopped. Each bound below these numbers passes no limit by its size.
 pub fn least(
     alloc: Global,
     checked: &Checked,
@@ -56,10 +57,31 @@ pub fn least(
     ensures least { IfOk result (λ found.
         IsLeast (ceilings limits.now) checked.now goal.now found.0.structure found.1) }
 {
-    let signature = checked.model().signature();
+    let prepared = prepare(alloc, checked, goal)?;
+    let trials = Trials {
+        checked,
+        goal,
+        limits,
+        prepared: &prepared,
+    };
+    let found = least_by(alloc, &trials, shown);
+    drop(prepared);
+    let found = found?;
+    Ok(found)
+}
+
+// By trials of the goal.
+fn least_by(alloc: Global, trials: &Trials, shown: Counterexample) -> Mem<(Counterexample, Least)>
+    requires trials { AreTrials trials.now }
+    requires failing { IsShown trials.now shown }
+    ensures failing { IfOk result (λ found. IsShown trials.now found.0) }
+    ensures least { IfOk result (λ found.
+        IsLeast (limits_of trials.now) trials.now.checked.now trials.now.goal.now found.0.structure found.1) }
+{
+    let signature = trials.checked.model().signature();
     let mut found = shown;
     for place in 0..places(signature) {
-        match least_at(alloc, checked, goal, place, found, limits)? {
+        match least_at(alloc, trials, place, found)? {
             Step::Settled(settled) => found = settled,
             Step::Stopped {
                 shown,
@@ -76,24 +98,17 @@ pub fn least(
 }
 
 // Makes the number at a place least, where those before it are.
-fn least_at(
-    alloc: Global,
-    checked: &Checked,
-    goal: &Goal,
-    place: usize,
-    shown: Counterexample,
-    limits: &Limits,
-) -> Mem<Step>
-    requires goal { IsGoal checked.now goal.now }
-    requires place { place < places checked.now.signature }
-    requires failing { IsFailing (ceilings limits.now) checked.now goal.now shown }
-    requires before { AreLeast (ceilings limits.now) checked.now goal.now (take place (extent shown.structure)) }
-    ensures { IfOk result (IsStep (ceilings limits.now) checked.now goal.now place) }
+fn least_at(alloc: Global, trials: &Trials, place: usize, shown: Counterexample) -> Mem<Step>
+    requires trials { AreTrials trials.now }
+    requires place { place < places trials.now.checked.now.signature }
+    requires failing { IsShown trials.now shown }
+    requires before { LeastAre trials.now (take place (extent shown.structure)) }
+    ensures { IfOk result (IsStep trials.now place) }
 {
-    match from_above(alloc, checked, goal, place, shown, limits)? {
+    match from_above(alloc, trials, place, shown)? {
         Descent::Settled(settled) => Ok(Step::Settled(settled)),
         Descent::Open(shown) => {
-            let step = from_below(alloc, checked, goal, place, shown, limits)?;
+            let step = from_below(alloc, trials, place, shown)?;
             Ok(step)
         }
     }
@@ -101,22 +116,15 @@ fn least_at(
 
 // Asks for one less, in short, as long as a smaller counterexample is found. Each turn lowers the number, so there are
 // no more turns than the number that the first one has.
-fn from_above(
-    alloc: Global,
-    checked: &Checked,
-    goal: &Goal,
-    place: usize,
-    shown: Counterexample,
-    limits: &Limits,
-) -> Mem<Descent>
-    requires goal { IsGoal checked.now goal.now }
-    requires place { place < places checked.now.signature }
-    requires failing { IsFailing (ceilings limits.now) checked.now goal.now shown }
-    requires before { AreLeast (ceilings limits.now) checked.now goal.now (take place (extent shown.structure)) }
-    ensures { IfOk result (IsDescent (ceilings limits.now) checked.now goal.now place) }
+fn from_above(alloc: Global, trials: &Trials, place: usize, shown: Counterexample) -> Mem<Descent>
+    requires trials { AreTrials trials.now }
+    requires place { place < places trials.now.checked.now.signature }
+    requires failing { IsShown trials.now shown }
+    requires before { LeastAre trials.now (take place (extent shown.structure)) }
+    ensures { IfOk result (IsDescent trials.now place) }
 {
     bound_law();
-    let signature = checked.model().signature();
+    let signature = trials.checked.model().signature();
     let lowest = lowest(signature, place);
     let turns = extent(alloc, signature, &shown.structure)?[place];
     let mut found = shown;
@@ -131,8 +139,13 @@ fn from_above(
             place,
             most: number - 1,
         };
-        match try_short(alloc, checked, goal, &bounds, limits)? {
-            Attempt::Refuted => return Ok(Descent::Settled(found)),
+        match trials.try_short(alloc, &bounds)? {
+            Attempt::Refuted => {
+                if trials.pass_below(alloc, &bounds, lowest)? {
+                    return Ok(Descent::Settled(found));
+                }
+                return Ok(Descent::Open(found));
+            }
             Attempt::Found(smaller) => found = smaller,
             Attempt::Open => return Ok(Descent::Open(found)),
         }
@@ -140,31 +153,26 @@ fn from_above(
     Ok(Descent::Open(found))
 }
 
-// Tries the bounds below the number at a place, the least first.
-fn from_below(
-    alloc: Global,
-    checked: &Checked,
-    goal: &Goal,
-    place: usize,
-    shown: Counterexample,
-    limits: &Limits,
-) -> Mem<Step>
-    requires goal { IsGoal checked.now goal.now }
-    requires place { place < places checked.now.signature }
-    requires failing { IsFailing (ceilings limits.now) checked.now goal.now shown }
-    requires before { AreLeast (ceilings limits.now) checked.now goal.now (take place (extent shown.structure)) }
-    ensures { IfOk result (IsStep (ceilings limits.now) checked.now goal.now place) }
+// Tries the bounds below the number at a place, the least first. The greatest is the one at which the search from above
+// stopped.
+fn from_below(alloc: Global, trials: &Trials, place: usize, shown: Counterexample) -> Mem<Step>
+    requires trials { AreTrials trials.now }
+    requires place { place < places trials.now.checked.now.signature }
+    requires failing { IsShown trials.now shown }
+    requires before { LeastAre trials.now (take place (extent shown.structure)) }
+    ensures { IfOk result (IsStep trials.now place) }
 {
     bound_law();
-    let signature = checked.model().signature();
+    let signature = trials.checked.model().signature();
     let numbers = extent(alloc, signature, &shown.structure)?;
-    for most in lowest(signature, place)..numbers[place] {
+    let top = numbers[place];
+    for most in lowest(signature, place)..top {
         let bounds = Bounds {
             numbers: &numbers,
             place,
             most,
         };
-        match try_bounds(alloc, checked, goal, &bounds, limits)? {
+        match trials.try_bounds(alloc, &bounds, most == top - 1)? {
             Trial::Refuted => {}
             Trial::Found(smaller) => return Ok(Step::Settled(smaller)),
             Trial::Open(cause) => {

@@ -1,24 +1,22 @@
 // Trials: whether a goal has a counterexample within bounds.
-ghost use Rattle.std.specs.Prelude.{◌≡◌, ◌≤◌, IfOk, None};
-ghost use Rattle.rml_command.specs.Goals.{IsGoal};
-ghost use Rattle.ea_decide.specs.Passing.{ceilings};
-ghost use Rattle.obligation_decide.specs.GoalDecisions.{IsFailing};
-ghost use Rattle.obligation_decide.specs.Restricted.{RestrictedPassesFirst, IsRestrictedDecision};
+ghost use Rattle.std.specs.Prelude.{◌≡◌, ◌≤◌, true, IfOk};
+ghost use Rattle.obligation_decide.specs.Restricted.{IsRestrictedDecision};
 ghost use Rattle.obligation_decide.specs.Costs.{IsRestrictedMeasured};
+ghost use Rattle.ea_decide.specs.Passing.{ceilings};
 ghost use Rattle.lean_decide.specs.Sought.{IsSought};
 ghost use Rattle.cti_minimise.specs.Bounding.{bounds_by, bounds_on};
 ghost use Rattle.cti_minimise.specs.Saying.{said_by};
 ghost use Rattle.cti_minimise.specs.Within.{numbers_within, AreBoundsFor};
-ghost use Rattle.cti_minimise.specs.Steps.{IsAttempt, IsTrial};
+ghost use Rattle.cti_minimise.specs.Steps.{AreTrials, IsShown, PassWith, AllPassAt, IsAttempt, IsTrial, limits_of};
 
 use crate::bounds::{Bounds, MOST_PAIRED, Saying, bounds_on};
 use crate::extents::{extent, is_within};
 use crate::laws::{bound_law, saying_law};
 use base::Mem;
 use fol_sig::{RelId, Signature};
-use lean_decide::{Sought, seek_where};
+use lean_decide::{Prepared, Sought};
 use lrat_log::Limits;
-use obligation_decide::{Decision, Measured, decide_where, measure_where};
+use obligation_decide::{Decision, Measured, decide_where};
 use rml_command::{Checked, Goal};
 use rml_exec::Counterexample;
 use rml_report::Cause;
@@ -45,90 +43,196 @@ pub enum Attempt {
     Open,
 }
 
-/// Whether the goal has a counterexample within the bounds. A limit, or a spent budget, is always that of the refuting
-/// sentence with all axioms and with all constants of the bounds: where lean sentences leave the trial open, that one
-/// decides.
-pub fn try_bounds(
-    alloc: Global,
-    checked: &Checked,
-    goal: &Goal,
-    bounds: &Bounds,
-    limits: &Limits,
-) -> Mem<Trial>
-    requires goal { IsGoal checked.now goal.now }
-    requires bounds { AreBoundsFor checked.now.signature bounds.now }
-    ensures { IfOk result (IsTrial (ceilings limits.now) checked.now
-        (bounds_on checked.now.signature (numbers_within bounds.now)) goal.now) }
-{
-    match try_short(alloc, checked, goal, bounds, limits)? {
-        Attempt::Refuted => return Ok(Trial::Refuted),
-        Attempt::Found(smaller) => return Ok(Trial::Found(smaller)),
-        Attempt::Open => {}
-    }
-    match try_named(alloc, checked, goal, bounds, limits)? {
-        Attempt::Refuted => return Ok(Trial::Refuted),
-        Attempt::Found(smaller) => return Ok(Trial::Found(smaller)),
-        Attempt::Open => {}
-    }
-    match decide_named(alloc, checked, goal, bounds, limits)? {
-        Decision::Holds(_) => Ok(Trial::Refuted),
-        Decision::Fails(smaller) => Ok(Trial::Found(smaller)),
-        Decision::Undecided(cause) => Ok(Trial::Open(cause)),
-    }
+/// The trials of a goal under limits. They share what is built of the goal: the bounds of a trial are parts more in the
+/// And of its refuting sentence.
+#[derive(Clone, Copy)]
+pub struct Trials<'a> {
+    pub checked: &'a Checked,
+    pub goal: &'a Goal,
+    pub limits: &'a Limits,
+    pub prepared: &'a Prepared,
 }
 
-/// The same by bounds that are said in short, where the trial passes no limit by its size and is no smaller. A trial
-/// at a relation is tried without the bounds on those before it at first: what it refutes is refuted, and what it finds
-/// mostly keeps to them.
-pub fn try_short(
-    alloc: Global,
-    checked: &Checked,
-    goal: &Goal,
-    bounds: &Bounds,
-    limits: &Limits,
-) -> Mem<Attempt>
-    requires goal { IsGoal checked.now goal.now }
-    requires bounds { AreBoundsFor checked.now.signature bounds.now }
-    ensures { IfOk result (IsAttempt (ceilings limits.now) checked.now
-        (bounds_on checked.now.signature (numbers_within bounds.now)) goal.now) }
-{
-    let signature = checked.model().signature();
-    if !is_short(signature, bounds, limits) {
-        return Ok(Attempt::Open);
-    }
-    let size = match measure(alloc, checked, goal, bounds, limits)? {
-        Measured::Within(size) => size,
-        Measured::Over(_) => return Ok(Attempt::Open),
-    };
-    if bounds.place > signature.sorts() as usize {
-        match attempt_with(alloc, checked, goal, bounds, Saying::Sparse, limits, size)? {
+impl<'a> Trials<'a> {
+    /// Whether the goal has a counterexample within the bounds. A limit, or a spent budget, is always that of the
+    /// refuting sentence with all axioms and with all constants of the bounds: where lean sentences leave the trial
+    /// open, that one decides. Where the trial is tried again, those that say the bounds in short left it open.
+    pub fn try_bounds(&self, alloc: Global, bounds: &Bounds, again: bool) -> Mem<Trial>
+        requires trials { AreTrials self.now }
+        requires bounds { AreBoundsFor self.now.checked.now.signature bounds.now }
+        ensures { IfOk result (IsTrial self.now bounds.now) }
+    {
+        match self.try_lean(alloc, bounds, again)? {
+            Attempt::Refuted => return Ok(Trial::Refuted),
+            Attempt::Found(smaller) => return Ok(Trial::Found(smaller)),
             Attempt::Open => {}
-            decided => return Ok(decided),
+        }
+        match self.decide(alloc, bounds)? {
+            Decision::Holds(_) => Ok(Trial::Refuted),
+            Decision::Fails(smaller) => Ok(Trial::Found(smaller)),
+            Decision::Undecided(cause) => Ok(Trial::Open(cause)),
         }
     }
-    let attempt = attempt_with(alloc, checked, goal, bounds, Saying::Short, limits, size)?;
-    Ok(attempt)
-}
 
-// The same by bounds that are said by constants.
-fn try_named(
-    alloc: Global,
-    checked: &Checked,
-    goal: &Goal,
-    bounds: &Bounds,
-    limits: &Limits,
-) -> Mem<Attempt>
-    requires goal { IsGoal checked.now goal.now }
-    requires bounds { AreBoundsFor checked.now.signature bounds.now }
-    ensures { IfOk result (IsAttempt (ceilings limits.now) checked.now
-        (bounds_on checked.now.signature (numbers_within bounds.now)) goal.now) }
-{
-    match measure(alloc, checked, goal, bounds, limits)? {
-        Measured::Over(_) => Ok(Attempt::Open),
-        Measured::Within(size) => {
-            let attempt = attempt_with(alloc, checked, goal, bounds, Saying::Named, limits, size)?;
-            Ok(attempt)
+    /// The same by lean sentences that say the bounds in short, where the trial passes no limit by its size and is no
+    /// smaller.
+    pub fn try_short(&self, alloc: Global, bounds: &Bounds) -> Mem<Attempt>
+        requires trials { AreTrials self.now }
+        requires bounds { AreBoundsFor self.now.checked.now.signature bounds.now }
+        ensures { IfOk result (IsAttempt self.now bounds.now) }
+    {
+        if !is_short(self.checked.model().signature(), bounds, self.limits) {
+            return Ok(Attempt::Open);
         }
+        match self.measure(alloc, bounds)? {
+            Measured::Within(size) => {
+                let attempt = self.attempt_short(alloc, bounds, size)?;
+                Ok(attempt)
+            }
+            Measured::Over(_) => Ok(Attempt::Open),
+        }
+    }
+
+    /// Whether the trials of the bounds below this one, from the lowest on, pass no limit by their size either. They
+    /// are no larger, so they pass none; that is looked at, and rests on no law.
+    pub fn pass_below(&self, alloc: Global, bounds: &Bounds, lowest: u64) -> Mem<bool>
+        requires trials { AreTrials self.now }
+        requires bounds { AreBoundsFor self.now.checked.now.signature bounds.now }
+        ensures { IfOk result (λ pass. pass ≡ true
+            → AllPassAt self.now bounds.now.numbers.now bounds.now.place lowest bounds.now.most) }
+    {
+        for most in lowest..bounds.most {
+            let lower = Bounds {
+                numbers: bounds.numbers,
+                place: bounds.place,
+                most,
+            };
+            match self.measure(alloc, &lower)? {
+                Measured::Within(_) => {}
+                Measured::Over(_) => return Ok(false),
+            }
+        }
+        Ok(true)
+    }
+
+    // By lean sentences, those first that say the bounds in short, unless it is tried again.
+    fn try_lean(&self, alloc: Global, bounds: &Bounds, again: bool) -> Mem<Attempt>
+        requires trials { AreTrials self.now }
+        requires bounds { AreBoundsFor self.now.checked.now.signature bounds.now }
+        ensures { IfOk result (IsAttempt self.now bounds.now) }
+    {
+        let size = match self.measure(alloc, bounds)? {
+            Measured::Within(size) => size,
+            Measured::Over(_) => return Ok(Attempt::Open),
+        };
+        if !again && is_short(self.checked.model().signature(), bounds, self.limits) {
+            match self.attempt_short(alloc, bounds, size)? {
+                Attempt::Open => {}
+                decided => return Ok(decided),
+            }
+        }
+        let attempt = self.attempt_by(alloc, bounds, Saying::Named, size)?;
+        Ok(attempt)
+    }
+
+    // With the bounds said in short. A trial at a relation is tried without the bounds on those before it at first:
+    // what it refutes is refuted, and what it finds mostly keeps to them.
+    fn attempt_short(&self, alloc: Global, bounds: &Bounds, size: u64) -> Mem<Attempt>
+        requires trials { AreTrials self.now }
+        requires bounds { AreBoundsFor self.now.checked.now.signature bounds.now }
+        requires size { size ≤ self.now.limits.now.ground_size }
+        requires pass { PassWith self.now (numbers_within bounds.now) }
+        ensures { IfOk result (IsAttempt self.now bounds.now) }
+    {
+        if bounds.place > self.checked.model().signature().sorts() as usize {
+            match self.attempt_by(alloc, bounds, Saying::Sparse, size)? {
+                Attempt::Open => {}
+                decided => return Ok(decided),
+            }
+        }
+        let attempt = self.attempt_by(alloc, bounds, Saying::Short, size)?;
+        Ok(attempt)
+    }
+
+    // An attempt with the bounds said so, by a lean sentence within this ground size.
+    fn attempt_by(&self, alloc: Global, bounds: &Bounds, saying: Saying, size: u64) -> Mem<Attempt>
+        requires trials { AreTrials self.now }
+        requires bounds { AreBoundsFor self.now.checked.now.signature bounds.now }
+        requires size { size ≤ self.now.limits.now.ground_size }
+        requires pass { PassWith self.now (numbers_within bounds.now) }
+        ensures { IfOk result (IsAttempt self.now bounds.now) }
+    {
+        bound_law();
+        saying_law();
+        let narrowed = narrowed(self.limits, size);
+        match self.seek(alloc, bounds, saying, &narrowed)? {
+            Sought::Nowhere => Ok(Attempt::Refuted),
+            Sought::Found(found) => {
+                let kept = self.kept(alloc, bounds, found)?;
+                Ok(kept)
+            }
+            Sought::Open => Ok(Attempt::Open),
+        }
+    }
+
+    // What is found, where it is within the bounds: that is looked at.
+    fn kept(&self, alloc: Global, bounds: &Bounds, found: Counterexample) -> Mem<Attempt>
+        requires bounds { AreBoundsFor self.now.checked.now.signature bounds.now }
+        requires failing { IsShown self.now found }
+        requires pass { PassWith self.now (numbers_within bounds.now) }
+        ensures { IfOk result (IsAttempt self.now bounds.now) }
+    {
+        bound_law();
+        let numbers = extent(alloc, self.checked.model().signature(), &found.structure)?;
+        if is_within(&numbers, bounds) {
+            Ok(Attempt::Found(found))
+        } else {
+            Ok(Attempt::Open)
+        }
+    }
+
+    // What a trial would cost.
+    fn measure(&self, alloc: Global, bounds: &Bounds) -> Mem<Measured>
+        requires trials { AreTrials self.now }
+        requires bounds { AreBoundsFor self.now.checked.now.signature bounds.now }
+        ensures { IfOk result (IsRestrictedMeasured (limits_of self.now) self.now.checked.now
+            (bounds_on self.now.checked.now.signature (numbers_within bounds.now)) self.now.goal.now) }
+    {
+        let signature = self.checked.model().signature();
+        let sentences = bounds_on(alloc, signature, bounds, Saying::Named)?;
+        let measured = self
+            .prepared
+            .measure(alloc, self.checked, self.goal, &sentences, self.limits)?;
+        Ok(measured)
+    }
+
+    // Seeks a counterexample with the bounds said so, by a lean sentence.
+    fn seek(&self, alloc: Global, bounds: &Bounds, saying: Saying, limits: &Limits) -> Mem<Sought>
+        requires trials { AreTrials self.now }
+        requires bounds { AreBoundsFor self.now.checked.now.signature bounds.now }
+        ensures { IfOk result (IsSought (ceilings limits.now) self.now.checked.now
+            (bounds_by (said_by self.now.checked.now.signature saying bounds.now.place) 0 (numbers_within bounds.now))
+            self.now.goal.now) }
+    {
+        let signature = self.checked.model().signature();
+        let sentences = bounds_on(alloc, signature, bounds, saying)?;
+        let sought = self
+            .prepared
+            .seek(alloc, self.checked, self.goal, &sentences, limits)?;
+        Ok(sought)
+    }
+
+    // Decides the goal by the whole refuting sentence with the bounds, said by constants.
+    fn decide(&self, alloc: Global, bounds: &Bounds) -> Mem<Decision>
+        requires trials { AreTrials self.now }
+        requires bounds { AreBoundsFor self.now.checked.now.signature bounds.now }
+        ensures { IfOk result (IsRestrictedDecision (limits_of self.now) self.now.checked.now
+            (bounds_on self.now.checked.now.signature (numbers_within bounds.now)) self.now.goal.now) }
+    {
+        let signature = self.checked.model().signature();
+        let sentences = bounds_on(alloc, signature, bounds, Saying::Named)?;
+        let decision = decide_where(alloc, self.checked, self.goal, &sentences, self.limits)?;
+        Ok(decision)
     }
 }
 
@@ -147,62 +251,6 @@ fn is_short(signature: &Signature, bounds: &Bounds, limits: &Limits) -> bool
     }
 }
 
-// An attempt with the bounds said so, by a lean sentence within this ground size.
-fn attempt_with(
-    alloc: Global,
-    checked: &Checked,
-    goal: &Goal,
-    bounds: &Bounds,
-    saying: Saying,
-    limits: &Limits,
-    size: u64,
-) -> Mem<Attempt>
-    requires goal { IsGoal checked.now goal.now }
-    requires bounds { AreBoundsFor checked.now.signature bounds.now }
-    requires size { size ≤ limits.now.ground_size }
-    requires pass { RestrictedPassesFirst (ceilings limits.now) checked.now
-        (bounds_on checked.now.signature (numbers_within bounds.now)) goal.now None }
-    ensures { IfOk result (IsAttempt (ceilings limits.now) checked.now
-        (bounds_on checked.now.signature (numbers_within bounds.now)) goal.now) }
-{
-    bound_law();
-    saying_law();
-    let narrowed = narrowed(limits, size);
-    match seek_by(alloc, checked, goal, bounds, saying, &narrowed)? {
-        Sought::Nowhere => Ok(Attempt::Refuted),
-        Sought::Found(found) => {
-            let kept = kept(alloc, checked, goal, bounds, found, limits)?;
-            Ok(kept)
-        }
-        Sought::Open => Ok(Attempt::Open),
-    }
-}
-
-// What is found, where it is within the bounds: that is looked at.
-fn kept(
-    alloc: Global,
-    checked: &Checked,
-    goal: &Goal,
-    bounds: &Bounds,
-    found: Counterexample,
-    limits: &Limits,
-) -> Mem<Attempt>
-    requires bounds { AreBoundsFor checked.now.signature bounds.now }
-    requires failing { IsFailing (ceilings limits.now) checked.now goal.now found }
-    requires pass { RestrictedPassesFirst (ceilings limits.now) checked.now
-        (bounds_on checked.now.signature (numbers_within bounds.now)) goal.now None }
-    ensures { IfOk result (IsAttempt (ceilings limits.now) checked.now
-        (bounds_on checked.now.signature (numbers_within bounds.now)) goal.now) }
-{
-    bound_law();
-    let numbers = extent(alloc, checked.model().signature(), &found.structure)?;
-    if is_within(&numbers, bounds) {
-        Ok(Attempt::Found(found))
-    } else {
-        Ok(Attempt::Open)
-    }
-}
-
 // The limits, with a ground size that is no limit's own.
 fn narrowed(limits: &Limits, size: u64) -> Limits
     requires { size ≤ limits.now.ground_size }
@@ -213,59 +261,4 @@ fn narrowed(limits: &Limits, size: u64) -> Limits
         ground_size: size.max(1),
         conflicts: limits.conflicts,
     }
-}
-
-// What a trial would cost.
-fn measure(
-    alloc: Global,
-    checked: &Checked,
-    goal: &Goal,
-    bounds: &Bounds,
-    limits: &Limits,
-) -> Mem<Measured>
-    requires goal { IsGoal checked.now goal.now }
-    requires bounds { AreBoundsFor checked.now.signature bounds.now }
-    ensures { IfOk result (IsRestrictedMeasured (ceilings limits.now) checked.now
-        (bounds_on checked.now.signature (numbers_within bounds.now)) goal.now) }
-{
-    let sentences = bounds_on(alloc, checked.model().signature(), bounds, Saying::Named)?;
-    let measured = measure_where(alloc, checked, goal, &sentences, limits)?;
-    Ok(measured)
-}
-
-// Seeks a counterexample with the bounds said so, by a lean sentence.
-fn seek_by(
-    alloc: Global,
-    checked: &Checked,
-    goal: &Goal,
-    bounds: &Bounds,
-    saying: Saying,
-    limits: &Limits,
-) -> Mem<Sought>
-    requires goal { IsGoal checked.now goal.now }
-    requires bounds { AreBoundsFor checked.now.signature bounds.now }
-    ensures { IfOk result (IsSought (ceilings limits.now) checked.now
-        (bounds_by (said_by checked.now.signature saying bounds.now.place) 0 (numbers_within bounds.now)) goal.now) }
-{
-    let sentences = bounds_on(alloc, checked.model().signature(), bounds, saying)?;
-    let sought = seek_where(alloc, checked, goal, &sentences, limits)?;
-    Ok(sought)
-}
-
-// Decides the goal by the whole refuting sentence with the bounds, said by constants.
-fn decide_named(
-    alloc: Global,
-    checked: &Checked,
-    goal: &Goal,
-    bounds: &Bounds,
-    limits: &Limits,
-) -> Mem<Decision>
-    requires goal { IsGoal checked.now goal.now }
-    requires bounds { AreBoundsFor checked.now.signature bounds.now }
-    ensures { IfOk result (IsRestrictedDecision (ceilings limits.now) checked.now
-        (bounds_on checked.now.signature (numbers_within bounds.now)) goal.now) }
-{
-    let sentences = bounds_on(alloc, checked.model().signature(), bounds, Saying::Named)?;
-    let decision = decide_where(alloc, checked, goal, &sentences, limits)?;
-    Ok(decision)
 }

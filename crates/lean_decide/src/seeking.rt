@@ -1,21 +1,23 @@
 // A goal is asked for a counterexample in a structure that satisfies further sentences, by a lean sentence.
-ghost use Rattle.std.specs.Prelude.{[], IfOk};
+ghost use Rattle.std.specs.Prelude.{◌≡◌, [], IfOk};
 ghost use Rattle.std.specs.List.{AllByRecursion};
 ghost use Rattle.fol_sig.specs.Symbols.{symbols};
 ghost use Rattle.fol_formula.specs.Fits.{FitsForm};
 ghost use Rattle.fol_formula.specs.Fragments.{IsEa};
 ghost use Rattle.rml_command.specs.Goals.{IsGoal};
+ghost use Rattle.rml_wp.specs.declared.premises.Premises.TheVariants.{Affected};
+ghost use Rattle.rml_wp.specs.Added.{refuting_all_by};
 ghost use Rattle.ea_decide.specs.Passing.{ceilings};
+ghost use Rattle.lean_decide.specs.Lean.{affected_refuting};
 ghost use Rattle.lean_decide.specs.Sought.{IsSought};
 
 use crate::deciding::decide_sentence;
 use base::{Mem, Refused};
-use fol_formula::Sentence;
+use fol_formula::{Ea, Sentence};
 use lrat_log::Limits;
-use obligation_decide::{Decision, restricted_by};
+use obligation_decide::{Decision, with_parts};
 use rml_command::{Checked, Goal};
 use rml_exec::Counterexample;
-use rml_wp::Premises;
 use std::alloc::{AllocError, Global};
 
 /// What is found of a goal in the structures that satisfy further sentences.
@@ -30,17 +32,17 @@ pub enum Sought {
     Open,
 }
 
-/// Seeks a counterexample of a goal of the model in a structure that satisfies further sentences, by the lean form of
-/// the refuting sentence with the affected axioms alone as premises and these sentences in its And. The limits are those
-/// of that form's own counts.
-pub fn seek_where(
+/// Seeks one by this refuting sentence, with the further sentences in its And.
+pub fn seek_by(
     alloc: Global,
     checked: &Checked,
     goal: &Goal,
+    affected: &Ea,
     more: &[Sentence],
     limits: &Limits,
 ) -> Mem<Sought>
     requires goal { IsGoal checked.now goal.now }
+    requires affected { affected.now ≡ affected_refuting checked.now goal.now }
     requires fragment { AllByRecursion IsEa more.now }
     requires fits { AllByRecursion (FitsForm (symbols checked.now.signature) []) more.now }
     ensures { IfOk result (IsSought (ceilings limits.now) checked.now more.now goal.now) }
@@ -50,14 +52,36 @@ pub fn seek_where(
     rml_wp::premises_law();
     obligation_decide::parts_law();
     let _checked = checked.model();
-    match restricted_by(alloc, checked, Premises::Affected, goal, more) {
-        Ok(sentence) => match decide_sentence(alloc, checked, goal, &sentence, limits) {
-            Ok(Decision::Holds(_)) => Ok(Sought::Nowhere),
-            Ok(Decision::Fails(shown)) => Ok(Sought::Found(shown)),
-            Err(Refused::NoMemory) => Err(AllocError),
-            Ok(Decision::Undecided(_)) | Err(Refused::For(_)) => Ok(Sought::Open),
-        },
+    let sentence = restricted(alloc, checked, goal, affected, more)?;
+    match decide_sentence(alloc, checked, goal, &sentence, limits) {
+        Ok(Decision::Holds(_)) => Ok(Sought::Nowhere),
+        Ok(Decision::Fails(shown)) => Ok(Sought::Found(shown)),
         Err(Refused::NoMemory) => Err(AllocError),
-        Err(Refused::For(_)) => Ok(Sought::Open),
+        Ok(Decision::Undecided(_)) | Err(Refused::For(_)) => Ok(Sought::Open),
     }
+}
+
+// The sentence with the further ones in its And.
+fn restricted(
+    alloc: Global,
+    checked: &Checked,
+    goal: &Goal,
+    affected: &Ea,
+    more: &[Sentence],
+) -> Mem<Ea>
+    requires goal { IsGoal checked.now goal.now }
+    requires affected { affected.now ≡ affected_refuting checked.now goal.now }
+    requires fragment { AllByRecursion IsEa more.now }
+    requires fits { AllByRecursion (FitsForm (symbols checked.now.signature) []) more.now }
+    ensures { IfOk result
+        (λ f. f ≡ refuting_all_by Affected checked.now checked.now.conjectures more.now goal.now) }
+{
+    rml_wp::sentence_law();
+    obligation_decide::parts_law();
+    fol_formula::indices();
+    let _checked = checked.model();
+    let copied = affected.copy(alloc)?;
+    let formula = copied.into_sentence().into_formula();
+    let all = with_parts(alloc, formula, more)?;
+    Ok(Ea::new(Sentence::of(all)))
 }

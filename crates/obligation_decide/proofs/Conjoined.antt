@@ -15,6 +15,7 @@ use Rattle.rml_command.specs.Outcomes.{all_of}
 use Rattle.rml_command.specs.Models.{ModelTree, FitsModel}
 use Rattle.rml_report.specs.Reports.{SatisfiesAxioms}
 use Rattle.obligation_decide.specs.WithConstants.{HoldsWithConstants}
+use Rattle.obligation_decide.specs.Laws.{AxiomsAreJudged}
 
 all-fit : (sig : Symbols) (ps : List FormTree) → AllByRecursion (FitsForm sig []) ps → FitsForms sig [] (forms_of ps)
 all-fit sig [] h = tt
@@ -47,3 +48,10 @@ module _ (m : ModelTree) where
       let normal_fits = fitting sig [] true p (axioms-fit fits) in
       let w = (skolem m.signature (normal true p) normal_fits).models.without t model in
       record { structure = w.structure; lawful = sym (kept (reading (reduct sig t)) true p []) ∙ w.holds }
+
+pub judged : TruthIsKept → FittingIsKept → EachIsSkolemised → AxiomsAreJudged
+judged kept fitting skolem m fits = record {
+  fits = axioms-fit m fits;
+  inconsistent = λ none s lawful. none s lawful.structure lawful.lawful;
+  consistent = λ t model. (reduct (symbols m.signature) t, satisfied m kept fitting skolem fits t model);
+}

@@ -1,7 +1,6 @@
 -- What the answer to a refuting sentence says of the goal, where some sentences hold before the stage in place of the
 -- conjectures.
-use Rattle.std.proofs.Common.{◌≡◌, Bool, false, List, [], Option, Some, None, refl, sym, subst}
-use Rattle.std.specs.Prelude.{MatchBool}
+use Rattle.std.proofs.Common.{◌≡◌, false, List, [], Option, None, refl, sym, subst}
 use Rattle.fol_formula.specs.Syntax.{FormTree}
 use Rattle.rml_command.specs.Models.{ModelTree, FitsModel}
 use Rattle.rml_command.specs.Goals.{IsGoal}
@@ -12,29 +11,18 @@ use Rattle.rml_wp.specs.Preconditions.{goal_passes_limit, refuting_of}
 use Rattle.rml_wp.specs.Added.{AreAdded, NoPartsAreAdded}
 use Rattle.rml_wp.specs.Laws.{RefutingByIsExact}
 use Rattle.rml_report.specs.declared.cause.Cause.{Cause}
-use Rattle.rml_report.specs.declared.cause.Cause.TheVariants as cause
-use Rattle.ea_decide.specs.declared.decided.Passed.{Passed}
-use Rattle.ea_decide.specs.declared.decided.Passed.TheVariants as passed
 use Rattle.ea_decide.specs.Passing.{Ceilings}
-use Rattle.ea_decide.specs.Decisions.{IsOver}
-use Rattle.obligation_decide.specs.GoalPassing.{cause_of, SentencePassesBy, PassesFirstBy}
+use Rattle.obligation_decide.specs.GoalPassing.{SentencePassesBy, PassesFirstBy}
 use Rattle.obligation_decide.specs.GoalDecisions.{IsLeftOpenBy, IsFailingBy, IsDecisionBy}
 use Rattle.obligation_decide.specs.Restricted.{IsSentenceFailing, IsSentenceDecision}
 use Rattle.obligation_decide.specs.declared.decision.Decision.{Decision}
 use Rattle.obligation_decide.specs.declared.decision.Decision.TheVariants.{Holds, Fails, Undecided}
+use Rattle.obligation_decide.proofs.Leaving.{passes_first, left_open}
 
 module _ (limits : Ceilings) (m : ModelTree) (goal : Goal) (held : List FormTree)
     (within : goal_passes_limit m goal ≡ false) where
   passes : (first : Option Cause) → SentencePassesBy limits m held goal first → PassesFirstBy limits m held goal first
-  passes first h =
-      subst (λ (b : Bool). MatchBool b (first ≡ Some cause.Formula) (SentencePassesBy limits m held goal first))
-      (sym within) h
-
-  over : (p : Passed) → IsOver limits m.signature (refuting_of m held goal) p
-      → IsLeftOpenBy limits m held goal (cause_of p)
-  over (passed.Terms n) h = passes (Some (cause.Terms n)) (Some (passed.Terms n), h, refl)
-  over (passed.GroundSize n) h = passes (Some (cause.Ground n)) (Some (passed.GroundSize n), h, refl)
-  over (passed.Conflicts n) h = (passes None (None, h.0, refl), h.1, h.2)
+  passes first h = passes_first limits m goal (refuting_of m held goal) within first h
 
   module _ (exact : RefutingByIsExact) (alone : NoPartsAreAdded) (fits : FitsModel m) (g : IsGoal m goal)
       (added : AreAdded m held []) where
@@ -57,7 +45,9 @@ module _ (limits : Ceilings) (m : ModelTree) (goal : Goal) (held : List FormTree
       h.2,
     )
     by_sentence (Fails shown) h = (passes None (None, h.0, refl), failing shown h.1)
-    by_sentence (Undecided c) h = subst (IsLeftOpenBy limits m held goal) (sym h.1) (over h.0 h.2)
+    by_sentence (Undecided c) h =
+        subst (IsLeftOpenBy limits m held goal) (sym h.1)
+        (left_open limits m goal (refuting_of m held goal) within h.0 h.2)
 
     -- what is answered of the sentence is answered of the goal
     pub held_by : (p : FormTree) (d : Decision) → p ≡ refuting_of m held goal → IsSentenceDecision limits m p goal d

@@ -6,5 +6,6 @@ mod Counted
 mod Cycles
 mod OneCount
 mod FirstLimit
+mod Leaving
 mod Restricting
 mod Holding

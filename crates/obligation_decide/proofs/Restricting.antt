@@ -1,7 +1,6 @@
 -- A refuting sentence with further parts: where it is true, and what its answer says of the goal.
 use Rattle.std.proofs.Common.{
   ◌≡◌,
-  Bool,
   true,
   false,
   List,
@@ -41,10 +40,9 @@ use Rattle.rml_exec.specs.declared.trace.Counterexample.{Counterexample}
 use Rattle.rml_report.specs.declared.cause.Cause.{Cause}
 use Rattle.rml_report.specs.declared.cause.Cause.TheVariants as cause
 use Rattle.ea_decide.specs.declared.decided.Passed.{Passed}
-use Rattle.ea_decide.specs.declared.decided.Passed.TheVariants as passed
 use Rattle.ea_decide.specs.Passing.{Ceilings, Passes}
-use Rattle.ea_decide.specs.Decisions.{Refutes, SpendsBudget, IsOver}
-use Rattle.obligation_decide.specs.GoalPassing.{cause_of, first_cause}
+use Rattle.ea_decide.specs.Decisions.{Refutes, SpendsBudget}
+use Rattle.obligation_decide.specs.GoalPassing.{first_cause}
 use Rattle.obligation_decide.specs.GoalDecisions.{IsFailing, IsDecision}
 use Rattle.obligation_decide.specs.Laws.{PartsAreTrue}
 use Rattle.obligation_decide.specs.WithConstants.{HoldsWithConstants}
@@ -56,6 +54,7 @@ use Rattle.obligation_decide.specs.declared.decision.Decision.{Decision}
 use Rattle.obligation_decide.specs.declared.decision.Decision.TheVariants.{Holds, Fails, Undecided}
 use Rattle.obligation_decide.specs.declared.decision.Measured.{Measured}
 use Rattle.obligation_decide.specs.declared.decision.Measured.TheVariants.{Within, Over}
+use Rattle.obligation_decide.proofs.Leaving.{passes_first, left_open}
 
 same-list : (ps : List FormTree) → list_of_forms (forms_of ps) ≡ ps
 same-list [] = refl
@@ -113,16 +112,7 @@ module _ (limits : Ceilings) (m : ModelTree) (goal : Goal) where
   module _ (more : List FormTree) (within : goal_passes_limit m goal ≡ false) where
     passes : (first : Option Cause) → RestrictedSentencePasses limits m more goal first
         → RestrictedPassesFirst limits m more goal first
-    passes first h =
-        subst (λ (b : Bool). MatchBool b (first ≡ Some cause.Formula)
-        (RestrictedSentencePasses limits m more goal first))
-        (sym within) h
-
-    over : (p : Passed) → IsOver limits m.signature (refuting_all m m.conjectures more goal) p
-        → IsLeftOpenWhere limits m more goal (cause_of p)
-    over (passed.Terms n) h = passes (Some (cause.Terms n)) (Some (passed.Terms n), h, refl)
-    over (passed.GroundSize n) h = passes (Some (cause.Ground n)) (Some (passed.GroundSize n), h, refl)
-    over (passed.Conflicts n) h = (passes None (None, h.0, refl), h.1, h.2)
+    passes first h = passes_first limits m goal (refuting_all m m.conjectures more goal) within first h
 
     by_measure : (d : Measured) → IsSentenceMeasured limits m (refuting_all m m.conjectures more goal) d
         → IsRestrictedMeasured limits m more goal d
@@ -163,7 +153,9 @@ module _ (limits : Ceilings) (m : ModelTree) (goal : Goal) where
           others-true (reading shown.structure) (refuting_parts m m.conjectures goal) more h.1.holds,
         ),
       )
-      by_sentence (Undecided c) h = subst (IsLeftOpenWhere limits m more goal) (sym h.1) (over h.0 h.2)
+      by_sentence (Undecided c) h =
+          subst (IsLeftOpenWhere limits m more goal) (sym h.1)
+          (left_open limits m goal (refuting_all m m.conjectures more goal) within h.0 h.2)
 
       -- what is answered of the sentence is answered of the goal
       pub restricted_by : (p : FormTree) (d : Decision) → p ≡ refuting_all m m.conjectures more goal

@@ -17,7 +17,7 @@ use Rattle.rml_report.specs.Reports.{AxiomsAre}
 use Rattle.ea_decide.specs.declared.decided.Passed.{Passed}
 use Rattle.ea_decide.specs.Passing.{Ceilings, Passes}
 use Rattle.ea_decide.specs.Decisions.{Refutes, SpendsBudget, IsOver}
-use Rattle.obligation_decide.specs.GoalPassing.{cause_of, refuting_sentence, PassesFirst, PassesFirstBy}
+use Rattle.obligation_decide.specs.GoalPassing.{cause_of, refuting_sentence, PassesFirstAs}
 use Rattle.obligation_decide.specs.declared.decision.Decision.{Decision}
 use Rattle.obligation_decide.specs.declared.decision.Decision.TheVariants.{Holds, Fails, Undecided}
 
@@ -28,25 +28,34 @@ pub record IsFailing (limits : Ceilings) (m : ModelTree) (goal : Goal) (shown : 
   pub refutes : IsCounterexample m goal shown.structure shown.trace.havoc shown.values
   pub few : sum shown.structure.sizes ≤ limits.terms
 
-module _ (limits : Ceilings) (m : ModelTree) where
-  -- A goal is left open, where these sentences hold before the stage in place of the conjectures: it passes no limit by
-  -- its size, and the budget of conflicts is spent on its clauses; or it passes this limit.
-  abbrev pub IsLeftOpenBy : List FormTree → Goal → Cause → Type 0
-  IsLeftOpenBy held goal (cause.Conflicts n) =
-      PassesFirstBy limits m held goal None × (n ≡ limits.conflicts)
-      × SpendsBudget m.signature (refuting_of m held goal) n
-  IsLeftOpenBy held goal c = PassesFirstBy limits m held goal (Some c)
+-- A goal is left open that is decided by this refuting sentence: it passes no limit by its size, and the budget of
+-- conflicts is spent on its clauses; or it passes this limit.
+abbrev pub IsLeftOpenAs : Ceilings → ModelTree → Goal → FormTree → Cause → Type 0
+IsLeftOpenAs limits m goal p (cause.Conflicts n) =
+    PassesFirstAs limits m goal p None × (n ≡ limits.conflicts) × SpendsBudget m.signature p n
+IsLeftOpenAs limits m goal p c = PassesFirstAs limits m goal p (Some c)
 
-  -- the same, where all conjectures hold
+-- The answer to a goal by this refuting sentence, where these are what it means that the goal holds, and that it fails.
+abbrev pub IsDecisionAs : Ceilings → ModelTree → Goal → FormTree → Type 0 → (Counterexample → Type 0) → Decision
+    → Type 0
+IsDecisionAs limits m goal p holds fails (Holds proof) =
+    PassesFirstAs limits m goal p None × holds × Refutes m.signature p proof
+IsDecisionAs limits m goal p holds fails (Fails shown) = PassesFirstAs limits m goal p None × fails shown
+IsDecisionAs limits m goal p holds fails (Undecided c) = IsLeftOpenAs limits m goal p c
+
+module _ (limits : Ceilings) (m : ModelTree) where
+  -- where these sentences hold before the stage in place of the conjectures
+  abbrev pub IsLeftOpenBy : List FormTree → Goal → Cause → Type 0
+  IsLeftOpenBy held goal c = IsLeftOpenAs limits m goal (refuting_of m held goal) c
+
+  -- where all conjectures hold
   abbrev pub IsLeftOpen : Goal → Cause → Type 0
   IsLeftOpen goal c = IsLeftOpenBy m.conjectures goal c
 
 -- The answer to a goal under limits.
 abbrev pub IsDecision : Ceilings → ModelTree → Goal → Decision → Type 0
-IsDecision limits m goal (Holds proof) =
-    PassesFirst limits m goal None × HasNone m goal × Refutes m.signature (refuting_sentence m goal) proof
-IsDecision limits m goal (Fails shown) = PassesFirst limits m goal None × IsFailing limits m goal shown
-IsDecision limits m goal (Undecided c) = IsLeftOpen limits m goal c
+IsDecision limits m goal d =
+    IsDecisionAs limits m goal (refuting_sentence m goal) (HasNone m goal) (IsFailing limits m goal) d
 
 -- The execution is a counterexample of the goal, where these sentences hold before the stage in place of the
 -- conjectures. Its structure has at most so many elements as terms are allowed.
@@ -64,11 +73,8 @@ HasNoneBy m held goal =
 
 -- The answer to a goal under limits, where these sentences hold before the stage in place of the conjectures.
 abbrev pub IsDecisionBy : Ceilings → ModelTree → List FormTree → Goal → Decision → Type 0
-IsDecisionBy limits m held goal (Holds proof) =
-    PassesFirstBy limits m held goal None × HasNoneBy m held goal × Refutes m.signature (refuting_of m held goal) proof
-IsDecisionBy limits m held goal (Fails shown) =
-    PassesFirstBy limits m held goal None × IsFailingBy limits m held goal shown
-IsDecisionBy limits m held goal (Undecided c) = IsLeftOpenBy limits m held goal c
+IsDecisionBy limits m held goal d =
+    IsDecisionAs limits m goal (refuting_of m held goal) (HasNoneBy m held goal) (IsFailingBy limits m held goal) d
 
 -- whether some structure satisfies the axioms, decided as a sentence: their conjunction
 abbrev pub AreAxiomsDecided : Ceilings → ModelTree → Axioms → Type 0

@@ -1,11 +1,11 @@
 -- Which limit a goal passes, by what is counted before anything is decided.
 use Rattle.std.specs.Prelude.{◌≡◌, MatchBool, List, Option, Some, None}
+use Rattle.fol_formula.specs.Syntax.{FormTree}
 use Rattle.rml_command.specs.Models.{ModelTree}
 use Rattle.rml_command.specs.declared.goal.Goal.{Goal}
 use Rattle.rml_wp.specs.Preconditions.{goal_passes_limit, refuting_of}
 use Rattle.rml_report.specs.declared.cause.Cause.{Cause}
 use Rattle.rml_report.specs.declared.cause.Cause.TheVariants as cause
-use Rattle.fol_formula.specs.Syntax.{FormTree}
 use Rattle.ea_decide.specs.declared.decided.Passed.{Passed}
 use Rattle.ea_decide.specs.declared.decided.Passed.TheVariants as passed
 use Rattle.ea_decide.specs.Passing.{Ceilings, Passes}
@@ -24,20 +24,26 @@ first_cause (Some p) = Some (cause_of p)
 abbrev pub refuting_sentence : ModelTree → Goal → FormTree
 refuting_sentence m goal = refuting_of m m.conjectures goal
 
+-- The sentence passes this limit first, or none. Here and in what follows a refuting sentence of the goal decides, with
+-- whatever sentences hold before the stage, and whatever further parts it has.
+abbrev pub PassesAs : Ceilings → ModelTree → FormTree → Option Cause → Type 0
+PassesAs limits m p first = (q : Option Passed) × Passes limits m.signature p q × (first ≡ first_cause q)
+
+-- The first limit that is passed, if one is: that of formulas, by the preconditions along the goal's path; or one that
+-- the sentence passes.
+abbrev pub PassesFirstAs : Ceilings → ModelTree → Goal → FormTree → Option Cause → Type 0
+PassesFirstAs limits m goal p first =
+    MatchBool (goal_passes_limit m goal) (first ≡ Some cause.Formula) (PassesAs limits m p first)
+
 module _ (limits : Ceilings) (m : ModelTree) where
-  -- the refuting sentence passes this limit first, or none, where these sentences hold before the stage in place of the
-  -- conjectures
+  -- where these sentences hold before the stage in place of the conjectures
   abbrev pub SentencePassesBy : List FormTree → Goal → Option Cause → Type 0
-  SentencePassesBy held goal first =
-      (p : Option Passed) × Passes limits m.signature (refuting_of m held goal) p × (first ≡ first_cause p)
+  SentencePassesBy held goal first = PassesAs limits m (refuting_of m held goal) first
 
-  -- The first limit that a goal passes, if it passes one: that of formulas, by the preconditions along its path; or one
-  -- that its refuting sentence passes.
   abbrev pub PassesFirstBy : List FormTree → Goal → Option Cause → Type 0
-  PassesFirstBy held goal first =
-      MatchBool (goal_passes_limit m goal) (first ≡ Some cause.Formula) (SentencePassesBy held goal first)
+  PassesFirstBy held goal first = PassesFirstAs limits m goal (refuting_of m held goal) first
 
-  -- the same, where all conjectures hold
+  -- where all conjectures hold
   abbrev pub SentencePasses : Goal → Option Cause → Type 0
   SentencePasses goal first = SentencePassesBy m.conjectures goal first
 

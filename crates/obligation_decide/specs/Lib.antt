@@ -1,6 +1,6 @@
 pub mod GoalPassing
 pub mod GoalDecisions
 pub mod WithConstants
-pub mod Laws
 pub mod Restricted
+pub mod Laws
 pub mod Costs

@@ -1,6 +1,6 @@
 -- A goal where the structures must satisfy further sentences, as bounds on sizes: what is answered of it, and what of
 -- the sentence by which it is decided.
-use Rattle.std.specs.Prelude.{◌≡◌, ◌≤◌, ℕ, true, MatchBool, List, ◌∷◌, ◌++◌, sum, Option, Some, None}
+use Rattle.std.specs.Prelude.{◌≡◌, ◌≤◌, ℕ, true, List, ◌∷◌, ◌++◌, sum, Option, None}
 use Rattle.fol_sig.specs.Tables.{Tables}
 use Rattle.fol_formula.specs.Syntax.{FormTree, conjunction, list_of_forms}
 use Rattle.rml_command.specs.Models.{ModelTree}
@@ -8,18 +8,16 @@ use Rattle.rml_command.specs.Outcomes.{all_of, is_true, satisfies}
 use Rattle.rml_command.specs.Goals.{IsCounterexample}
 use Rattle.rml_command.specs.declared.goal.Goal.{Goal}
 use Rattle.rml_exec.specs.declared.trace.Counterexample.{Counterexample}
-use Rattle.rml_wp.specs.Preconditions.{goal_passes_limit}
 use Rattle.rml_wp.specs.declared.premises.Premises.{Premises}
 use Rattle.rml_wp.specs.declared.premises.Premises.TheVariants.{All}
 use Rattle.rml_wp.specs.Added.{AreAdded, refuting_all, refuting_all_by}
 use Rattle.rml_wp.specs.Laws.{IsCounterexampleBy}
 use Rattle.rml_report.specs.declared.cause.Cause.{Cause}
-use Rattle.rml_report.specs.declared.cause.Cause.TheVariants as cause
 use Rattle.ea_decide.specs.declared.decided.Passed.{Passed}
 use Rattle.ea_decide.specs.Passing.{Ceilings, Passes}
-use Rattle.ea_decide.specs.Decisions.{HasNoModel, Refutes, SpendsBudget, IsOver}
-use Rattle.obligation_decide.specs.GoalPassing.{cause_of, first_cause}
-use Rattle.obligation_decide.specs.GoalDecisions.{IsFailing}
+use Rattle.ea_decide.specs.Decisions.{HasNoModel, Refutes, IsOver}
+use Rattle.obligation_decide.specs.GoalPassing.{cause_of, PassesAs, PassesFirstAs}
+use Rattle.obligation_decide.specs.GoalDecisions.{IsFailing, IsLeftOpenAs, IsDecisionAs}
 use Rattle.obligation_decide.specs.declared.decision.Decision.{Decision}
 use Rattle.obligation_decide.specs.declared.decision.Decision.TheVariants.{Holds, Fails, Undecided}
 
@@ -67,34 +65,21 @@ HasNoneWhere m more goal =
     (s : Tables) (elements values : List ℕ) → IsCounterexample m goal s elements values → satisfies s more ≡ true → ⊥
 
 module _ (limits : Ceilings) (m : ModelTree) (more : List FormTree) (goal : Goal) where
-  -- the refuting sentence with these parts passes this limit first, or none
+  -- the refuting sentence with these parts
   abbrev pub RestrictedSentencePasses : Option Cause → Type 0
-  RestrictedSentencePasses first =
-      (p : Option Passed) × Passes limits m.signature (refuting_all m m.conjectures more goal) p
-      × (first ≡ first_cause p)
+  RestrictedSentencePasses first = PassesAs limits m (refuting_all m m.conjectures more goal) first
 
-  -- The first limit that is passed, if one is: that of formulas, by the preconditions along the goal's path; or one
-  -- that the refuting sentence with these parts passes.
   abbrev pub RestrictedPassesFirst : Option Cause → Type 0
-  RestrictedPassesFirst first =
-      MatchBool (goal_passes_limit m goal) (first ≡ Some cause.Formula) (RestrictedSentencePasses first)
+  RestrictedPassesFirst first = PassesFirstAs limits m goal (refuting_all m m.conjectures more goal) first
+
+  abbrev pub IsLeftOpenWhere : Cause → Type 0
+  IsLeftOpenWhere c = IsLeftOpenAs limits m goal (refuting_all m m.conjectures more goal) c
 
   -- this is a counterexample in such a structure
   abbrev pub IsFailingWhere : Counterexample → Type 0
   IsFailingWhere shown = IsFailing limits m goal shown × (satisfies shown.structure more ≡ true)
 
-  -- It is left open whether there is one: the refuting sentence with these parts passes no limit by its size, and the
-  -- budget of conflicts is spent on its clauses; or it passes this limit.
-  abbrev pub IsLeftOpenWhere : Cause → Type 0
-  IsLeftOpenWhere (cause.Conflicts n) =
-      RestrictedPassesFirst None × (n ≡ limits.conflicts)
-      × SpendsBudget m.signature (refuting_all m m.conjectures more goal) n
-  IsLeftOpenWhere c = RestrictedPassesFirst (Some c)
-
   -- The answer whether the goal has a counterexample in such a structure.
   abbrev pub IsRestrictedDecision : Decision → Type 0
-  IsRestrictedDecision (Holds proof) =
-      RestrictedPassesFirst None × HasNoneWhere m more goal
-      × Refutes m.signature (refuting_all m m.conjectures more goal) proof
-  IsRestrictedDecision (Fails shown) = RestrictedPassesFirst None × IsFailingWhere shown
-  IsRestrictedDecision (Undecided c) = IsLeftOpenWhere c
+  IsRestrictedDecision d =
+      IsDecisionAs limits m goal (refuting_all m m.conjectures more goal) (HasNoneWhere m more goal) IsFailingWhere d

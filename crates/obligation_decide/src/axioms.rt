@@ -29,8 +29,8 @@ pub fn decide_axioms(alloc: Global, checked: &Checked, limits: &Limits) -> Mem<A
     }
 }
 
-// The And of the axioms.
-fn all_axioms(alloc: Global, checked: &Checked) -> Mem<Ea>
+/// The And of the axioms, by which they are decided.
+pub fn all_axioms(alloc: Global, checked: &Checked) -> Mem<Ea>
     ensures { IfOk result (λ s. s ≡ all_of_them checked.now.axioms) }
 {
     fol_formula::indices();

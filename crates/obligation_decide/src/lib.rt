@@ -25,15 +25,16 @@ ghost use Rattle.obligation_decide.specs.GoalPassing.{cause_of as named_cause};
 ghost use Rattle.obligation_decide.specs.GoalDecisions.{IsDecision, IsDecisionBy};
 ghost use Rattle.obligation_decide.specs.Restricted.{IsRefutingWith, IsSentenceDecision, IsRestrictedDecision};
 
-pub use axioms::decide_axioms;
+pub use axioms::{all_axioms, decide_axioms};
 use base::{Mem, Refused};
 pub use decision::{Decision, Measured};
 use ea_decide::{Decided, Passed};
 use fol_formula::{Ea, Sentence};
-pub use laws::{parts_law, passing_law};
+pub use laws::{axioms_law, parts_law, passing_law};
 use lrat_log::Limits;
-pub use measuring::measure_where;
-pub use parts::restricted_by;
+pub use measuring::{measure_by, measure_where};
+use parts::restricted;
+pub use parts::with_parts;
 use rml_command::{Checked, Goal};
 use rml_report::Cause;
 use rml_wp::{Premises, refuting_with};
@@ -95,7 +96,7 @@ pub fn decide_where(
     rml_wp::sentence_law();
     rml_wp::refuting_law();
     let _checked = checked.model();
-    match restricted_by(alloc, checked, Premises::All, goal, more) {
+    match restricted(alloc, checked, goal, more) {
         Ok(sentence) => {
             let decision = decide_sentence(alloc, checked, goal, &sentence, limits)?;
             Ok(decision)

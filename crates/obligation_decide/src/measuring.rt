@@ -1,12 +1,12 @@
 // What a goal would cost. Its refuting sentence is counted where its parts stand: of many conjectures, most of it, none
 // is copied.
-ghost use Rattle.std.specs.Prelude.{◌≡◌, [], IfOk};
+ghost use Rattle.std.specs.Prelude.{◌≡◌, [], false, IfOk};
 ghost use Rattle.std.specs.List.{AllByRecursion};
 ghost use Rattle.fol_sig.specs.Symbols.{symbols};
 ghost use Rattle.fol_formula.specs.Fits.{FitsForm};
 ghost use Rattle.fol_formula.specs.Fragments.{IsEa};
 ghost use Rattle.rml_command.specs.Goals.{IsGoal};
-ghost use Rattle.rml_wp.specs.Preconditions.{goal_precondition};
+ghost use Rattle.rml_wp.specs.Preconditions.{goal_precondition, goal_passes_limit};
 ghost use Rattle.rml_wp.specs.Added.{refuting_all};
 ghost use Rattle.ground_size.specs.Conjoined.{forms_at};
 ghost use Rattle.ea_decide.specs.Passing.{ceilings};
@@ -40,12 +40,32 @@ pub fn measure_where(
 {
     match precondition(alloc, checked, goal) {
         Ok(precondition) => {
-            let measured = measure_refuting(alloc, checked, goal, &precondition, more, limits)?;
+            let measured = measure_by(alloc, checked, goal, &precondition, more, limits)?;
             Ok(measured)
         }
         Err(Refused::NoMemory) => Err(AllocError),
         Err(Refused::For(_)) => Ok(Measured::Over(Cause::Formula)),
     }
+}
+
+/// The same of a goal that does not pass the limit of formulas, given its precondition.
+pub fn measure_by(
+    alloc: Global,
+    checked: &Checked,
+    goal: &Goal,
+    precondition: &Ae,
+    more: &[Sentence],
+    limits: &Limits,
+) -> Mem<Measured>
+    requires goal { IsGoal checked.now goal.now }
+    requires precondition { precondition.now ≡ goal_precondition checked.now goal.now }
+    requires within { goal_passes_limit checked.now goal.now ≡ false }
+    requires fragment { AllByRecursion IsEa more.now }
+    requires fits { AllByRecursion (FitsForm (symbols checked.now.signature) []) more.now }
+    ensures { IfOk result (IsRestrictedMeasured (ceilings limits.now) checked.now more.now goal.now) }
+{
+    let measured = measure_refuting(alloc, checked, goal, precondition, more, limits)?;
+    Ok(measured)
 }
 
 // By its refuting sentence with further parts, given its precondition.

@@ -7,45 +7,43 @@ ghost use Rattle.fol_formula.specs.View.{form};
 ghost use Rattle.fol_formula.specs.Fits.{FitsForm};
 ghost use Rattle.fol_formula.specs.Fragments.{IsEa};
 ghost use Rattle.rml_command.specs.Goals.{IsGoal};
-ghost use Rattle.rml_wp.specs.Preconditions.{goal_passes_limit_by};
-ghost use Rattle.rml_wp.specs.Added.{refuting_all_by};
+ghost use Rattle.rml_wp.specs.Preconditions.{goal_passes_limit};
+ghost use Rattle.rml_wp.specs.Added.{refuting_all};
 ghost use Rattle.obligation_decide.specs.Restricted.{with_parts};
 
 use base::{Mem, Refused};
 use fol_formula::{Ea, Formula, Sentence};
 use fol_subst::FormulaLimit;
 use rml_command::{Checked, Goal};
-use rml_wp::{Premises, refuting_by};
+use rml_wp::refuting;
 use std::alloc::Global;
 
 /// The sentence that a structure satisfies exactly where the goal has a counterexample from it and it satisfies these
-/// sentences. These axioms are premises behind a step.
-pub fn restricted_by(
+/// sentences.
+pub fn restricted(
     alloc: Global,
     checked: &Checked,
-    premises: Premises,
     goal: &Goal,
     more: &[Sentence],
 ) -> Result<Ea, Refused<FormulaLimit>>
     requires goal { IsGoal checked.now goal.now }
     requires fragment { AllByRecursion IsEa more.now }
     requires fits { AllByRecursion (FitsForm (symbols checked.now.signature) []) more.now }
-    ensures sentence { IfOk result
-        (λ f. f ≡ refuting_all_by premises checked.now checked.now.conjectures more.now goal.now) }
-    ensures within { OnOk result (goal_passes_limit_by premises checked.now goal.now ≡ false) }
-    ensures limit { IfErr result (Because (λ _. IsTrue (goal_passes_limit_by premises checked.now goal.now))) }
+    ensures sentence { IfOk result (λ f. f ≡ refuting_all checked.now checked.now.conjectures more.now goal.now) }
+    ensures within { OnOk result (goal_passes_limit checked.now goal.now ≡ false) }
+    ensures limit { IfErr result (Because (λ _. IsTrue (goal_passes_limit checked.now goal.now))) }
 {
     rml_wp::sentence_law();
     fol_formula::indices();
     let _checked = checked.model();
-    let sentence = refuting_by(alloc, checked, premises, goal)?;
+    let sentence = refuting(alloc, checked, goal)?;
     let formula = sentence.into_sentence().into_formula();
     let all = with_parts(alloc, formula, more)?;
     Ok(Ea::new(Sentence::of(all)))
 }
 
-// An And with further parts, or the And of any other formula and these.
-fn with_parts(alloc: Global, formula: Formula, more: &[Sentence]) -> Mem<Formula>
+/// An And with further parts, or the And of any other formula and these.
+pub fn with_parts(alloc: Global, formula: Formula, more: &[Sentence]) -> Mem<Formula>
     ensures { IfOk result (λ f. form f ≡ with_parts (form formula) more.now) }
 {
     fol_formula::lists();

@@ -9,9 +9,8 @@ ghost use Rattle.verdicts.specs.Earliest.{IsBeforeFinal};
 
 use crate::deciding::decide_group;
 use base::{Mem, Row};
-use lean_decide::Counted;
+use lean_decide::{Counted, settle_axioms};
 use lrat_log::Limits;
-use obligation_decide::decide_axioms;
 use rml_command::{About, Checked, Stage};
 use rml_report::{Answer, Group, Report, Verdict};
 use std::alloc::Global;
@@ -118,7 +117,7 @@ fn report_by(alloc: Global, checked: &Checked, counted: Counted, limits: &Limits
     ensures { IfOk result (IsReportBy counted (ceilings limits.now) checked.now) }
 {
     let groups = all_groups(alloc, checked, counted, limits)?;
-    let axioms = decide_axioms(alloc, checked, limits)?;
+    let axioms = settle_axioms(alloc, checked, limits)?;
     let verdict = verdict_for(&groups);
     Ok(Report {
         axioms,

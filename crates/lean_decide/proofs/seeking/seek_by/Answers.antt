@@ -1,6 +1,6 @@
 use Rattle.ea_decide.specs.Passing.{ceilings}
 use Rattle.lean_decide.proofs.NoCounterexample.{AreExact, nowhere_by, found_by}
-use Rattle.lean_decide.proofs.seeking.seek_where.Goals as goal
+use Rattle.lean_decide.proofs.seeking.seek_by.Goals as goal
 
 pub decide_sentence-requires-clause-sentence : goal.decide_sentence-requires-clause-sentence
 decide_sentence-requires-clause-sentence c =
@@ -10,7 +10,7 @@ decide_sentence-requires-clause-sentence c =
       more = c.args.more.now;
       added = (c.sentence_law.ensures.conjectures m c.args.more.now c.model-checked.ensures.checked c.requires.fragment
           c.requires.fits).all;
-      is = c.in-Ok.ensures.sentence;
+      is = c.in_ok-sentence.ensures;
     }
 
 pub returns-in-Ok-Holds : goal.returns-in-Ok-Holds
@@ -22,11 +22,11 @@ returns-in-Ok-Holds c =
       all = c.refuting_law.ensures.all;
       same = c.refuting_law.ensures.same;
       affected = c.premises_law.ensures.refuting;
-      parts = c.parts_law.ensures;
+      parts = c.parts_law.ensures.truth;
     } in
     let added = (c.sentence_law.ensures.conjectures m more checked c.requires.fragment c.requires.fits).all in
     nowhere_by exact (ceilings c.args.limits.now) m c.args.goal.now checked.model.fits c.requires.goal more added _
-    c.in-Ok.ensures.sentence _ _ c.in-Ok-Holds.field-0-is c.in-Ok-Holds.ensures.decided
+    c.in_ok-sentence.ensures _ _ c.in-Ok-Holds.field-0-is c.in-Ok-Holds.ensures.decided
 
 pub returns-in-Ok-Fails : goal.returns-in-Ok-Fails
 returns-in-Ok-Fails c =
@@ -37,8 +37,8 @@ returns-in-Ok-Fails c =
       all = c.refuting_law.ensures.all;
       same = c.refuting_law.ensures.same;
       affected = c.premises_law.ensures.refuting;
-      parts = c.parts_law.ensures;
+      parts = c.parts_law.ensures.truth;
     } in
     let added = (c.sentence_law.ensures.conjectures m more checked c.requires.fragment c.requires.fits).all in
     found_by exact (ceilings c.args.limits.now) m c.args.goal.now checked.model.fits c.requires.goal more added _
-    c.in-Ok.ensures.sentence _ _ c.in-Ok-Fails.field-0-is c.in-Ok-Fails.ensures.decided
+    c.in_ok-sentence.ensures _ _ c.in-Ok-Fails.field-0-is c.in-Ok-Fails.ensures.decided

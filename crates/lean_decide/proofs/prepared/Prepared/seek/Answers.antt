@@ -1,0 +1,4 @@
+use Rattle.lean_decide.proofs.prepared.Prepared.seek.Goals as goal
+
+pub seek_by-requires-clause-affected : goal.seek_by-requires-clause-affected
+seek_by-requires-clause-affected c = rw c.in-Some.is at c.requires.prepared.affected
