@@ -8,20 +8,21 @@ use Rattle.command_line.specs.Lines.{Line, check, houdini, bmc, lrat, emit, samp
 use Rattle.command_line.specs.declared.request.Asked.{Asked}
 use Rattle.command_line.specs.declared.request.Bound.{Bound}
 use Rattle.command_line.specs.declared.request.Emission.{Emission}
-use Rattle.ivy_run.specs.ModelTexts.{model_limit}
+use Rattle.command_parts.specs.ModelTexts.{model_limit}
 use Rattle.ivy_run.specs.Usage.{usage_due}
-use Rattle.ivy_run.specs.Check.{IsCheckAnswer, ceilings_of, check_due}
-use Rattle.ivy_run.specs.Lrat.{IsRefutation, clause_limit, lrat_due}
-use Rattle.ivy_run.specs.Emit.{IsEmitAnswer, emit_due}
-use Rattle.ivy_run.specs.Houdini.{IsHoudiniAnswer, houdini_due}
-use Rattle.ivy_run.specs.Bmc.{IsBmcAnswer, bmc_due}
-use Rattle.ivy_run.specs.Sample.{IsSampleAnswer, sample_due}
-use Rattle.ivy_run.specs.declared.check.CheckAnswer.{CheckAnswer}
-use Rattle.ivy_run.specs.declared.lrat.LratAnswer.{LratAnswer}
-use Rattle.ivy_run.specs.declared.emit.EmitAnswer.{EmitAnswer}
-use Rattle.ivy_run.specs.declared.houdini.HoudiniAnswer.{HoudiniAnswer}
-use Rattle.ivy_run.specs.declared.bmc.BmcAnswer.{BmcAnswer}
-use Rattle.ivy_run.specs.declared.sample.SampleAnswer.{SampleAnswer}
+use Rattle.command_parts.specs.Limits.{ceilings_of}
+use Rattle.model_commands.specs.Check.{IsCheckAnswer, check_due}
+use Rattle.clause_commands.specs.Lrat.{IsRefutation, clause_limit, lrat_due}
+use Rattle.clause_commands.specs.Emit.{IsEmitAnswer, emit_due}
+use Rattle.model_commands.specs.Houdini.{IsHoudiniAnswer, houdini_due}
+use Rattle.model_commands.specs.Bmc.{IsBmcAnswer, bmc_due}
+use Rattle.model_commands.specs.Sample.{IsSampleAnswer, sample_due}
+use Rattle.model_commands.specs.declared.check.CheckAnswer.{CheckAnswer}
+use Rattle.clause_commands.specs.declared.lrat.LratAnswer.{LratAnswer}
+use Rattle.clause_commands.specs.declared.emit.EmitAnswer.{EmitAnswer}
+use Rattle.model_commands.specs.declared.houdini.HoudiniAnswer.{HoudiniAnswer}
+use Rattle.model_commands.specs.declared.bmc.BmcAnswer.{BmcAnswer}
+use Rattle.model_commands.specs.declared.sample.SampleAnswer.{SampleAnswer}
 use Rattle.ivy_run.specs.declared.ended.Answer.{Answer}
 use Rattle.ivy_run.specs.declared.ended.Answer.TheVariants as answer
 

@@ -1,7 +1,7 @@
 -- What is due for words that are no command line.
 use Rattle.std.specs.Prelude.{codes}
 use Rattle.commands.specs.Due.{Due}
-use Rattle.ivy_run.specs.Saying.{on_err}
+use Rattle.command_parts.specs.Saying.{on_err}
 
 abbrev pub usage_due : Due
 usage_due =

@@ -4,19 +4,15 @@ ghost use Rattle.command_line.specs.Lines.{check, houdini, bmc, lrat, emit, samp
 ghost use Rattle.command_line.specs.Asking.{IsInRange, HasRanges};
 ghost use Rattle.commands.specs.Ends.{EndsNone};
 ghost use Rattle.commands.specs.Done.{due_in, outcome_in};
-ghost use Rattle.ivy_run.specs.Sample.{IsSampleAnswer};
+ghost use Rattle.model_commands.specs.Sample.{IsSampleAnswer};
 ghost use Rattle.ivy_run.specs.Run.{Does, IsUsage, OfSample, due_of};
 
-use crate::bmc::Bmc;
-use crate::check::Check;
-use crate::emit::Emit;
 use crate::ended::Answer;
-use crate::houdini::Houdini;
-use crate::lrat::Lrat;
-use crate::sample::Sample;
 use crate::usage::Usage;
+use clause_commands::{Emit, Lrat};
 use command_line::{Asked, Bound, Emission, Request, read_words};
 use commands::{Done, no_file, one_file, two_files};
+use model_commands::{Bmc, Check, Houdini, Sample};
 use rml_bytes::{Files, LoadError};
 use std::alloc::Global;
 

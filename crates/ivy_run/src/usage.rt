@@ -2,7 +2,8 @@
 ghost use Rattle.ivy_run.specs.Usage.{usage_due};
 
 use base::Mem;
-use commands::{Command, Said, Side};
+use command_parts::complaint;
+use commands::{Command, Said};
 use std::alloc::Global;
 
 /// No command.
@@ -24,10 +25,6 @@ impl Command for Usage {
         let line =
             "usage: ivycheck check FILE, emit FILE GOAL cnf|lrat, lrat CNF LOG, bmc FILE, houdini FILE, or sample N\n";
         let text = line.as_bytes().to_vec(alloc)?;
-        Ok(Said {
-            side: Side::Err,
-            status: 2,
-            text,
-        })
+        Ok(complaint(text, 2))
     }
 }

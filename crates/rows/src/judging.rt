@@ -1,9 +1,7 @@
 // Whether a row is as expected: what its run leaves, or the runs on each prefix of one of its files.
-use crate::reader::Parsed;
-use crate::report::Report;
-use crate::row::{Expected, Prefixes, Row};
 use crate::running::{Actual, Cut, run_on_disk, run_on_memory};
 use base::{Mem, Refused};
+use row_files::{Expected, Parsed, Prefixes, Report, Row};
 use std::alloc::Global;
 
 // How many statuses there are.

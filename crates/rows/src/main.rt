@@ -2,7 +2,7 @@
 //! and files, and what is to come out, to the byte. It says how each row differs that does. The rows are data, so that
 //! a new one needs no proof. They show what no clause can: that the definitions are the language that docs/LANGUAGE.md
 //! and docs/FORMATS.md describe. Proved is that the program is safe, and that it does not call two words or texts the
-//! same that differ (`Report::compare`, `compare_bytes`); not that it reads the rows as their format says.
+//! same that differ (`compare` and `compare_bytes` of `row_files`); not that it reads the rows as their format says.
 //!
 //! Each word of the command line names a file of rows; the head of data/rows.txt says their format. In the files behind
 //! the word `differ` each row has to differ: they show that this program tells, since what it says of them is compared.
@@ -23,17 +23,11 @@
 #![tactic(auto)]
 
 mod judging;
-mod notation;
-mod reader;
-mod report;
-mod row;
 mod running;
 
 use base::Refused;
 use judging::judge;
-use reader::read_rows;
-use report::Report;
-use row::{Row, Text};
+use row_files::{Report, Row, Text, read_rows};
 use std::alloc::Global;
 use std::process::ExitCode;
 use std::{env, fs, io};

@@ -2,14 +2,13 @@
 ghost use Rattle.std.specs.Prelude.{IsTrue, All, ◌≢◌};
 ghost use Rattle.rml_bytes.specs.Memory.{NamesDiffer, IncreaseAbove, firsts};
 
-use crate::reader::Parsed;
-use crate::row::{Row, Stream, Text};
 use base::{Mem, Refused};
+use clause_commands::{EmitAnswer, Emitted, LratAnswer};
 use commands::Written;
-use ivy_run::{
-    Answer, BmcAnswer, CheckAnswer, EmitAnswer, Emitted, Ended, HoudiniAnswer, LratAnswer, run,
-};
+use ivy_run::{Answer, Ended, run};
+use model_commands::{BmcAnswer, CheckAnswer, HoudiniAnswer};
 use rml_bytes::{Bytes, DiskFiles, FileName, Files, LoadError, MemFiles, MemSink};
+use row_files::{Parsed, Row, Stream, Text};
 use std::alloc::Global;
 
 /// What a run leaves, in the words of a file of rows, and on the two sinks.

@@ -1,0 +1,3 @@
+pub mod Lrat
+pub mod Emit
+pub mod Evidence

@@ -1,0 +1,4 @@
+pub mod Saying
+pub mod Faults
+pub mod ModelTexts
+pub mod Limits

@@ -1,0 +1,4 @@
+pub mod Check
+pub mod Houdini
+pub mod Bmc
+pub mod Sample
