@@ -195,11 +195,12 @@ fn decide_walks(
     let count = walk_count(&places);
     for number in 0..count {
         let legs = walk_of_number(alloc, &places, number)?;
-        let known = look_at(alloc, checked, legs.as_slice(), limits, infeasible)?;
+        let walk = legs.as_slice();
+        let known = look_at(alloc, checked, walk, limits, infeasible)?;
         let turn = decide_goals(
             alloc,
             checked,
-            legs.as_slice(),
+            walk,
             ends.as_slice(),
             known,
             limits,

@@ -7,7 +7,7 @@ use Rattle.walks.specs.Walks.{goal_along}
 use Rattle.walks.specs.Laws.{IsWalk}
 use Rattle.rml_bmc.specs.Infeasible.{IsKnownGoal}
 use Rattle.rml_bmc.specs.Tallies.{Passed, Met}
-use Rattle.rml_bmc.proofs.Beginnings.{known_here}
+use Rattle.rml_bmc.proofs.FrontWalks.{known_here}
 use Rattle.rml_bmc.proofs.Walking.{count-step, count-none, counted_first, of_next, next_is, next_room, go_on, stop}
 use Rattle.rml_bmc.proofs.Walking.{at_end}
 use Rattle.rml_bmc.proofs.lengths.decide_conjectures.Goals as goal
