@@ -3,6 +3,7 @@ use base::Mem;
 use std::alloc::Global;
 
 /// A linear congruential generator (Knuth's MMIX), of whose states the upper bits are taken.
+#[derive(Clone, Copy)]
 pub struct Chance {
     /// The state.
     pub state: u64,
