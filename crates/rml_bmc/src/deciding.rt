@@ -1,24 +1,29 @@
 // A goal along a walk is decided, as the goal of the walk's model: under limits on its whole refuting sentence, by the
-// lean sentence where that decides.
-ghost use Rattle.std.specs.Prelude.{◌≡◌, IfOk};
+// lean sentence where that decides. Along a walk that is infeasible it is counted alone.
+ghost use Rattle.std.specs.Prelude.{◌≡◌, true, false, IfOk};
 ghost use Rattle.ea_decide.specs.Passing.{ceilings};
 ghost use Rattle.rml_command.specs.Goals.{IsCounterexample};
-ghost use Rattle.walks.specs.Laws.{IsWalk};
-ghost use Rattle.walk_model.specs.WalkModels.{walk_model, walk_goal};
+ghost use Rattle.rml_command.specs.Paths.{has_abort};
+ghost use Rattle.walks.specs.Walks.{joined};
+ghost use Rattle.walks.specs.Runs.{HasNoRun};
+ghost use Rattle.walks.specs.Laws.{AreLegs, IsWalk};
+ghost use Rattle.walk_model.specs.WalkModels.{walk_model, stopped_model, walk_goal};
+ghost use Rattle.walk_model.specs.Laws.{HasNoOutcome};
 ghost use Rattle.rml_bmc.specs.Decisions.{IsWalkDecision};
+ghost use Rattle.rml_bmc.specs.Infeasible.{IsKnownGoal};
 ghost use Rattle.rml_bmc.specs.Shown.{IsRunAlong};
 
 use crate::answer::Run;
 use crate::following::follow_legs;
 use base::Mem;
-use lean_decide::{Counted, Settled, settle};
+use lean_decide::{Counted, Settled, first_passed, settle};
 use lrat_log::Limits;
 use rml_command::{About, Checked, Goal, Stage};
 use rml_exec::Counterexample;
 use rml_report::Cause;
 use std::alloc::Global;
-use walk_model::{model_of_walk, walk_model_law};
-use walks::Walk;
+use walk_model::{model_of_stopped_walk, model_of_walk, stopped_model_law, walk_model_law};
+use walks::{Leg, Walk};
 
 /// The answer to a goal along a walk.
 #[derive(Drop)]
@@ -29,6 +34,26 @@ pub enum WalkDecision {
     Has(Run),
     /// A limit is passed.
     Undecided(Cause),
+}
+
+/// What is known of a walk before goals along it are decided.
+#[derive(Clone, Copy)]
+pub enum Known {
+    /// Nothing.
+    Nothing,
+    /// No run has an outcome along it.
+    Infeasible,
+}
+
+// What a walk must not do, as a goal of its model.
+fn goal_of(about: About) -> Goal
+    ensures { result ≡ walk_goal about }
+{
+    Goal {
+        stage: Stage::Init,
+        path: 1,
+        about,
+    }
 }
 
 // The run that a counterexample of the goal in the walk's model is.
@@ -73,11 +98,7 @@ fn decide_in(
 {
     walk_model_law();
     let _checked = checked.model();
-    let goal = Goal {
-        stage: Stage::Init,
-        path: 1,
-        about: walk.about,
-    };
+    let goal = goal_of(walk.about);
     let settled = settle(alloc, model, &goal, Counted::Whole, limits)?;
     match settled {
         Settled::Holds => Ok(WalkDecision::NoRun),
@@ -89,18 +110,107 @@ fn decide_in(
     }
 }
 
-/// Decides a goal along a walk of the model under limits, which are looked at in their order.
+// Along a walk that is infeasible, where all that is open is which limit the goal passes by its size.
+fn count_in(
+    alloc: Global,
+    checked: &Checked,
+    model: &Checked,
+    walk: &Walk,
+    limits: &Limits,
+) -> Mem<WalkDecision>
+    requires walk { IsWalk checked.now walk.now }
+    requires model { model.now ≡ walk_model checked.now walk.now.parts }
+    requires none { HasNoRun checked.now walk.now }
+    ensures { IfOk result (IsWalkDecision (ceilings limits.now) checked.now walk.now) }
+{
+    walk_model_law();
+    let _checked = checked.model();
+    let goal = goal_of(walk.about);
+    match first_passed(alloc, model, &goal, limits)? {
+        Some(cause) => Ok(WalkDecision::Undecided(cause)),
+        None => Ok(WalkDecision::NoRun),
+    }
+}
+
+// By the model of the walk, with what is known of it.
+fn decide_known(
+    alloc: Global,
+    checked: &Checked,
+    model: &Checked,
+    walk: &Walk,
+    known: Known,
+    limits: &Limits,
+) -> Mem<WalkDecision>
+    requires walk { IsWalk checked.now walk.now }
+    requires model { model.now ≡ walk_model checked.now walk.now.parts }
+    requires known { IsKnownGoal checked.now walk.now known }
+    ensures { IfOk result (IsWalkDecision (ceilings limits.now) checked.now walk.now) }
+{
+    match known {
+        Known::Nothing => {
+            let decision = decide_in(alloc, checked, model, walk, limits)?;
+            Ok(decision)
+        }
+        Known::Infeasible => {
+            let decision = count_in(alloc, checked, model, walk, limits)?;
+            Ok(decision)
+        }
+    }
+}
+
+/// Decides a goal along a walk of the model under limits, which are looked at in their order. The answer does not
+/// depend on what is known, which only saves the decision.
 pub fn decide_walk(
     alloc: Global,
     checked: &Checked,
     walk: &Walk,
+    known: Known,
     limits: &Limits,
 ) -> Mem<WalkDecision>
-    requires { IsWalk checked.now walk.now }
+    requires walk { IsWalk checked.now walk.now }
+    requires known { IsKnownGoal checked.now walk.now known }
     ensures { IfOk result (IsWalkDecision (ceilings limits.now) checked.now walk.now) }
 {
     let model = model_of_walk(alloc, checked, walk.parts.as_slice())?;
-    let decided = decide_in(alloc, checked, &model, walk, limits);
+    let decided = decide_known(alloc, checked, &model, walk, known, limits);
     drop(model);
     decided
+}
+
+// By the model of the walk with an abort at its end: whether that is met from no structure.
+fn is_stopped_in(
+    alloc: Global,
+    checked: &Checked,
+    model: &Checked,
+    legs: &[Leg],
+    limits: &Limits,
+) -> Mem<bool>
+    requires legs { AreLegs checked.now legs.now }
+    requires goes_on { has_abort (joined checked.now legs.now) ≡ false }
+    requires model { model.now ≡ stopped_model checked.now legs.now }
+    ensures { IfOk result (λ found. found ≡ true → HasNoOutcome checked.now legs.now) }
+{
+    stopped_model_law();
+    let _checked = checked.model();
+    let goal = goal_of(About::Abort);
+    match settle(alloc, model, &goal, Counted::Whole, limits)? {
+        Settled::Holds => Ok(true),
+        Settled::Undecided(_) => Ok(false),
+        Settled::Fails(shown) => {
+            drop(shown);
+            Ok(false)
+        }
+    }
+}
+
+/// Whether a walk of the model that does not end in abort is found to be infeasible, under limits.
+pub fn is_infeasible(alloc: Global, checked: &Checked, legs: &[Leg], limits: &Limits) -> Mem<bool>
+    requires legs { AreLegs checked.now legs.now }
+    requires goes_on { has_abort (joined checked.now legs.now) ≡ false }
+    ensures { IfOk result (λ found. found ≡ true → HasNoOutcome checked.now legs.now) }
+{
+    let model = model_of_stopped_walk(alloc, checked, legs)?;
+    let found = is_stopped_in(alloc, checked, &model, legs, limits);
+    drop(model);
+    found
 }

@@ -8,36 +8,23 @@ ghost use Rattle.rml_command.specs.declared.goal.Stage.{Stage};
 ghost use Rattle.walks.specs.Walks.{joined, stage_legs, goal_along, walk_goals, open_goals, count_of};
 ghost use Rattle.walks.specs.Laws.{IsLeg, IsWalk};
 ghost use Rattle.rml_bmc.specs.Lengths.{IsLength, IsDecidedLength, open_or_safe};
+ghost use Rattle.rml_bmc.specs.Infeasible.{AreInfeasible, IsKnown};
 ghost use Rattle.rml_bmc.specs.Tallies.{IsTurn, HasRoom};
 
 use crate::answer::{BoundCause, Length};
+use crate::beginnings::{aborts, look_at};
+use crate::deciding::Known;
 use crate::tally::{Tally, Turn, decide_one, no_goal};
 use base::{Mem, Row};
 use lrat_log::Limits;
 use rml_command::{About, Checked};
 use std::alloc::Global;
-use walk_model::path_of;
 use walks::{
     Leg, Walk, aborting_ends, choices, count_of_length, walk_count, walk_law, walk_of_number,
 };
 
 // More walks than these are not looked at.
 const MAX_WALKS: u64 = 4096;
-
-// Whether the joined paths end in abort.
-fn aborts(checked: &Checked, legs: &[Leg]) -> bool
-    requires { AllByRecursion (IsLeg checked.now) legs.now }
-    ensures { result ≡ has_abort (joined checked.now legs.now) }
-{
-    let mut rest = legs;
-    while let [leg, after @ ..] = rest {
-        if path_of(checked, leg).has_abort() {
-            return true;
-        }
-        rest = after;
-    }
-    false
-}
 
 // The walk with one more part, as a goal of abort.
 fn with_end(alloc: Global, legs: &[Leg], end: Leg) -> Mem<Walk>
@@ -70,9 +57,11 @@ fn decide_conjectures(
     alloc: Global,
     checked: &Checked,
     legs: &[Leg],
+    known: Known,
     limits: &Limits,
     tally: Tally,
 ) -> Mem<Turn>
+    requires known { IsKnown checked.now legs.now known }
     requires goals { AllByRecursion (IsWalk checked.now)
         (map (λ k. goal_along legs.now (About.Conjecture k)) (count_from 0 (length checked.now.conjectures))) }
     requires room { HasRoom tally (length checked.now.conjectures) }
@@ -83,7 +72,7 @@ fn decide_conjectures(
     let mut now = tally;
     for k in 0..count {
         let walk = goal_on(alloc, legs, About::Conjecture(k))?;
-        let turn = decide_one(alloc, checked, &walk, limits, now)?;
+        let turn = decide_one(alloc, checked, &walk, known, limits, now)?;
         match turn {
             Turn::On(next) => now = next,
             Turn::Met(run) => return Ok(Turn::Met(run)),
@@ -98,9 +87,11 @@ fn decide_ends(
     checked: &Checked,
     legs: &[Leg],
     ends: &[Leg],
+    known: Known,
     limits: &Limits,
     tally: Tally,
 ) -> Mem<Turn>
+    requires known { IsKnown checked.now legs.now known }
     requires goals { AllByRecursion (IsWalk checked.now)
         (map (λ leg. goal_along (legs.now ++ leg ∷ []) (About.Abort)) ends.now) }
     requires room { HasRoom tally (length ends.now) }
@@ -111,7 +102,7 @@ fn decide_ends(
     let mut rest = ends;
     while let [end, after @ ..] = rest {
         let walk = with_end(alloc, legs, *end)?;
-        let turn = decide_one(alloc, checked, &walk, limits, now)?;
+        let turn = decide_one(alloc, checked, &walk, known, limits, now)?;
         match turn {
             Turn::On(next) => now = next,
             Turn::Met(run) => return Ok(Turn::Met(run)),
@@ -127,18 +118,20 @@ fn decide_open(
     checked: &Checked,
     legs: &[Leg],
     ends: &[Leg],
+    known: Known,
     limits: &Limits,
     tally: Tally,
 ) -> Mem<Turn>
+    requires known { IsKnown checked.now legs.now known }
     requires goals { AllByRecursion (IsWalk checked.now) (open_goals checked.now legs.now) }
     requires ends { ends.now ≡ stage_legs checked.now has_abort (Stage.Final) }
     requires room { HasRoom tally (length (open_goals checked.now legs.now)) }
     ensures { IfOk result (IsTurn (ceilings limits.now) checked.now (open_goals checked.now legs.now) tally) }
 {
-    let turn = decide_conjectures(alloc, checked, legs, limits, tally)?;
+    let turn = decide_conjectures(alloc, checked, legs, known, limits, tally)?;
     match turn {
         Turn::On(next) => {
-            let last = decide_ends(alloc, checked, legs, ends, limits, next)?;
+            let last = decide_ends(alloc, checked, legs, ends, known, limits, next)?;
             Ok(last)
         }
         Turn::Met(run) => Ok(Turn::Met(run)),
@@ -151,10 +144,12 @@ fn decide_goals(
     checked: &Checked,
     legs: &[Leg],
     ends: &[Leg],
+    known: Known,
     limits: &Limits,
     tally: Tally,
 ) -> Mem<Turn>
     requires legs { AllByRecursion (IsLeg checked.now) legs.now }
+    requires known { IsKnown checked.now legs.now known }
     requires goals { AllByRecursion (IsWalk checked.now) (walk_goals checked.now legs.now) }
     requires ends { ends.now ≡ stage_legs checked.now has_abort (Stage.Final) }
     requires room { HasRoom tally (length (walk_goals checked.now legs.now)) }
@@ -162,10 +157,10 @@ fn decide_goals(
 {
     if aborts(checked, legs) {
         let walk = goal_on(alloc, legs, About::Abort)?;
-        let turn = decide_one(alloc, checked, &walk, limits, tally)?;
+        let turn = decide_one(alloc, checked, &walk, known, limits, tally)?;
         return Ok(turn);
     }
-    let turn = decide_open(alloc, checked, legs, ends, limits, tally)?;
+    let turn = decide_open(alloc, checked, legs, ends, known, limits, tally)?;
     Ok(turn)
 }
 
@@ -180,9 +175,17 @@ fn length_of(tally: Tally) -> Length
 }
 
 // The goals of all walks of a length, of which there are few.
-fn decide_walks(alloc: Global, checked: &Checked, steps: u32, limits: &Limits) -> Mem<Length>
-    requires { count_of checked.now steps ≤ 4096 }
-    ensures { IfOk result (IsDecidedLength (ceilings limits.now) checked.now steps) }
+fn decide_walks(
+    alloc: Global,
+    checked: &Checked,
+    steps: u32,
+    limits: &Limits,
+    infeasible: &mut Row<Row<Leg>>,
+) -> Mem<Length>
+    requires few { count_of checked.now steps ≤ 4096 }
+    requires before { AreInfeasible checked.now infeasible.old }
+    ensures decided { IfOk result (IsDecidedLength (ceilings limits.now) checked.now steps) }
+    ensures after { AreInfeasible checked.now infeasible.new }
 {
     walk_law();
     let _checked = checked.model();
@@ -192,11 +195,14 @@ fn decide_walks(alloc: Global, checked: &Checked, steps: u32, limits: &Limits) -
     let count = walk_count(&places);
     for number in 0..count {
         let legs = walk_of_number(alloc, &places, number)?;
+        let walk = legs.as_slice();
+        let known = look_at(alloc, checked, walk, limits, infeasible)?;
         let turn = decide_goals(
             alloc,
             checked,
-            legs.as_slice(),
+            walk,
             ends.as_slice(),
+            known,
             limits,
             now,
         )?;
@@ -208,14 +214,22 @@ fn decide_walks(alloc: Global, checked: &Checked, steps: u32, limits: &Limits) -
     Ok(length_of(now))
 }
 
-/// The answer to the runs of a length.
-pub fn decide_length(alloc: Global, checked: &Checked, steps: u32, limits: &Limits) -> Mem<Length>
-    ensures { IfOk result (IsLength (ceilings limits.now) checked.now steps) }
+/// The answer to the runs of a length, where these walks were found to be infeasible so far.
+pub fn decide_length(
+    alloc: Global,
+    checked: &Checked,
+    steps: u32,
+    limits: &Limits,
+    infeasible: &mut Row<Row<Leg>>,
+) -> Mem<Length>
+    requires before { AreInfeasible checked.now infeasible.old }
+    ensures decided { IfOk result (IsLength (ceilings limits.now) checked.now steps) }
+    ensures after { AreInfeasible checked.now infeasible.new }
 {
     let count = count_of_length(checked, steps);
     if count > MAX_WALKS {
         return Ok(Length::Undecided(BoundCause::Paths(count)));
     }
-    let length = decide_walks(alloc, checked, steps, limits)?;
+    let length = decide_walks(alloc, checked, steps, limits, infeasible)?;
     Ok(length)
 }

@@ -14,8 +14,9 @@ use Rattle.rml_command.specs.declared.goal.About.TheVariants as about
 use Rattle.walks.specs.declared.leg.Leg.{Leg}
 use Rattle.walks.specs.Walks.{Test, any_path, goes_on, legs_among, stage_legs, action_legs, may_stand, action_choices}
 use Rattle.walks.specs.Walks.{one_of_each, walks_of, path_of, leg_path, joined, goal_along, open_goals, walk_goals}
-use Rattle.walks.specs.Laws.{IsLeg, AbortsLast, IsInit, IsAction, AreLater, AreInOrder, AreLegs, IsWalk, GoalsAreWalks}
-use Rattle.base.proofs.Lists.{all_append}
+use Rattle.walks.specs.Laws.{IsLeg, AbortsLast, IsInit, IsAction, AreLater, AreInOrder, AreLegs, IsWalk, ListedAreLegs}
+use Rattle.walks.specs.Laws.{GoalsAreWalks}
+use Rattle.base.proofs.Lists.{all_append, all_more}
 use Rattle.walks.proofs.Some.{all_joined, all_mapped, all_counted}
 use Rattle.walks.proofs.Aborting.{goes_on-parts, has_abort-last}
 
@@ -181,8 +182,14 @@ module _ (m : ModelTree) where
           (stage_legs m has_abort stage.Final)
           (legs_of_stage (λ s. s ≡ stage.Final) has_abort stage.Final refl))
 
+listed : (m : ModelTree) (k : ℕ) → AllByRecursion (Stands m IsInit k) (walks_of m k)
+listed m k =
+    each_stands m IsInit k (stage_legs m (may_stand any_path k) stage.Init)
+    (legs_of_stage m IsInit (may_stand any_path k) stage.Init tt)
+
+pub listed_are_legs : ListedAreLegs
+listed_are_legs m k = all_more (Stands m IsInit k) (AreLegs m) (are_legs m k) (walks_of m k) (listed m k)
+
 pub goals_are_walks : GoalsAreWalks
 goals_are_walks m k =
-    all_joined (Stands m IsInit k) (IsWalk m) (walk_goals m) (goals_of_walk m k) (walks_of m k)
-    (each_stands m IsInit k (stage_legs m (may_stand any_path k) stage.Init)
-    (legs_of_stage m IsInit (may_stand any_path k) stage.Init tt))
+    all_joined (Stands m IsInit k) (IsWalk m) (walk_goals m) (goals_of_walk m k) (walks_of m k) (listed m k)

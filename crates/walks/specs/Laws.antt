@@ -10,7 +10,7 @@ use Rattle.rml_command.specs.declared.goal.Stage.{Stage}
 use Rattle.rml_command.specs.declared.goal.Stage.TheVariants as stage
 use Rattle.walks.specs.declared.leg.Leg.{Leg}
 use Rattle.walks.specs.declared.leg.Walk.{Walk}
-use Rattle.walks.specs.Walks.{goals_of_length, leg_path, joined}
+use Rattle.walks.specs.Walks.{goals_of_length, walks_of, leg_path, joined}
 use Rattle.walks.specs.Runs.{IsSafeLength, SafeWithin}
 
 -- a path of the model
@@ -55,6 +55,10 @@ pub record IsWalk (m : ModelTree) (walk : Walk) : Type 0 where
   pub legs : AreLegs m walk.parts
   pub kind : is_for walk.about (joined m walk.parts) ≡ true
   pub about : HasAbout m stage.Init walk.about
+
+-- The walks of a length are walks of the model, and so are the goals along them.
+abbrev pub ListedAreLegs : Type 0
+ListedAreLegs = (m : ModelTree) (k : ℕ) → AllByRecursion (AreLegs m) (walks_of m k)
 
 abbrev pub GoalsAreWalks : Type 0
 GoalsAreWalks = (m : ModelTree) (k : ℕ) → AllByRecursion (IsWalk m) (goals_of_length m k)

@@ -5,7 +5,9 @@ use Rattle.ea_decide.specs.Passing.{ceilings}
 use Rattle.walks.specs.declared.leg.Walk.{Walk}
 use Rattle.walks.specs.Walks.{goal_along}
 use Rattle.walks.specs.Laws.{IsWalk}
+use Rattle.rml_bmc.specs.Infeasible.{IsKnownGoal}
 use Rattle.rml_bmc.specs.Tallies.{Passed, Met}
+use Rattle.rml_bmc.proofs.FrontWalks.{known_here}
 use Rattle.rml_bmc.proofs.Walking.{count-step, count-none, counted_first, of_next, next_is, next_room, go_on, stop}
 use Rattle.rml_bmc.proofs.Walking.{at_end}
 use Rattle.rml_bmc.proofs.lengths.decide_conjectures.Goals as goal
@@ -27,6 +29,12 @@ decide_one-requires-clause-walk c =
     _ _ (f k) c.loop-k.now (count-step f k _ c.loop-k-test.true) c.loop-k.invariant.left in
     subst (IsWalk m) (sym c.in_ok-walk.ensures)
     (next_is (ceilings c.args.limits.now) m (IsWalk m) _ _ _ (f k) c.loop-k.now here)
+
+pub decide_one-requires-clause-known : goal.decide_one-requires-clause-known
+decide_one-requires-clause-known c =
+    let m = c.args.checked.now in
+    subst (λ (w : Walk). IsKnownGoal m w c.args.known) (sym c.in_ok-walk.ensures)
+    (known_here m c.args.legs.now (about.Conjecture c.loop-k.k) c.args.known c.requires.known)
 
 pub decide_one-requires-clause-room : goal.decide_one-requires-clause-room
 decide_one-requires-clause-room c =
