@@ -121,6 +121,16 @@ is-named (n ∷ names) k (inr h) = go (n == k) (is-named names k h)
     go true e = refl
     go false e = e
 
+-- what is found in a list is one of it
+pub has-named : (names : List ℕ) (k : ℕ) → list_any (λ n. n == k) names ≡ true → Has names k
+has-named [] k e = absurd (cc e)
+has-named (n ∷ names) k e = go (n == k) (Decides-eqb n k).0 (has-named names k) e
+  where
+    go : (b : Bool) → (b ≡ true → n ≡ k) → (list_any (λ x. x == k) names ≡ true → Has names k)
+        → (b || list_any (λ x. x == k) names) ≡ true → Has (n ∷ names) k
+    go true is rest e = inl (is refl)
+    go false is rest e = inr (rest e)
+
 pub same-fails : (c : ℕ) → not (c == c) ≡ false
 same-fails c = let here : (c == c) ≡ true = (Decides-eqb c c).1 refl in ap not here
 

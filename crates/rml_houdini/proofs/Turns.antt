@@ -17,11 +17,11 @@ use Rattle.ea_decide.specs.Passing.{Ceilings}
 use Rattle.obligation_decide.specs.GoalPassing.{PassesFirstBy}
 use Rattle.obligation_decide.specs.GoalDecisions.{IsFailingBy}
 use Rattle.rml_houdini.specs.Rounds.{group_at, stage_goals, goals_about, IsSafe, IsOpen}
-use Rattle.rml_houdini.specs.Progress.{earlier_of, action_goals, Leads, IsRound}
+use Rattle.rml_houdini.specs.Progress.{earlier_of, first_of, action_goals, Leads, IsRound}
 use Rattle.rml_houdini.specs.declared.round.Round.{Round}
 use Rattle.rml_houdini.specs.declared.round.Round.TheVariants.{Fails, Passes}
 use Rattle.rml_houdini.proofs.Steps.{Completes, behind_safe, behind_open, behind_list, in_list, round_failing, at_last}
-use Rattle.rml_houdini.proofs.Steps.{round_front, round_then}
+use Rattle.rml_houdini.proofs.Steps.{round_front, round_then, behind_first}
 use Rattle.rml_houdini.proofs.Paths.{passed, listed, no_path, next_of, none_of, actions_from, next_action, no_action}
 
 module _ (limits : Ceilings) (m : ModelTree) (held : List ℕ) (start : Option (Goal × Cause)) where
@@ -90,14 +90,15 @@ module _ (limits : Ceilings) (m : ModelTree) (held : List ℕ) (start : Option (
           subst (λ (gs : List Goal). Completes limits m held start (stage_goals m held st) now gs)
           (next_of (λ k. group_goals m (group_at st k)) held i k lt is) whole
 
-      pub group_passes : (new : Option (Goal × Cause)) → Leads limits m held now (group_goals m (group_at st k)) new
-          → ThroughHeld new (i + 1)
-      group_passes new lead =
+      pub group_passes : (more : Option (Goal × Cause)) → Leads limits m held None (group_goals m (group_at st k)) more
+          → ThroughHeld (first_of now more) (i + 1)
+      group_passes more lead =
           behind_list limits m held start (stage_goals m held st) now (group_goals m (group_at st k))
-          (flat_map (λ k. group_goals m (group_at st k)) (drop (i + 1) held)) new group-here lead
+          (flat_map (λ k. group_goals m (group_at st k)) (drop (i + 1) held)) (first_of now more) group-here
+          (behind_first limits m held now (group_goals m (group_at st k)) more lead)
 
       pub group_fails : (shown : Counterexample)
-          → IsRound limits m held now (group_goals m (group_at st k)) (Fails shown)
+          → IsRound limits m held None (group_goals m (group_at st k)) (Fails shown)
           → IsRound limits m held start (stage_goals m held st) (Fails shown)
       group_fails shown h =
           in_list limits m held start (stage_goals m held st) now (group_goals m (group_at st k))

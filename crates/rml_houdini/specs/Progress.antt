@@ -19,6 +19,11 @@ abbrev pub earlier_of : Option (Goal × Cause) → Goal → Cause → Option (Go
 earlier_of None goal c = Some (goal, c)
 earlier_of (Some first) goal c = Some first
 
+-- the first open goal of goals and of more behind them
+abbrev pub first_of : Option (Goal × Cause) → Option (Goal × Cause) → Option (Goal × Cause)
+first_of None more = more
+first_of (Some first) more = Some first
+
 module _ (limits : Ceilings) (m : ModelTree) (held : List ℕ) where
   -- No goal fails; the first open goal before them is `from`, and behind them it is `to`.
   abbrev pub Leads : Option (Goal × Cause) → List Goal → Option (Goal × Cause) → Type 0

@@ -5,6 +5,7 @@ ghost use Rattle.rml_houdini.specs.Greatest.{IsFound};
 ghost use Rattle.rml_houdini.specs.Progress.{IsConjecture};
 
 use crate::houdini::{Dropped, Houdini};
+use crate::known::{Known, keeping_law};
 use crate::laws::{dropping_law, settled_law};
 use crate::round::{Round, decide_round};
 use crate::sets::{all_conjectures, without};
@@ -24,18 +25,21 @@ fn conjecture_of(about: About) -> u32
     }
 }
 
-/// Finds the greatest set of the model's conjectures that is inductive apart from aborts: all are held at first; in each
-/// round the goals of those that are held are decided in order, and the first that fails drops its conjecture. The last
-/// round is one in which none fails.
+/// Finds the greatest set of the model's conjectures that is inductive apart from aborts: all are held at first; in
+/// each round the goals of those that are held are decided in order, and the first that fails drops its conjecture. The
+/// last round is one in which none fails. What was found by conjectures that are still held is not decided again.
 pub fn greatest(alloc: Global, checked: &Checked, limits: &Limits) -> Mem<Houdini>
     ensures { IfOk result (IsFound (ceilings limits.now) checked.now) }
 {
     dropping_law();
     settled_law();
+    keeping_law();
+    let _checked = checked.model();
     let mut dropped = Vec::new(alloc);
     let mut held = all_conjectures(alloc, checked)?;
+    let mut known = Known::nothing(alloc, checked)?;
     loop {
-        match decide_round(alloc, checked, &held, limits)? {
+        match decide_round(alloc, checked, &held, limits, &mut known)? {
             Round::Fails(shown) => {
                 let conjecture = conjecture_of(shown.goal.about);
                 let left = without(alloc, &held, conjecture)?;

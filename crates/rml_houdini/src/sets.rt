@@ -1,7 +1,8 @@
 // Sets of conjectures, told by their numbers.
-ghost use Rattle.std.specs.Prelude.{◌≡◌, ◌==◌, not, length, IfOk};
+ghost use Rattle.std.specs.Prelude.{◌≡◌, ◌==◌, not, true, length, IfOk};
 ghost use Rattle.std.specs.List.{filter};
 ghost use Rattle.base.specs.Lists.{count_from};
+ghost use Rattle.rml_houdini.specs.Subsets.{IsWithin};
 
 use base::Mem;
 use rml_command::Checked;
@@ -30,4 +31,29 @@ pub fn without(alloc: Global, numbers: &[u32], number: u32) -> Mem<Vec<u32>>
         }
     }
     Ok(left)
+}
+
+/// Whether each of the numbers is one of the others.
+pub fn are_within(numbers: &[u32], others: &[u32]) -> bool
+    ensures { result ≡ true → IsWithin numbers.now others.now }
+{
+    for number in numbers {
+        if !others.contains(number) {
+            return false;
+        }
+    }
+    true
+}
+
+/// Those of the others that are among the numbers.
+pub fn common(alloc: Global, numbers: &[u32], others: &[u32]) -> Mem<Vec<u32>>
+    ensures { IfOk result (λ both. IsWithin both.items others.now) }
+{
+    let mut both = Vec::new(alloc);
+    for number in others {
+        if numbers.contains(number) {
+            both.push(*number)?;
+        }
+    }
+    Ok(both)
 }

@@ -1,0 +1,6 @@
+use Rattle.std.proofs.Common.{drop}
+use Rattle.rml_exec.specs.Steps.{CanJudge}
+use Rattle.rml_houdini.proofs.keeping.are_true.Given as goal
+
+abbrev pub invariant-loop-sentence : goal.invariant-loop-sentence
+invariant-loop-sentence l = CanJudge (drop l.sentence-index l.sentences) l.structure

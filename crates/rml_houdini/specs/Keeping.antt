@@ -1,0 +1,69 @@
+-- What is known of goals by some of the held conjectures. Private contracts alone cite this.
+use Rattle.std.specs.Prelude.{◌==◌, ℕ, not, List, Option, Some, None}
+use Rattle.std.specs.List.{AllByRecursion, filter}
+use Rattle.fol_sig.specs.Symbols.{FitsStructure, symbols}
+use Rattle.rml_command.specs.Models.{ModelTree}
+use Rattle.rml_command.specs.Fragment.{IsChecked}
+use Rattle.rml_command.specs.Goals.{group_goals}
+use Rattle.rml_command.specs.declared.goal.Goal.{Goal}
+use Rattle.rml_command.specs.declared.goal.Stage.{Stage}
+use Rattle.rml_wp.specs.Preconditions.{conjectures_of}
+use Rattle.ea_decide.specs.Passing.{Ceilings}
+use Rattle.obligation_decide.specs.GoalPassing.{PassesFirstBy}
+use Rattle.obligation_decide.specs.GoalDecisions.{HasNoneBy, IsFailingBy}
+use Rattle.rml_houdini.specs.Subsets.{IsWithin}
+use Rattle.rml_houdini.specs.Rounds.{group_at, IsSafe, IsOpen}
+use Rattle.rml_houdini.specs.declared.assumed.Assumed.{Assumed}
+use Rattle.rml_houdini.specs.declared.trying.Tried.{Tried}
+use Rattle.rml_houdini.specs.declared.trying.Tried.TheVariants as tried
+use Rattle.rml_houdini.specs.declared.keeping.Turn.{Turn}
+use Rattle.rml_houdini.specs.declared.keeping.Turn.TheVariants as turn
+use Rattle.rml_houdini.specs.declared.settling.Settled.{Settled}
+use Rattle.rml_houdini.specs.declared.settling.Settled.TheVariants as settled
+use Rattle.rml_houdini.specs.declared.known.Kept.{Kept}
+
+-- the goals have no counterexample where these conjectures hold before their stage
+abbrev pub Suffice : ModelTree → List ℕ → List Goal → Type 0
+Suffice m ks goals = AllByRecursion (HasNoneBy m (conjectures_of m ks)) goals
+
+-- more is assumed than before, but only what is held
+abbrev pub Grows : List ℕ → List ℕ → List ℕ → Type 0
+Grows held old new = IsWithin old new × (IsWithin old held → IsWithin new held)
+
+-- what a try with these ends with: the goal holds by them, or this structure satisfies them
+abbrev pub IsTried : ModelTree → Goal → Assumed → Tried → Type 0
+IsTried m goal a tried.Holds = HasNoneBy m (conjectures_of m a.held.items) goal
+IsTried m goal a (tried.Met s) = FitsStructure (symbols m.signature) s
+IsTried m goal a tried.Open = Unit {0}
+
+abbrev pub IsTurn : ModelTree → Goal → Assumed → Turn → Type 0
+IsTurn m goal a turn.Holds = HasNoneBy m (conjectures_of m a.held.items) goal
+IsTurn m goal a turn.Again = Unit {0}
+IsTurn m goal a turn.Open = Unit {0}
+
+-- what is answered of a goal where these conjectures are held, and by which it holds
+abbrev pub IsSettledBy : Ceilings → ModelTree → List ℕ → Goal → Assumed → Settled → Type 0
+IsSettledBy limits m held goal a settled.Holds =
+    IsSafe limits m held goal × HasNoneBy m (conjectures_of m a.held.items) goal
+IsSettledBy limits m held goal a (settled.Fails shown) =
+    PassesFirstBy limits m (conjectures_of m held) goal None × IsFailingBy limits m (conjectures_of m held) goal shown
+IsSettledBy limits m held goal a (settled.Undecided c) = IsOpen limits m held goal c
+
+-- The goals about a conjecture behind a stage pass no limit where these are held, and these of them suffice.
+pub record IsKept (limits : Ceilings) (m : ModelTree) (held : List ℕ) (st : Stage) (k : ℕ) (ks : List ℕ) : Type 0 where
+  pub within : AllByRecursion (λ g. PassesFirstBy limits m (conjectures_of m held) g None)
+      (group_goals m (group_at st k))
+  pub suffice : Suffice m ks (group_goals m (group_at st k))
+
+abbrev pub IsKeptAt : Ceilings → ModelTree → List ℕ → Option Kept → Type 0
+IsKeptAt limits m held None = Unit {0}
+IsKeptAt limits m held (Some kept) = IsKept limits m held kept.stage kept.conjecture kept.by.held.items
+
+-- so it is of each group that is remembered
+abbrev pub AreKept : Ceilings → ModelTree → List ℕ → List (Option Kept) → Type 0
+AreKept limits m held groups = AllByRecursion (IsKeptAt limits m held) groups
+
+-- where one conjecture less is held too
+abbrev pub KeptStaysKept : Type 0
+KeptStaysKept = (limits : Ceilings) (m : ModelTree) (held : List ℕ) (c : ℕ) (groups : List (Option Kept)) → IsChecked m
+    → AreKept limits m held groups → AreKept limits m (filter (λ k. not (c == k)) held) groups

@@ -1,0 +1,86 @@
+// Which limit a goal passes by its size, told by its whole refuting sentence. That is counted where its parts stand.
+ghost use Rattle.std.specs.Prelude.{◌≡◌, ◌<◌, length, All, IfOk};
+ghost use Rattle.rml_command.specs.Goals.{IsGoal};
+ghost use Rattle.rml_wp.specs.Preconditions.{conjectures_of, goal_precondition};
+ghost use Rattle.ground_size.specs.Conjoined.{forms_at};
+ghost use Rattle.ea_decide.specs.Passing.{ceilings};
+ghost use Rattle.obligation_decide.specs.GoalPassing.{PassesFirstBy, SentencePassesBy};
+ghost use Rattle.rml_houdini.specs.Assuming.{held_parts};
+
+use crate::assumed::sentences_of;
+use base::{Mem, Refused};
+use ea_decide::{Measured, measure_parts};
+use fol_formula::{Ae, Sentence};
+use ground_size::Part;
+use lrat_log::Limits;
+use obligation_decide::cause_of;
+use rml_command::{Checked, Goal, Stage};
+use rml_report::Cause;
+use rml_wp::precondition;
+use std::alloc::{AllocError, Global};
+
+/// The limit that a goal passes by its size where these conjectures are held, if it passes one.
+pub fn first_limit(
+    alloc: Global,
+    checked: &Checked,
+    goal: &Goal,
+    held: &[u32],
+    limits: &Limits,
+) -> Mem<Option<Cause>>
+    requires goal { IsGoal checked.now goal.now }
+    requires held { All (λ k. k < length checked.now.conjectures) held.now }
+    ensures { IfOk result
+        (PassesFirstBy (ceilings limits.now) checked.now (conjectures_of checked.now held.now) goal.now) }
+{
+    match precondition(alloc, checked, goal) {
+        Ok(precondition) => {
+            let limit = limit_of(alloc, checked, goal, &precondition, held, limits)?;
+            Ok(limit)
+        }
+        Err(Refused::NoMemory) => Err(AllocError),
+        Err(Refused::For(_)) => Ok(Some(Cause::Formula)),
+    }
+}
+
+// The one that the refuting sentence passes, given the goal's precondition.
+fn limit_of(
+    alloc: Global,
+    checked: &Checked,
+    goal: &Goal,
+    precondition: &Ae,
+    held: &[u32],
+    limits: &Limits,
+) -> Mem<Option<Cause>>
+    requires goal { IsGoal checked.now goal.now }
+    requires precondition { precondition.now ≡ goal_precondition checked.now goal.now }
+    requires held { All (λ k. k < length checked.now.conjectures) held.now }
+    ensures { IfOk result
+        (SentencePassesBy (ceilings limits.now) checked.now (conjectures_of checked.now held.now) goal.now) }
+{
+    rml_wp::sentence_law();
+    let model = checked.model();
+    let chosen = sentences_of(alloc, model.conjectures(), held)?;
+    let axioms = model.axioms();
+    let before = held_before(goal.stage, &chosen);
+    let parts = [
+        Part::All(axioms),
+        before,
+        Part::Not(precondition.sentence()),
+    ];
+    let signature = model.signature();
+    match measure_parts(alloc, signature, checked.strata(), &parts, limits)? {
+        Measured::Within(_) => Ok(None),
+        Measured::Over(passed) => Ok(Some(cause_of(passed))),
+    }
+}
+
+// What holds before a stage beside the axioms: these, but before init nothing.
+fn held_before<'a>(stage: Stage, conjectures: &'a [Sentence]) -> Part<'a>
+    ensures { forms_at result ≡ held_parts stage conjectures.now }
+{
+    match stage {
+        Stage::Init => Part::Each(&[]),
+        Stage::Action(_) => Part::All(conjectures),
+        Stage::Final => Part::All(conjectures),
+    }
+}

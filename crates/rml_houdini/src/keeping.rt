@@ -1,0 +1,215 @@
+// What suffices for a goal is found by its counterexamples: where a structure satisfies all that is assumed, something
+// that it breaks is assumed too, until no structure is left (counterexample-guided refinement; Clarke, Grumberg, Jha,
+// Lu and Veith, JACM 2003). So most goals are decided with few conjectures, and none again while these are held.
+ghost use Rattle.std.specs.Prelude.{◌≡◌, ◌<◌, length, true, [], All, IfOk, OnOk, IfSome};
+ghost use Rattle.fol_sig.specs.Symbols.{FitsStructure, symbols};
+ghost use Rattle.rml_command.specs.Goals.{IsGoal};
+ghost use Rattle.rml_exec.specs.Steps.{CanJudge};
+ghost use Rattle.rml_wp.specs.declared.premises.Premises.TheVariants.{Affected};
+ghost use Rattle.rml_wp.specs.Preconditions.{conjectures_of, goal_precondition_by};
+ghost use Rattle.obligation_decide.specs.GoalDecisions.{HasNoneBy};
+ghost use Rattle.rml_houdini.specs.Subsets.{Has, IsWithin};
+ghost use Rattle.rml_houdini.specs.Keeping.{Grows, IsTurn};
+
+use crate::assumed::Assumed;
+use crate::trying::{Tried, try_with};
+use base::{Mem, Refused};
+use fol_eval::{Env, holds};
+use fol_formula::{Ae, Formula, Sentence};
+use fol_sig::Structure;
+use lrat_log::Limits;
+use rml_command::{Checked, Goal, Stage};
+use rml_wp::{Premises, precondition_by};
+use std::alloc::{AllocError, Global};
+
+/// What a turn ends with.
+#[derive(Clone, Copy, Debug)]
+pub enum Turn {
+    /// The goal has no counterexample where this is assumed.
+    Holds,
+    /// More is assumed.
+    Again,
+    /// A limit is passed, or a structure satisfies all that is held.
+    Open,
+}
+
+/// Whether a goal holds by some of the held conjectures, which are found beginning with what is assumed.
+pub fn keep(
+    alloc: Global,
+    checked: &Checked,
+    goal: &Goal,
+    held: &[u32],
+    assumed: &mut Assumed,
+    limits: &Limits,
+) -> Mem<bool>
+    requires goal { IsGoal checked.now goal.now }
+    requires held { All (λ k. k < length checked.now.conjectures) held.now }
+    requires within { IsWithin assumed.old.held.items held.now }
+    ensures grows { OnOk result (Grows held.now assumed.old.held.items assumed.new.held.items) }
+    ensures holds { IfOk result
+        (λ yes. yes ≡ true → HasNoneBy checked.now (conjectures_of checked.now assumed.new.held.items) goal.now) }
+{
+    match precondition_by(alloc, checked, Premises::Affected, goal) {
+        Ok(precondition) => {
+            let holds = keep_from(alloc, checked, goal, &precondition, held, assumed, limits)?;
+            Ok(holds)
+        }
+        Err(Refused::NoMemory) => Err(AllocError),
+        Err(Refused::For(_)) => Ok(false),
+    }
+}
+
+// The same, given the goal's precondition. Each turn but the last assumes one thing more.
+fn keep_from(
+    alloc: Global,
+    checked: &Checked,
+    goal: &Goal,
+    precondition: &Ae,
+    held: &[u32],
+    assumed: &mut Assumed,
+    limits: &Limits,
+) -> Mem<bool>
+    requires goal { IsGoal checked.now goal.now }
+    requires precondition { precondition.now ≡ goal_precondition_by Affected checked.now goal.now }
+    requires held { All (λ k. k < length checked.now.conjectures) held.now }
+    requires within { IsWithin assumed.old.held.items held.now }
+    ensures grows { OnOk result (Grows held.now assumed.old.held.items assumed.new.held.items) }
+    ensures holds { IfOk result
+        (λ yes. yes ≡ true → HasNoneBy checked.now (conjectures_of checked.now assumed.new.held.items) goal.now) }
+{
+    for _ in 0..held.len() + 2 {
+        match take_turn(alloc, checked, goal, precondition, held, assumed, limits)? {
+            Turn::Holds => return Ok(true),
+            Turn::Again => {}
+            Turn::Open => return Ok(false),
+        }
+    }
+    Ok(false)
+}
+
+// One try, and what it shows to be needed.
+fn take_turn(
+    alloc: Global,
+    checked: &Checked,
+    goal: &Goal,
+    precondition: &Ae,
+    held: &[u32],
+    assumed: &mut Assumed,
+    limits: &Limits,
+) -> Mem<Turn>
+    requires goal { IsGoal checked.now goal.now }
+    requires precondition { precondition.now ≡ goal_precondition_by Affected checked.now goal.now }
+    requires held { All (λ k. k < length checked.now.conjectures) held.now }
+    requires within { IsWithin assumed.old.held.items held.now }
+    ensures grows { OnOk result (Grows held.now assumed.old.held.items assumed.new.held.items) }
+    ensures turn { IfOk result (IsTurn checked.now goal.now assumed.new) }
+{
+    match try_with(alloc, checked, goal, precondition, assumed, limits)? {
+        Tried::Holds => Ok(Turn::Holds),
+        Tried::Open => Ok(Turn::Open),
+        Tried::Met(structure) => {
+            let turn = assume_broken(checked, goal.stage, held, &structure, assumed);
+            drop(structure);
+            let turn = turn?;
+            Ok(turn)
+        }
+    }
+}
+
+// Assumes what a structure breaks: the axioms, or one of the held conjectures, which before init do not hold.
+fn assume_broken(
+    checked: &Checked,
+    stage: Stage,
+    held: &[u32],
+    structure: &Structure,
+    assumed: &mut Assumed,
+) -> Mem<Turn>
+    requires structure { FitsStructure (symbols checked.now.signature) structure.now }
+    requires held { All (λ k. k < length checked.now.conjectures) held.now }
+    ensures grows { OnOk result (Grows held.now assumed.old.held.items assumed.new.held.items) }
+    ensures turn { IfOk result (λ turn. turn ≡ Turn.Holds → ⊥) }
+{
+    if !assumed.lawful && !are_true(checked.model().axioms(), structure) {
+        assumed.lawful = true;
+        return Ok(Turn::Again);
+    }
+    if stage == Stage::Init {
+        return Ok(Turn::Open);
+    }
+    match first_broken(checked, held, structure) {
+        None => Ok(Turn::Open),
+        Some(conjecture) => {
+            assumed.held.push(conjecture)?;
+            Ok(Turn::Again)
+        }
+    }
+}
+
+// It guides the search, and no more rests on it.
+fn are_true(sentences: &[Sentence], structure: &Structure) -> bool
+    requires { CanJudge sentences.now structure.now }
+{
+    for sentence in sentences {
+        if !holds(structure, sentence.formula(), &Env::Empty) {
+            return false;
+        }
+    }
+    true
+}
+
+// A held conjecture that the structure breaks. One with fewer variables comes first: it has fewer instances.
+fn first_broken(checked: &Checked, held: &[u32], structure: &Structure) -> Option<u32>
+    requires structure { FitsStructure (symbols checked.now.signature) structure.now }
+    requires held { All (λ k. k < length checked.now.conjectures) held.now }
+    ensures { IfSome result (λ k. Has held.now k) }
+{
+    for variables in 0..most_variables(checked, held) {
+        if let Some(conjecture) = broken_with(checked, held, structure, variables) {
+            return Some(conjecture);
+        }
+    }
+    None
+}
+
+// The first that has so many variables.
+fn broken_with(
+    checked: &Checked,
+    held: &[u32],
+    structure: &Structure,
+    variables: u32,
+) -> Option<u32>
+    requires structure { FitsStructure (symbols checked.now.signature) structure.now }
+    requires held { All (λ k. k < length checked.now.conjectures) held.now }
+    ensures { IfSome result (λ k. Has held.now k) }
+{
+    let conjectures = checked.model().conjectures();
+    for conjecture in held {
+        let formula = conjectures[*conjecture as usize].formula();
+        if variables_of(formula) == variables && !holds(structure, formula, &Env::Empty) {
+            return Some(*conjecture);
+        }
+    }
+    None
+}
+
+// More than any of them has.
+fn most_variables(checked: &Checked, held: &[u32]) -> u32
+    requires { All (λ k. k < length checked.now.conjectures) held.now }
+{
+    let conjectures = checked.model().conjectures();
+    let mut most = 0;
+    for conjecture in held {
+        let variables = variables_of(conjectures[*conjecture as usize].formula()).saturating_add(1);
+        if variables > most {
+            most = variables;
+        }
+    }
+    most
+}
+
+fn variables_of(formula: &Formula) -> u32 {
+    match formula {
+        Formula::Forall(_, body) => variables_of(body).saturating_add(1),
+        _ => 0,
+    }
+}
