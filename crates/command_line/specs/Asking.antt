@@ -20,5 +20,6 @@ HasRanges (request.Check file asked) = IsInRange asked
 HasRanges (request.Houdini file asked) = IsInRange asked
 HasRanges (request.Bmc file bound) = (bound.steps ≤ 12) × IsInRange bound.limits
 HasRanges (request.Lrat formula log) = Unit {0}
+HasRanges (request.Replay model report) = Unit {0}
 HasRanges (request.Emit file asked) = (1 ≤ asked.goal) × (asked.goal ≤ 1000000000) × IsInRange asked.limits
 HasRanges (request.Sample n) = n ≤ 40

@@ -20,6 +20,7 @@ pub data Line : Type 0 where
   houdini : Text → Asked → Line
   bmc : Text → Bound → Line
   lrat : Text → Text → Line
+  replay : Text → Text → Line
   emit : Text → Emission → Line
   sample : ℕ → Line
 
@@ -28,6 +29,7 @@ request_line (request.Check file asked) = check file.now asked
 request_line (request.Houdini file asked) = houdini file.now asked
 request_line (request.Bmc file bound) = bmc file.now bound
 request_line (request.Lrat formula log) = lrat formula.now log.now
+request_line (request.Replay model report) = replay model.now report.now
 request_line (request.Emit file emission) = emit file.now emission
 request_line (request.Sample n) = sample n
 
@@ -57,8 +59,15 @@ abbrev pub bmc_app : App
 bmc_app = with_limits (with_rule (with_rule (new_app (codes "bmc")) (required_rule (codes "FILE")))
     (required_option (codes "steps") 0 12))
 
+-- a command that takes two files
+abbrev pub files_app : Text → Text → Text → App
+files_app word first second = with_rule (with_rule (new_app word) (required_rule first)) (required_rule second)
+
 abbrev pub lrat_app : App
-lrat_app = with_rule (with_rule (new_app (codes "lrat")) (required_rule (codes "CNF"))) (required_rule (codes "LOG"))
+lrat_app = files_app (codes "lrat") (codes "CNF") (codes "LOG")
+
+abbrev pub replay_app : App
+replay_app = files_app (codes "replay") (codes "MODEL") (codes "REPORT")
 
 abbrev pub emit_app : App
 emit_app = with_limits (with_rule (with_rule (with_rule (new_app (codes "emit")) (required_rule (codes "FILE")))
@@ -102,11 +111,17 @@ bmc_by rows =
     option_and_then
     (λ rows. option_and_then (λ file. option_map (bmc file) (bound_by rows)) (first_of (codes "FILE") rows)) rows
 
-abbrev pub lrat_by : Option (List Row) → Option Line
-lrat_by rows =
+-- the two files that these arguments name
+abbrev pub files_by : (Text → Text → Line) → Text → Text → Option (List Row) → Option Line
+files_by line first second rows =
     option_and_then
-    (λ rows. option_and_then (λ formula. option_map (lrat formula) (first_of (codes "LOG") rows))
-    (first_of (codes "CNF") rows)) rows
+    (λ rows. option_and_then (λ file. option_map (line file) (first_of second rows)) (first_of first rows)) rows
+
+abbrev pub lrat_by : Option (List Row) → Option Line
+lrat_by rows = files_by lrat (codes "CNF") (codes "LOG") rows
+
+abbrev pub replay_by : Option (List Row) → Option Line
+replay_by rows = files_by replay (codes "MODEL") (codes "REPORT") rows
 
 -- what is to be written, by its word
 abbrev pub what_of : Text → Option What
@@ -146,6 +161,9 @@ bmc_line words = bmc_by (matched bmc_app words)
 unfoldable pub lrat_line : List Text → Option Line
 lrat_line words = lrat_by (matched lrat_app words)
 
+unfoldable pub replay_line : List Text → Option Line
+replay_line words = replay_by (matched replay_app words)
+
 unfoldable pub emit_line : List Text → Option Line
 emit_line words = emit_by (matched emit_app words)
 
@@ -160,6 +178,7 @@ line_of (command ∷ words) =
     else if bytes_eq command (codes "houdini") then houdini_line (command ∷ words)
     else if bytes_eq command (codes "bmc") then bmc_line (command ∷ words)
     else if bytes_eq command (codes "lrat") then lrat_line (command ∷ words)
+    else if bytes_eq command (codes "replay") then replay_line (command ∷ words)
     else if bytes_eq command (codes "emit") then emit_line (command ∷ words)
     else if bytes_eq command (codes "sample") then sample_line (command ∷ words)
     else None

@@ -3,6 +3,7 @@
 
 mod bmc;
 mod emit;
+mod files;
 mod houdini;
 mod number;
 mod request;

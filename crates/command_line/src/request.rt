@@ -1,13 +1,14 @@
 // What a list of words asks for.
 ghost use Rattle.std.specs.Prelude.{◌≡◌, map, string_bytes, IfOk, IfSome, option_map};
 ghost use Rattle.clap.specs.Words.{app_of};
-ghost use Rattle.command_line.specs.Lines.{model_app, lrat_app, with_limits, asked_by, check_by, lrat_by};
-ghost use Rattle.command_line.specs.Lines.{check_line, lrat_line, line_of, request_line};
+ghost use Rattle.command_line.specs.Lines.{model_app, with_limits, asked_by, check_by};
+ghost use Rattle.command_line.specs.Lines.{check_line, line_of, request_line};
 ghost use Rattle.command_line.specs.Asking.{default_asked, IsInRange, HasRanges};
 ghost use Rattle.command_line.specs.Rows.{rows_in};
 
 use crate::bmc::bmc;
 use crate::emit::emit;
+use crate::files::{lrat, replay};
 use crate::houdini::houdini;
 use crate::number::{number_of, number_option};
 use crate::sample::sample;
@@ -17,7 +18,7 @@ use clap::{ArgMatches, Command};
 use std::alloc::Global;
 
 /// What a decision may spend: ground terms (1 to 100,000), the size of ground formulas (1 to 50,000,000), and learnt
-/// clauses (1 to 10,000,000).
+/// clauses (1 to 100,000,000).
 #[derive(Clone, Copy, Debug)]
 pub struct Asked {
     pub terms: u64,
@@ -73,6 +74,8 @@ pub enum Request<'a> {
     Bmc(&'a str, Bound),
     /// `lrat CNF LOG`: the files of a formula and of a log.
     Lrat(&'a str, &'a str),
+    /// `replay MODEL REPORT`: the files of a model and of a printed report.
+    Replay(&'a str, &'a str),
     /// `emit FILE GOAL WHAT`: the file of a model, and what is to be written of it.
     Emit(&'a str, Emission),
     /// `sample N`: the size of a sample model, 0 to 40.
@@ -96,6 +99,8 @@ pub fn read_words<'a>(alloc: Global, words: &'a [String]) -> Mem<Option<Request<
         bmc(alloc, words)
     } else if is_word(command.as_bytes(), "lrat") {
         lrat(alloc, words)
+    } else if is_word(command.as_bytes(), "replay") {
+        replay(alloc, words)
     } else if is_word(command.as_bytes(), "emit") {
         emit(alloc, words)
     } else if is_word(command.as_bytes(), "sample") {
@@ -121,14 +126,6 @@ pub fn model_command<'a>(alloc: Global, word: &'a str) -> Mem<Command<'a>>
 {
     let file = Command::new(alloc, word).arg(required(alloc, "FILE"))?;
     let command = with_limits(alloc, file)?;
-    Ok(command)
-}
-
-fn lrat_command<'a>(alloc: Global) -> Mem<Command<'a>>
-    ensures { IfOk result (λ command. app_of command ≡ lrat_app) }
-{
-    let formula = Command::new(alloc, "lrat").arg(required(alloc, "CNF"))?;
-    let command = formula.arg(required(alloc, "LOG"))?;
     Ok(command)
 }
 
@@ -170,29 +167,4 @@ fn check<'a>(alloc: Global, words: &'a [String]) -> Mem<Option<Request<'a>>>
     let command = model_command(alloc, "check")?;
     let matches = matches(command, words)?;
     Ok(check_of(&matches))
-}
-
-fn lrat_of<'a>(matches: &Option<ArgMatches<'a>>) -> Option<Request<'a>>
-    ensures line { option_map request_line result ≡ lrat_by (option_map rows_in matches.now) }
-    ensures ranges { IfSome result HasRanges }
-{
-    match matches {
-        None => None,
-        Some(matches) => {
-            let formula = value(matches, "CNF")?;
-            let log = value(matches, "LOG")?;
-            Some(Request::Lrat(formula, log))
-        }
-    }
-}
-
-#[tactic(auto, unfolding(crate::specs::Lines::lrat_line))]
-fn lrat<'a>(alloc: Global, words: &'a [String]) -> Mem<Option<Request<'a>>>
-    ensures line { IfOk result
-        (λ r. option_map request_line r ≡ lrat_line (map (λ w. string_bytes w) words.entry.now)) }
-    ensures ranges { IfOk result (λ r. IfSome r HasRanges) }
-{
-    let command = lrat_command(alloc)?;
-    let matches = matches(command, words)?;
-    Ok(lrat_of(&matches))
 }

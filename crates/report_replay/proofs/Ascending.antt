@@ -18,6 +18,8 @@ use Rattle.printed_report.specs.declared.printed.Printed.{Printed}
 use Rattle.printed_report.specs.declared.printed.PrintedGroup.{PrintedGroup}
 use Rattle.printed_report.specs.declared.printed.PrintedAnswer.{PrintedAnswer}
 use Rattle.printed_report.specs.declared.printed.PrintedAnswer.TheVariants as answer
+use Rattle.report_replay.specs.DenialCodes.{number_of}
+use Rattle.report_replay.specs.declared.denial.DenialCode.{DenialCode}
 use Rattle.report_replay.specs.Demands.{Demand, same_relation, same_function}
 use Rattle.report_replay.specs.Demands.{relation_demands, function_demands, table_demands, table_count, is_broken}
 use Rattle.report_replay.specs.Demands.{end_demands, execution_demands, answer_demands, group_demands}
@@ -27,15 +29,16 @@ use Rattle.report_replay.specs.Judgements.{fails_height}
 use Rattle.report_replay.specs.Laws.{IsNotBefore, IsFirstBroken, DeniedIsLeast}
 use Rattle.report_replay.specs.declared.judged.Fault.{Fault}
 use Rattle.report_replay.specs.declared.judged.Judged.TheVariants.{Denied}
+use Rattle.report_replay.specs.declared.denial.DenialCode.TheVariants as denial
 use Rattle.report_replay.proofs.Heights.{group_takes, verdict_is_last}
 
 -- lines count first, and then codes, which are below 8
 abbrev key : Demand → ℕ
-key d = d.line * 8 + d.code
+key d = d.line * 8 + number_of d.code
 
 abbrev Between : ℕ → List Demand → ℕ → Type 0
 Between lo [] hi = lo ≤ hi
-Between lo (d ∷ ds) hi = (lo ≤ key d) × (d.code < 8) × Between (key d) ds hi
+Between lo (d ∷ ds) hi = (lo ≤ key d) × (number_of d.code < 8) × Between (key d) ds hi
 
 lower : (lo low : ℕ) (ds : List Demand) (hi : ℕ) → low ≤ lo → Between lo ds hi → Between low ds hi
 lower lo low [] hi le b = omega (arith, le, b)
@@ -51,7 +54,7 @@ joined lo [] mid ys hi a b = lower mid lo ys hi a b
 joined lo (d ∷ ds) mid ys hi a b = (a.0, a.1, joined (key d) ds mid ys hi a.2 b)
 
 -- n lines in a row
-each_between : (D : ℕ → Demand) (base : ℕ) → ((i : ℕ) → (D i).line ≡ base + i) → ((i : ℕ) → (D i).code ≡ 5)
+each_between : (D : ℕ → Demand) (base : ℕ) → ((i : ℕ) → (D i).line ≡ base + i) → ((i : ℕ) → number_of (D i).code ≡ 5)
     → (k n lo : ℕ) → lo ≤ (base + k) * 8 + 5 → Between lo (map D (count_from k n)) ((base + (k + n)) * 8 + 5)
 each_between D base line code k zero lo le = omega (arith, le)
 each_between D base line code k (suc n) lo le =
@@ -72,12 +75,12 @@ tables_between m t s line lo le =
     let fs : ℕ = length m.signature.functions in
     let first : Between lo (relation_demands t s line 0 (length m.signature.relations))
     ((line + (0 + length m.signature.relations)) * 8 + 5) =
-    each_between (λ r. record { line = line + r; code = 5; met = same_relation t s r }) line (λ i. refl) (λ i. refl) 0
+    each_between (λ r. record { line = line + r; code = denial.WrongEnd; met = same_relation t s r }) line (λ i. refl) (λ i. refl) 0
     (length m.signature.relations) lo (omega (arith, le)) in
     let second : Between ((line + (0 + length m.signature.relations)) * 8 + 5)
     (function_demands t s (line + length m.signature.relations) 0 (length m.signature.functions))
     (((line + length m.signature.relations) + (0 + length m.signature.functions)) * 8 + 5) =
-    each_between (λ f. record { line = (line + length m.signature.relations) + f; code = 5; met = same_function t s f })
+    each_between (λ f. record { line = (line + length m.signature.relations) + f; code = denial.WrongEnd; met = same_function t s f })
     (line + length m.signature.relations) (λ i. refl) (λ i. refl) 0 (length m.signature.functions)
     ((line + (0 + length m.signature.relations)) * 8 + 5) (omega arith) in
     higher lo (table_demands m t s line)
@@ -100,7 +103,7 @@ end_between m g (about.Conjecture k) shown (Some t) (Some (ended s)) =
     joined (havoc_line m g * 8 + 4) (table_demands m t s (end_line m g)) ((end_line m g + table_count m) * 8 + 5)
     (record {
       line = end_line m g + table_count m;
-      code = 6;
+      code = denial.NotBroken;
       met = is_broken (slice_get m.conjectures k) s
           shown.values;
     }
@@ -162,7 +165,8 @@ demands_between m p lines printed =
     }
 
 -- what stands behind a key
-behind : (ds : List Demand) (lo hi line code : ℕ) → Between lo ds hi → line * 8 + code ≤ lo → code < 8
+behind : (ds : List Demand) (lo hi line : ℕ) (code : DenialCode) → Between lo ds hi → line * 8 + number_of code ≤ lo
+    → number_of code < 8
     → AllByRecursion (IsNotBefore line code) ds
 behind [] lo hi line code b le few = tt
 behind (d ∷ ds) lo hi line code b le few =
@@ -202,22 +206,23 @@ is_first (d ∷ ds) lo hi f b e = by d.met refl e (is_first ds (key d) hi f b.2)
         let w : record { line = d.line; code = d.code } ≡ f = told d f g in
         let l : d.line ≡ f.line = ap (λ (x : Fault). x.line) w in
         let c : d.code ≡ f.code = ap (λ (x : Fault). x.code) w in
+        let n = ap number_of c in
         let small = b.1 in
         record {
           broken = inl (record { unmet = is; line_is = l; code_is = c });
           least = (
-            record { behind = λ _. omega (arith, l); same_line = λ _ _. omega (arith, c) },
-            behind ds (key d) hi f.line f.code b.2 (omega (arith, l, c)) (omega (arith, small, c)),
+            record { behind = λ _. omega (arith, l); same_line = λ _ _. omega (arith, n) },
+            behind ds (key d) hi f.line f.code b.2 (omega (arith, l, n)) (omega (arith, small, n)),
           );
         }
 
-denied_by : (p : Printed) (o : Option Fault) (line code : ℕ) → judged_by p o ≡ Denied line code
+denied_by : (p : Printed) (o : Option Fault) (line : ℕ) (code : DenialCode) → judged_by p o ≡ Denied line code
     → o ≡ Some (record { line = line; code = code })
 denied_by p None line code e = absurd (cc e)
 denied_by p (Some f) line code e =
     let l : f.line ≡ line = cc e in
     let c : f.code ≡ code = cc e in
-    ap (λ n. Some (record { line = n; code = f.code })) l ∙ ap (λ n. Some (record { line = line; code = n })) c
+    ap (λ n. Some (record { line = n; code = f.code })) l ∙ ap (λ (n : DenialCode). Some (record { line = line; code = n })) c
 
 pub denied_is_least : DeniedIsLeast
 denied_is_least m p line code read e =

@@ -43,6 +43,7 @@ use Rattle.report_replay.specs.Judging.{CanFollow, CanReplay, or_else}
 use Rattle.report_replay.specs.Laws.{HasSameTables, EndsAs, IsShown, Shows, ConfirmedIsRight}
 use Rattle.report_replay.specs.declared.judged.Fault.{Fault}
 use Rattle.report_replay.specs.declared.judged.Judged.TheVariants.{Confirmed}
+use Rattle.report_replay.specs.declared.denial.DenialCode.TheVariants as denial
 use Rattle.report_replay.proofs.Unmet.{unmet_append}
 use Rattle.report_replay.proofs.Sizes.{keeps_sizes}
 use Rattle.report_replay.proofs.Ready.{can_judge, has_after}
@@ -141,7 +142,7 @@ module _ (numbered : TuplesAreNumbered) (t s : Tables) where
       record {
         relations = λ r lt xs range. relation_same r
             (subst (λ j. same_relation t s j ≡ true) (from_zero r)
-            (each_met (λ r. record { line = line + r; code = 5; met = same_relation t s r }) 0
+            (each_met (λ r. record { line = line + r; code = denial.WrongEnd; met = same_relation t s r }) 0
             (length m.signature.relations) r
             (front_met (relation_demands t s line 0 (length m.signature.relations))
             (function_demands t s (line + length m.signature.relations) 0 (length m.signature.functions)) e) lt)) xs
@@ -150,7 +151,7 @@ module _ (numbered : TuplesAreNumbered) (t s : Tables) where
             (subst (λ j. same_function t s j ≡ true) (from_zero f)
             (each_met (λ f. record {
               line = (line + length m.signature.relations) + f;
-              code = 5;
+              code = denial.WrongEnd;
               met = same_function t
                   s f;
             }) 0
@@ -232,13 +233,13 @@ ends_so numbered m g shown (about.Conjecture k) (Some t) (Some (ended s)) path k
     let h = has_after m shown.structure t k shown.values has in
     let value : Demand = record {
       line = end_line m g + table_count m;
-      code = 6;
+      code = denial.NotBroken;
       met = is_broken (slice_get m.conjectures k) s shown.values;
     } in
     let tables = front_met (table_demands m t s (end_line m g))
     (record {
       line = end_line m g + table_count m;
-      code = 6;
+      code = denial.NotBroken;
       met = is_broken (slice_get m.conjectures k) s
           shown.values;
     }
@@ -246,7 +247,7 @@ ends_so numbered m g shown (about.Conjecture k) (Some t) (Some (ended s)) path k
     let last = back_met (table_demands m t s (end_line m g))
     (record {
       line = end_line m g + table_count m;
-      code = 6;
+      code = denial.NotBroken;
       met = is_broken (slice_get m.conjectures k) s
           shown.values;
     }
@@ -254,7 +255,7 @@ ends_so numbered m g shown (about.Conjecture k) (Some t) (Some (ended s)) path k
     let is = head_met
     (record {
       line = end_line m g + table_count m;
-      code = 6;
+      code = denial.NotBroken;
       met = is_broken (slice_get m.conjectures k) s
           shown.values;
     })
@@ -285,22 +286,22 @@ are_met : (m : ModelTree) (g : PrintedGroup) (shown : Counterexample) (after : O
     → first_unmet (execution_demands m g shown after) ≡ None → AreMet m g shown after
 are_met m g shown after met =
     let o : Option Outcome = outcome_of m shown in
-    let first = head_met (record { line = before_line g; code = 2; met = satisfies shown.structure m.axioms })
-    (record { line = before_line g; code = 3; met = is_kept_before m g.stage shown.structure }
+    let first = head_met (record { line = before_line g; code = denial.AxiomIsFalse; met = satisfies shown.structure m.axioms })
+    (record { line = before_line g; code = denial.ConjectureIsFalse; met = is_kept_before m g.stage shown.structure }
     ∷ outcome_demands m g shown after (outcome_of m shown)) met in
-    let more = tail_met (record { line = before_line g; code = 2; met = satisfies shown.structure m.axioms })
-    (record { line = before_line g; code = 3; met = is_kept_before m g.stage shown.structure }
+    let more = tail_met (record { line = before_line g; code = denial.AxiomIsFalse; met = satisfies shown.structure m.axioms })
+    (record { line = before_line g; code = denial.ConjectureIsFalse; met = is_kept_before m g.stage shown.structure }
     ∷ outcome_demands m g shown after (outcome_of m shown)) met in
-    let second = head_met (record { line = before_line g; code = 3; met = is_kept_before m g.stage shown.structure })
+    let second = head_met (record { line = before_line g; code = denial.ConjectureIsFalse; met = is_kept_before m g.stage shown.structure })
     (outcome_demands m g shown after (outcome_of m shown)) more in
-    let rest = tail_met (record { line = before_line g; code = 3; met = is_kept_before m g.stage shown.structure })
+    let rest = tail_met (record { line = before_line g; code = denial.ConjectureIsFalse; met = is_kept_before m g.stage shown.structure })
     (outcome_demands m g shown after (outcome_of m shown)) more in
     record {
       lawful = first;
       kept = second;
-      through = head_met (record { line = havoc_line m g; code = 4; met = goes_through (outcome_of m shown) })
+      through = head_met (record { line = havoc_line m g; code = denial.Blocked; met = goes_through (outcome_of m shown) })
           (end_demands m g g.about shown after (outcome_of m shown)) rest;
-      last = tail_met (record { line = havoc_line m g; code = 4; met = goes_through (outcome_of m shown) })
+      last = tail_met (record { line = havoc_line m g; code = denial.Blocked; met = goes_through (outcome_of m shown) })
           (end_demands m g g.about shown after (outcome_of m shown)) rest;
     }
 

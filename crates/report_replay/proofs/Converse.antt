@@ -33,6 +33,7 @@ use Rattle.report_replay.specs.Judgements.{verdict_of}
 use Rattle.report_replay.specs.Judging.{CanFollow, CanReplay, or_else}
 use Rattle.report_replay.specs.Laws.{HasSameTables, EndsAs, IsShown, Shows, RightIsConfirmed}
 use Rattle.report_replay.specs.declared.judged.Judged.TheVariants.{Confirmed}
+use Rattle.report_replay.specs.declared.denial.DenialCode.TheVariants as denial
 use Rattle.report_replay.proofs.Unmet.{unmet_append}
 use Rattle.report_replay.proofs.Ready.{can_judge}
 
@@ -90,11 +91,11 @@ module _ (numbered : TuplesAreNumbered) (t s : Tables) where
   tables_are_met m line same =
       both_met (relation_demands t s line 0 (length m.signature.relations))
       (function_demands t s (line + length m.signature.relations) 0 (length m.signature.functions))
-      (each_below (λ r. record { line = line + r; code = 5; met = same_relation t s r }) 0
+      (each_below (λ r. record { line = line + r; code = denial.WrongEnd; met = same_relation t s r }) 0
       (length m.signature.relations) (λ r lt. relation_is_same r (same.relations r (omega (arith, lt)))))
       (each_below (λ f. record {
         line = (line + length m.signature.relations) + f;
-        code = 5;
+        code = denial.WrongEnd;
         met = same_function t s f;
       })
       0 (length m.signature.functions) (λ f lt. function_is_same f (same.functions f (omega (arith, lt)))))
@@ -130,7 +131,7 @@ end_is_met numbered m g shown (about.Conjecture k) (Some t) (Some (ended s)) fai
     both_met (table_demands m t s (end_line m g))
     (record {
       line = end_line m g + table_count m;
-      code = 6;
+      code = denial.NotBroken;
       met = is_broken (slice_get m.conjectures k) s
           shown.values;
     }
@@ -139,7 +140,7 @@ end_is_met numbered m g shown (about.Conjecture k) (Some t) (Some (ended s)) fai
     (first_met
     (record {
       line = end_line m g + table_count m;
-      code = 6;
+      code = denial.NotBroken;
       met = is_broken (slice_get m.conjectures k) s
           shown.values;
     })
@@ -174,12 +175,12 @@ module _ (numbered : TuplesAreNumbered) (m : ModelTree) where
       let lawful : IsLawful m g.stage shown.structure =
       is_lawful m g.stage shown.structure
       (subst (λ x. is_allowed m x shown.structure ≡ true) stage_is is.refutes.allowed) in
-      first_met (record { line = before_line g; code = 2; met = satisfies shown.structure m.axioms })
-      (record { line = before_line g; code = 3; met = is_kept_before m g.stage shown.structure }
+      first_met (record { line = before_line g; code = denial.AxiomIsFalse; met = satisfies shown.structure m.axioms })
+      (record { line = before_line g; code = denial.ConjectureIsFalse; met = is_kept_before m g.stage shown.structure }
       ∷ outcome_demands m g shown after (outcome_of m shown)) lawful.axioms
-      (first_met (record { line = before_line g; code = 3; met = is_kept_before m g.stage shown.structure })
+      (first_met (record { line = before_line g; code = denial.ConjectureIsFalse; met = is_kept_before m g.stage shown.structure })
       (outcome_demands m g shown after (outcome_of m shown)) lawful.conjectures
-      (first_met (record { line = havoc_line m g; code = 4; met = goes_through (outcome_of m shown) })
+      (first_met (record { line = havoc_line m g; code = denial.Blocked; met = goes_through (outcome_of m shown) })
       (end_demands m g g.about shown after (outcome_of m shown)) (through m after (outcome_of m shown) ends)
       (end_is_met numbered m g shown g.about after (outcome_of m shown) fails ends)))
 

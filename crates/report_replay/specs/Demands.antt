@@ -18,11 +18,13 @@ use Rattle.rml_report.specs.ReportText.{outcome_of}
 use Rattle.printed_report.specs.declared.printed.PrintedGroup.{PrintedGroup}
 use Rattle.printed_report.specs.declared.printed.PrintedAnswer.{PrintedAnswer}
 use Rattle.printed_report.specs.declared.printed.PrintedAnswer.TheVariants as answer
+use Rattle.report_replay.specs.declared.denial.DenialCode.{DenialCode}
+use Rattle.report_replay.specs.declared.denial.DenialCode.TheVariants as denial
 
 -- what is asked of a line, the code that says that it is not so, and whether it is
 pub record Demand : Type 0 where
   pub line : ℕ
-  pub code : ℕ
+  pub code : DenialCode
   pub met : Bool
 
 -- how many lines the tables of a structure take
@@ -63,11 +65,11 @@ same_function s t f = all_below (tuple_count s.sizes (function_at s f).sorts) (�
 -- each line of a table behind `after` is that of the path's end
 abbrev pub relation_demands : Tables → Tables → ℕ → ℕ → ℕ → List Demand
 relation_demands s t line k n =
-    map (λ r. record { line = line + r; code = 5; met = same_relation s t r }) (count_from k n)
+    map (λ r. record { line = line + r; code = denial.WrongEnd; met = same_relation s t r }) (count_from k n)
 
 abbrev pub function_demands : Tables → Tables → ℕ → ℕ → ℕ → List Demand
 function_demands s t line k n =
-    map (λ f. record { line = line + f; code = 5; met = same_function s t f }) (count_from k n)
+    map (λ f. record { line = line + f; code = denial.WrongEnd; met = same_function s t f }) (count_from k n)
 
 abbrev pub table_demands : ModelTree → Tables → Tables → ℕ → List Demand
 table_demands m s t line =
@@ -90,21 +92,21 @@ end_demands m g (about.Conjecture k) shown (Some t) (Some (ended s)) =
     table_demands m t s (end_line m g)
     ++ record {
       line = end_line m g + table_count m;
-      code = 6;
+      code = denial.NotBroken;
       met = is_broken (slice_get m.conjectures k) s shown.values;
     } ∷ []
 
 -- what is asked behind the structure: no step is blocked, and the path ends as is said
 abbrev pub outcome_demands : ModelTree → PrintedGroup → Counterexample → Option Tables → Option Outcome → List Demand
 outcome_demands m g shown after outcome =
-    record { line = havoc_line m g; code = 4; met = goes_through outcome }
+    record { line = havoc_line m g; code = denial.Blocked; met = goes_through outcome }
     ∷ end_demands m g g.about shown after outcome
 
 -- The structure is one that induction allows; no step of the path is blocked; and it ends as is said.
 abbrev pub execution_demands : ModelTree → PrintedGroup → Counterexample → Option Tables → List Demand
 execution_demands m g shown after =
-    record { line = before_line g; code = 2; met = satisfies shown.structure m.axioms }
-    ∷ record { line = before_line g; code = 3; met = is_kept_before m g.stage shown.structure }
+    record { line = before_line g; code = denial.AxiomIsFalse; met = satisfies shown.structure m.axioms }
+    ∷ record { line = before_line g; code = denial.ConjectureIsFalse; met = is_kept_before m g.stage shown.structure }
     ∷ outcome_demands m g shown after (outcome_of m shown)
 
 abbrev pub answer_demands : ModelTree → PrintedGroup → PrintedAnswer → List Demand

@@ -14,6 +14,7 @@ use Rattle.report_replay.specs.Demands.{Demand, table_count, group_demands}
 use Rattle.report_replay.specs.declared.judged.Fault.{Fault}
 use Rattle.report_replay.specs.declared.judged.Judged.{Judged}
 use Rattle.report_replay.specs.declared.judged.Judged.TheVariants.{Confirmed, Denied}
+use Rattle.report_replay.specs.declared.denial.DenialCode.TheVariants as denial
 
 abbrev pub first_unmet : List Demand → Option Fault
 first_unmet [] = None
@@ -73,7 +74,7 @@ line_behind m n (g ∷ gs) = line_behind m (g.line + height m g.about g.answer) 
 abbrev pub verdict_demand : ModelTree → Printed → Demand
 verdict_demand m p = record {
   line = line_behind m 2 p.groups;
-  code = 7;
+  code = denial.WrongVerdict;
   met = same_verdict p.verdict (verdict_of p.groups);
 }
 

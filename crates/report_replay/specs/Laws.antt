@@ -14,8 +14,10 @@ use Rattle.printed_report.specs.PrintedReports.{IsPrinted, IsRead}
 use Rattle.printed_report.specs.declared.printed.Printed.{Printed}
 use Rattle.printed_report.specs.declared.printed.PrintedAnswer.{PrintedAnswer}
 use Rattle.printed_report.specs.declared.printed.PrintedAnswer.TheVariants as answer
+use Rattle.report_replay.specs.DenialCodes.{number_of}
 use Rattle.report_replay.specs.Demands.{Demand}
 use Rattle.report_replay.specs.Judgements.{judgement, demands, verdict_demand, executions, verdict_of}
+use Rattle.report_replay.specs.declared.denial.DenialCode.{DenialCode}
 use Rattle.report_replay.specs.declared.judged.Judged.TheVariants.{Confirmed, Denied}
 
 -- the tables are the same
@@ -52,23 +54,24 @@ abbrev pub RightIsConfirmed : Type 0
 RightIsConfirmed = (m : ModelTree) (p : Printed) (n : ℕ) → IsRead m p → IsConfirmed m p n → judgement m p ≡ Confirmed n
 
 -- the demand is not met, and has this line and code
-pub record IsBroken (line code : ℕ) (d : Demand) : Type 0 where
+pub record IsBroken (line : ℕ) (code : DenialCode) (d : Demand) : Type 0 where
   pub unmet : d.met ≡ false
   pub line_is : d.line ≡ line
   pub code_is : d.code ≡ code
 
 -- a demand that is not met has a later line, or this line and no smaller code
-pub record IsNotBefore (line code : ℕ) (d : Demand) : Type 0 where
+pub record IsNotBefore (line : ℕ) (code : DenialCode) (d : Demand) : Type 0 where
   pub behind : d.met ≡ false → line ≤ d.line
-  pub same_line : d.met ≡ false → d.line ≡ line → code ≤ d.code
+  pub same_line : d.met ≡ false → d.line ≡ line → number_of code ≤ number_of d.code
 
 -- The demand of this line and code is not met, and none before it, by lines and on a line by codes.
-pub record IsFirstBroken (ds : List Demand) (line code : ℕ) : Type 0 where
+pub record IsFirstBroken (ds : List Demand) (line : ℕ) (code : DenialCode) : Type 0 where
   pub broken : SomeOf (IsBroken line code) ds
   pub least : AllByRecursion (IsNotBefore line code) ds
 
 abbrev pub DeniedIsLeast : Type 0
-DeniedIsLeast = (m : ModelTree) (p : Printed) (line code : ℕ) → IsRead m p → judgement m p ≡ Denied line code
+DeniedIsLeast = (m : ModelTree) (p : Printed) (line : ℕ) (code : DenialCode) → IsRead m p
+    → judgement m p ≡ Denied line code
     → IsFirstBroken (demands m p) line code
 
 -- the verdict is asked of the last line

@@ -14,7 +14,9 @@ ghost use Rattle.fol_formula.specs.Syntax.{FormTree};
 ghost use Rattle.rml_command.specs.Outcomes.{ended};
 ghost use Rattle.report_replay.specs.Judgements.{first_unmet};
 ghost use Rattle.report_replay.specs.Judging.{CanReplay, AreAlike, EndIsAlike};
+ghost use Rattle.report_replay.specs.declared.denial.DenialCode.TheVariants as denial;
 
+use crate::denial::DenialCode;
 use crate::ends::table_fault;
 use crate::judged::Fault;
 use crate::truths::{are_true, is_body_true};
@@ -41,14 +43,20 @@ fn is_kept_before(checked: &Checked, stage: Stage, structure: &Structure) -> boo
 fn fault_before(checked: &Checked, stage: Stage, structure: &Structure, line: u64) -> Option<Fault>
     requires { FitsStructure (symbols checked.now.signature) structure.now }
     ensures { result ≡ first_unmet (
-        record { line = line; code = 2; met = satisfies structure.now checked.now.axioms }
-        ∷ record { line = line; code = 3; met = is_kept_before checked.now stage structure.now } ∷ []) }
+        record { line = line; code = denial.AxiomIsFalse; met = satisfies structure.now checked.now.axioms }
+        ∷ record { line = line; code = denial.ConjectureIsFalse; met = is_kept_before checked.now stage structure.now } ∷ []) }
 {
     if !are_true(checked.model().axioms(), structure) {
-        return Some(Fault { line, code: 2 });
+        return Some(Fault {
+            line,
+            code: DenialCode::AxiomIsFalse,
+        });
     }
     if !is_kept_before(checked, stage, structure) {
-        return Some(Fault { line, code: 3 });
+        return Some(Fault {
+            line,
+            code: DenialCode::ConjectureIsFalse,
+        });
     }
     None
 }
@@ -91,7 +99,10 @@ fn conjecture_fault(
         return Ok(None);
     }
     let line = line + count;
-    Ok(Some(Fault { line, code: 6 }))
+    Ok(Some(Fault {
+        line,
+        code: DenialCode::NotBroken,
+    }))
 }
 
 // What is wrong with an end.
@@ -171,7 +182,10 @@ fn outcome_fault(
     match followed {
         Followed::Blocked => {
             let line = havoc_line(checked, group);
-            Ok(Some(Fault { line, code: 4 }))
+            Ok(Some(Fault {
+                line,
+                code: DenialCode::Blocked,
+            }))
         }
         Followed::Aborted => Ok(None),
         Followed::Ended(end) => {

@@ -6,6 +6,7 @@ ghost use Rattle.report_replay.specs.Demands.{group_demands};
 ghost use Rattle.report_replay.specs.Judgements.{first_unmet, verdict_demand, demands, judgement};
 ghost use Rattle.report_replay.specs.Judging.{CanReplay};
 
+use crate::denial::DenialCode;
 use crate::faults::group_fault;
 use crate::judged::{Fault, Judged};
 use crate::verdicts::{executions, is_verdict_of, verdict_line};
@@ -37,7 +38,10 @@ fn verdict_fault(checked: &Checked, printed: &Printed) -> Option<Fault>
         return None;
     }
     let line = verdict_line(checked, groups);
-    Some(Fault { line, code: 7 })
+    Some(Fault {
+        line,
+        code: DenialCode::WrongVerdict,
+    })
 }
 
 // The first line that is wrong, and why.

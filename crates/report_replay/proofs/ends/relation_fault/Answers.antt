@@ -1,5 +1,6 @@
 use Rattle.std.proofs.Common.{◌≡◌, ◌+◌, true, false, sym, ◌∙◌}
 use Rattle.report_replay.specs.Demands.{same_relation}
+use Rattle.report_replay.specs.declared.denial.DenialCode.TheVariants as denial
 use Rattle.report_replay.proofs.Unmet.{unmet_here, unmet_met}
 use Rattle.report_replay.proofs.ends.relation_fault.Goals as goal
 
@@ -9,7 +10,7 @@ returns-then-not-same c =
     c.in_ok-same.ensures in
     let met : c.in_ok-same.same ≡ false = c.if-not-same.true in
     unmet_here
-    (λ r. record { line = c.args.line + r; code = 5; met = same_relation c.args.after.now c.args.end.now r })
+    (λ r. record { line = c.args.line + r; code = denial.WrongEnd; met = same_relation c.args.after.now c.args.end.now r })
     c.loop-rel.rel c.relation_count-count.result _ c.loop-rel-test.true (sym told ∙ met)
     c.loop-rel.invariant.first
 
@@ -21,7 +22,7 @@ loop-rel-preserved c =
     record {
       count = c.loop-rel.invariant.count;
       first = unmet_met
-          (λ r. record { line = c.args.line + r; code = 5; met = same_relation c.args.after.now c.args.end.now r })
+          (λ r. record { line = c.args.line + r; code = denial.WrongEnd; met = same_relation c.args.after.now c.args.end.now r })
           c.loop-rel.rel c.relation_count-count.result _ c.loop-rel-test.true (sym told ∙ met)
           c.loop-rel.invariant.first;
     }

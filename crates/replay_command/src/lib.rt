@@ -1,0 +1,8 @@
+//! `replay MODEL REPORT`: a report that anybody printed is judged again, against the text of its model. The report is
+//! read line by line, and its executions are followed; what it shows is believed for no other reason. Neither a solver
+//! nor a precondition stands below.
+#![tactic(auto)]
+
+mod replay;
+
+pub use replay::{Replay, ReplayAnswer};
