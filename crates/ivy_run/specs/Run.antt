@@ -4,7 +4,7 @@ use Rattle.rml_bytes.specs.declared.outside.LoadError.{LoadError}
 use Rattle.rml_bytes.specs.Outside.{Told}
 use Rattle.commands.specs.Ends.{EndsNone, EndsOne, EndsTwo}
 use Rattle.commands.specs.Due.{Due, stop_due}
-use Rattle.command_line.specs.Lines.{Line, check, houdini, bmc, lrat, emit, sample}
+use Rattle.command_line.specs.Lines.{Line, check, houdini, bmc, lrat, replay, emit, sample}
 use Rattle.command_line.specs.declared.request.Asked.{Asked}
 use Rattle.command_line.specs.declared.request.Bound.{Bound}
 use Rattle.command_line.specs.declared.request.Emission.{Emission}
@@ -17,6 +17,8 @@ use Rattle.clause_commands.specs.Emit.{IsEmitAnswer, emit_due}
 use Rattle.model_commands.specs.Houdini.{IsHoudiniAnswer, houdini_due}
 use Rattle.model_commands.specs.Bmc.{IsBmcAnswer, bmc_due}
 use Rattle.model_commands.specs.Sample.{IsSampleAnswer, sample_due}
+use Rattle.replay_command.specs.Replay.{IsReplayAnswer, report_limit, replay_due}
+use Rattle.replay_command.specs.declared.replay.ReplayAnswer.{ReplayAnswer}
 use Rattle.model_commands.specs.declared.check.CheckAnswer.{CheckAnswer}
 use Rattle.clause_commands.specs.declared.lrat.LratAnswer.{LratAnswer}
 use Rattle.clause_commands.specs.declared.emit.EmitAnswer.{EmitAnswer}
@@ -55,6 +57,11 @@ abbrev pub OfBmc : (BmcAnswer → Type 0) → Answer → Type 0
 OfBmc P (answer.Bmc a) = P a
 OfBmc P _ = ⊥
 
+-- an answer of `replay` of which P holds
+abbrev pub OfReplay : (ReplayAnswer → Type 0) → Answer → Type 0
+OfReplay P (answer.Replay a) = P a
+OfReplay P _ = ⊥
+
 -- an answer of `sample` of which P holds
 abbrev pub OfSample : (SampleAnswer → Type 0) → Answer → Type 0
 OfSample P (answer.Sample a) = P a
@@ -79,6 +86,9 @@ pub record Does (line : Option Line) (told : List ℕ → Told) (before now : �
       (λ text other a. OfHoudini (IsHoudiniAnswer (ceilings_of asked) text) a) end
   pub of_bmc : (file : List ℕ) (bound : Bound) → line ≡ Some (bmc file bound)
       → EndsOne (told file) model_limit before now first second (λ text other a. OfBmc (IsBmcAnswer bound text) a) end
+  pub of_replay : (model report : List ℕ) → line ≡ Some (replay model report)
+      → EndsTwo (told model) (told report) model_limit report_limit before now first second
+      (λ text other a. OfReplay (IsReplayAnswer text other) a) end
   pub of_sample : (n : ℕ) → line ≡ Some (sample n)
       → EndsNone before now first second (λ text other a. OfSample (IsSampleAnswer n) a) end
 
@@ -99,6 +109,7 @@ answer_due line first second (answer.Lrat a) = lrat_due first second a
 answer_due line first second (answer.Emit a) = emit_due (emitted_goal line) first a
 answer_due line first second (answer.Houdini a) = houdini_due first a
 answer_due line first second (answer.Bmc a) = bmc_due first a
+answer_due line first second (answer.Replay a) = replay_due first a
 answer_due line first second (answer.Sample a) = sample_due (sample_size line) a
 
 -- what is due, by the command line, the texts and the outcome

@@ -1,6 +1,6 @@
 // From the words to the answer with its text.
 ghost use Rattle.std.specs.Prelude.{◌≡◌, ◌≤◌, ℕ, List, [], Some, None, map, string_bytes};
-ghost use Rattle.command_line.specs.Lines.{check, houdini, bmc, lrat, emit, sample, line_of, request_line};
+ghost use Rattle.command_line.specs.Lines.{check, houdini, bmc, lrat, replay, emit, sample, line_of, request_line};
 ghost use Rattle.command_line.specs.Asking.{IsInRange, HasRanges};
 ghost use Rattle.commands.specs.Ends.{EndsNone};
 ghost use Rattle.commands.specs.Done.{due_in, outcome_in};
@@ -13,12 +13,14 @@ use clause_commands::{Emit, Lrat};
 use command_line::{Asked, Bound, Emission, Request, read_words};
 use commands::{Done, no_file, one_file, two_files};
 use model_commands::{Bmc, Check, Houdini, Sample};
+use replay_command::Replay;
 use rml_bytes::{Files, LoadError};
 use std::alloc::Global;
 
 const MODEL_LIMIT: u64 = 1048576;
 
-const CLAUSE_LIMIT: u64 = 268435456;
+// Of a formula, a log and a report.
+const LONG_LIMIT: u64 = 268435456;
 
 // `check FILE`.
 fn perform_check<F: Files>(
@@ -62,18 +64,46 @@ fn perform_lrat<F: Files>(
         first.new.items second.new.items (outcome_in result) }
 {
     match two_files(
-        &Lrat,
-        alloc,
-        files,
-        formula,
-        CLAUSE_LIMIT,
-        first,
-        log,
-        CLAUSE_LIMIT,
-        second,
+        &Lrat, alloc, files, formula, LONG_LIMIT, first, log, LONG_LIMIT, second,
     ) {
         Ok(done) => Ok(Done {
             answer: Answer::Lrat(done.answer),
+            said: done.said,
+        }),
+        Err(why) => Err(why),
+    }
+}
+
+// `replay MODEL REPORT`.
+fn perform_replay<F: Files>(
+    alloc: Global,
+    model: &str,
+    report: &str,
+    files: &mut F,
+    first: &mut Vec<u8>,
+    second: &mut Vec<u8>,
+) -> Result<Done<Answer>, LoadError>
+    requires first { first.old.items ≡ [] }
+    requires second { second.old.items ≡ [] }
+    ensures same { (n : List ℕ) → F.told files.new n ≡ F.told files.old n }
+    ensures due { due_in result ≡ due_of (Some (replay model.now report.now)) first.new.items second.new.items
+        (outcome_in result) }
+    ensures does { Does (Some (replay model.now report.now)) (F.told files.old) (F.faults files.old)
+        (F.faults files.new) first.new.items second.new.items (outcome_in result) }
+{
+    match two_files(
+        &Replay,
+        alloc,
+        files,
+        model,
+        MODEL_LIMIT,
+        first,
+        report,
+        LONG_LIMIT,
+        second,
+    ) {
+        Ok(done) => Ok(Done {
+            answer: Answer::Replay(done.answer),
             said: done.said,
         }),
         Err(why) => Err(why),
@@ -191,6 +221,9 @@ fn perform<F: Files>(
         Request::Houdini(file, asked) => perform_houdini(alloc, file, asked, files, first),
         Request::Bmc(file, bound) => perform_bmc(alloc, file, bound, files, first),
         Request::Lrat(formula, log) => perform_lrat(alloc, formula, log, files, first, second),
+        Request::Replay(model, report) => perform_replay(
+            alloc, model, report, files, first, second,
+        ),
         Request::Emit(file, emission) => perform_emit(alloc, file, emission, files, first),
         Request::Sample(number) => perform_sample(alloc, number),
     }

@@ -1,6 +1,6 @@
 // The top call: from the words and the files to the sinks and the status.
 ghost use Rattle.std.specs.Prelude.{◌≡◌, ℕ, List, Some, None, map, string_bytes};
-ghost use Rattle.command_line.specs.Lines.{line_of, check, houdini, bmc, lrat, emit, sample};
+ghost use Rattle.command_line.specs.Lines.{line_of, check, houdini, bmc, lrat, replay, emit, sample};
 ghost use Rattle.command_line.specs.declared.request.Asked.{Asked};
 ghost use Rattle.command_line.specs.declared.request.Bound.{Bound};
 ghost use Rattle.command_line.specs.declared.request.Emission.{Emission};
@@ -14,7 +14,8 @@ ghost use Rattle.clause_commands.specs.Emit.{IsEmitAnswer};
 ghost use Rattle.model_commands.specs.Houdini.{IsHoudiniAnswer};
 ghost use Rattle.model_commands.specs.Bmc.{IsBmcAnswer};
 ghost use Rattle.model_commands.specs.Sample.{IsSampleAnswer};
-ghost use Rattle.ivy_run.specs.Run.{IsUsage, OfCheck, OfLrat, OfEmit, OfHoudini, OfBmc, OfSample, due_of};
+ghost use Rattle.replay_command.specs.Replay.{IsReplayAnswer, report_limit};
+ghost use Rattle.ivy_run.specs.Run.{IsUsage, OfCheck, OfLrat, OfEmit, OfHoudini, OfBmc, OfReplay, OfSample, due_of};
 
 use crate::ended::{Ended, Loaded};
 use crate::perform::work;
@@ -82,6 +83,16 @@ pub fn run<F: Files, O: Sink, E: Sink>(
         → EndsOne (F.told files.old file) model_limit (F.faults files.old) (F.faults files.new)
         result.loaded.first result.loaded.second
         (λ text other a. OfBmc (IsBmcAnswer bound text) a) result.outcome }
+
+    // `replay MODEL REPORT`: of the model that the first text has, the second is no printed report, and the first line is
+    // named that none has there; or it says one thing, and this is judged by truth and by following its executions. It
+    // is confirmed exactly where each execution that it shows is a counterexample of its goal and ends as is printed,
+    // and the verdict is that of its groups; else the least line is named that says what is not so.
+    ensures replay { (model report : List ℕ)
+        → line_of (map (λ w. string_bytes w) words.now) ≡ Some (replay model report)
+        → EndsTwo (F.told files.old model) (F.told files.old report) model_limit report_limit
+        (F.faults files.old) (F.faults files.new) result.loaded.first result.loaded.second
+        (λ text other a. OfReplay (IsReplayAnswer text other) a) result.outcome }
 
     // `sample N`: the report on the model of the sample text, under the limits of a `check` without options.
     ensures sample { (n : ℕ)

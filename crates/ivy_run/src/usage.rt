@@ -23,7 +23,8 @@ impl Command for Usage {
 
     fn say(&self, alloc: Global, first: &[u8], second: &[u8], answer: &()) -> Mem<Said> {
         let line =
-            "usage: ivycheck check FILE, emit FILE GOAL cnf|lrat, lrat CNF LOG, bmc FILE, houdini FILE, or sample N\n";
+            "usage: ivycheck check FILE, emit FILE GOAL cnf|lrat, lrat CNF LOG, bmc FILE, houdini FILE, \
+                    replay MODEL REPORT, or sample N\n";
         let text = line.as_bytes().to_vec(alloc)?;
         Ok(complaint(text, 2))
     }

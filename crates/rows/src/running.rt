@@ -7,6 +7,7 @@ use clause_commands::{EmitAnswer, Emitted, LratAnswer};
 use commands::Written;
 use ivy_run::{Answer, Ended, run};
 use model_commands::{BmcAnswer, CheckAnswer, HoudiniAnswer};
+use replay_command::ReplayAnswer;
 use rml_bytes::{Bytes, DiskFiles, FileName, Files, LoadError, MemFiles, MemSink};
 use row_files::{Parsed, Row, Stream, Text};
 use std::alloc::Global;
@@ -173,6 +174,14 @@ fn name_of_bmc(answer: &BmcAnswer) -> &'static str {
     }
 }
 
+fn name_of_replay(answer: &ReplayAnswer) -> &'static str {
+    match answer {
+        ReplayAnswer::Replayed(_) => "replayed",
+        ReplayAnswer::Unread(_) => "unread",
+        ReplayAnswer::Fault(_) => "fault",
+    }
+}
+
 fn name_of(outcome: &Result<Answer, LoadError>) -> &'static str {
     match outcome {
         Ok(Answer::Usage) => "usage",
@@ -181,6 +190,7 @@ fn name_of(outcome: &Result<Answer, LoadError>) -> &'static str {
         Ok(Answer::Emit(answer)) => name_of_emit(answer),
         Ok(Answer::Houdini(answer)) => name_of_houdini(answer),
         Ok(Answer::Bmc(answer)) => name_of_bmc(answer),
+        Ok(Answer::Replay(answer)) => name_of_replay(answer),
         Ok(Answer::Sample(_)) => "sampled",
         Err(LoadError::TooLong) => "too long",
         Err(LoadError::Failed) => "read fault",
@@ -195,6 +205,7 @@ fn stands_in_text(ended: &Ended) -> bool {
         Ok(Answer::Emit(EmitAnswer::Fault(fault))) => fault.at <= first,
         Ok(Answer::Houdini(HoudiniAnswer::Fault(fault))) => fault.at <= first,
         Ok(Answer::Bmc(BmcAnswer::Fault(fault))) => fault.at <= first,
+        Ok(Answer::Replay(ReplayAnswer::Fault(fault))) => fault.at <= first,
         Ok(Answer::Lrat(LratAnswer::CnfFault(fault))) => fault.at <= first,
         Ok(Answer::Lrat(LratAnswer::LogFault(fault))) => {
             fault.at <= ended.loaded.second.len() as u64
