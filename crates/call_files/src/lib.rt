@@ -1,9 +1,10 @@
 //! Files of inputs, one a line, that are given to a call, and what it answers: for the programs that show what the
-//! libraries' public calls answer.
+//! libraries' public calls answer. How such a program ends stands here, too.
 #![tactic(auto)]
 
 use base::Mem;
 use std::alloc::Global;
+use std::process::ExitCode;
 use std::{fs, io};
 
 /// What the inputs of a file are given to.
@@ -41,4 +42,15 @@ pub fn tell<C: Call>(rt: HostRuntime, alloc: Global, file: &str) -> io::Result<(
         println!(&rt; "> {line}\n  {answer}")?;
     }
     Ok(())
+}
+
+/// The status of a program that told what it had to, or else the line that says so.
+pub fn status_of(rt: HostRuntime, told: io::Result<()>) -> ExitCode {
+    match told {
+        Ok(()) => ExitCode::SUCCESS,
+        Err(_) => {
+            let _ = eprintln!(&rt; "a file can't be read, or the memory or the output fails");
+            ExitCode::FAILURE
+        }
+    }
 }

@@ -1,4 +1,4 @@
-// A goal as a line writes it: `BLOCK PATH WHAT FILE`. A block is `init`, `final` or an action's number from 0, what is
+// A goal as a line writes it: `BLOCK PATH WHAT`. A block is `init`, `final` or an action's number from 0, what is
 // forbidden is `abort` or the end of a conjecture's number from 0.
 ghost use Rattle.std.specs.Prelude.{IfSome, IsTrue};
 ghost use Rattle.rml_command.specs.Goals.{HasAbout, IsGoal};
@@ -24,17 +24,15 @@ fn about_of(word: &str) -> About {
     }
 }
 
-/// The goal that a line names, and the file of its model.
-pub fn parts_of(line: &str) -> (Goal, &str) {
-    let (block, rest) = line.split_once(' ').unwrap_or((line, ""));
-    let (path, rest) = rest.split_once(' ').unwrap_or((rest, ""));
-    let (about, file) = rest.split_once(' ').unwrap_or((rest, ""));
-    let goal = Goal {
+/// The goal that the words of a line name.
+pub fn goal_named(words: &str) -> Goal {
+    let (block, rest) = words.split_once(' ').unwrap_or((words, ""));
+    let (path, about) = rest.split_once(' ').unwrap_or((rest, ""));
+    Goal {
         stage: stage_of(block),
         path: number_of(path),
         about: about_of(about),
-    };
-    (goal, file)
+    }
 }
 
 fn has_about(checked: &Checked, goal: Goal) -> bool

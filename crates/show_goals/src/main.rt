@@ -13,58 +13,27 @@ mod goals;
 mod ground;
 mod sentences;
 
-use base::{Mem, Refused};
-use goals::{goal_of, parts_of};
-use rml_command::{Checked, Goal};
-use rml_front::read_model;
+use base::Mem;
+use call_files::status_of;
+use call_models::{ModelCall, tell};
+use goals::{goal_named, goal_of};
+use rml_command::Checked;
 use sentences::sentences_of;
-use std::alloc::{AllocError, Global};
+use std::alloc::Global;
 use std::process::ExitCode;
-use std::{fs, io};
 
-// What is said of a goal, if the model has it.
-fn told(alloc: Global, checked: &Checked, goal: Goal) -> Mem<String> {
-    match goal_of(checked, goal) {
-        Some(goal) => sentences_of(alloc, checked, &goal),
-        None => String::from_str(alloc, "no goal of this model"),
-    }
-}
+/// What is said of a goal, if the model has it.
+struct GoalSentences;
 
-fn answer_of(alloc: Global, goal: Goal, model: &[u8]) -> Mem<String> {
-    match read_model(alloc, model) {
-        Ok(checked) => {
-            let answer = told(alloc, &checked, goal);
-            drop(checked);
-            answer
+impl ModelCall for GoalSentences {
+    fn answer(alloc: Global, words: &str, model: &Checked) -> Mem<String> {
+        match goal_of(model, goal_named(words)) {
+            Some(goal) => sentences_of(alloc, model, &goal),
+            None => String::from_str(alloc, "no goal of this model"),
         }
-        Err(Refused::For(_)) => String::from_str(alloc, "a fault of the model"),
-        Err(Refused::NoMemory) => Err(AllocError),
     }
-}
-
-fn tell_line(rt: HostRuntime, alloc: Global, line: &str) -> io::Result<()> {
-    let (goal, file) = parts_of(line);
-    let model = fs::read(&rt, file)?;
-    let answer = answer_of(alloc, goal, &model)?;
-    let answer = answer.as_str();
-    println!(&rt; "{line}\n  {answer}")
-}
-
-fn tell_all(rt: HostRuntime) -> io::Result<()> {
-    let alloc = rt.alloc();
-    let text = fs::read_to_string(&rt, "goals.txt")?;
-    for line in text.as_str().lines() {
-        tell_line(rt, alloc, line)?;
-    }
-    Ok(())
 }
 
 fn main(rt: HostRuntime) -> ExitCode {
-    match tell_all(rt) {
-        Ok(()) => ExitCode::SUCCESS,
-        Err(_) => {
-            let _ = eprintln!(&rt; "a file can't be read, or the memory or the output fails");
-            ExitCode::FAILURE
-        }
-    }
+    status_of(rt, tell::<GoalSentences>(rt, rt.alloc(), "goals.txt"))
 }

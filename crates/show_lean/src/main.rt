@@ -9,72 +9,43 @@
 
 mod telling;
 
-use base::{Mem, Refused};
+use base::Mem;
+use call_files::status_of;
+use call_models::{ModelCall, limits_with, tell};
 use lrat_log::Limits;
 use rml_command::Checked;
-use rml_front::read_model;
-use std::alloc::{AllocError, Global};
+use std::alloc::Global;
 use std::process::ExitCode;
-use std::{fs, io};
 use telling::told;
 use verdicts::{lean_report, report};
 
-// The limits of `check`, but for that of the ground size.
-fn limits_of(word: &str) -> Limits {
-    let ground_size = word.parse::<u64>().unwrap_or(2000000);
-    Limits {
-        terms: 400,
-        ground_size: ground_size.max(1).min(50000000),
-        conflicts: 100000,
+fn whole_told(alloc: Global, model: &Checked, limits: &Limits) -> Mem<String> {
+    let report = report(alloc, model, limits)?;
+    let told = told(alloc, &report);
+    drop(report);
+    told
+}
+
+fn lean_told(alloc: Global, model: &Checked, limits: &Limits) -> Mem<String> {
+    let report = lean_report(alloc, model, limits)?;
+    let told = told(alloc, &report);
+    drop(report);
+    told
+}
+
+/// By whole counts, and by lean ones.
+struct Reports;
+
+impl ModelCall for Reports {
+    fn answer(alloc: Global, words: &str, model: &Checked) -> Mem<String> {
+        let limits = limits_with(words);
+        let whole = whole_told(alloc, model, &limits)?;
+        let lean = lean_told(alloc, model, &limits)?;
+        let (whole, lean) = (whole.as_str(), lean.as_str());
+        format!(in alloc; "whole: {whole}\n  lean: {lean}")
     }
-}
-
-// By whole counts, and by lean ones.
-fn both_told(alloc: Global, checked: &Checked, limits: &Limits) -> Mem<String> {
-    let whole = report(alloc, checked, limits)?;
-    let whole = told(alloc, &whole)?;
-    let lean = lean_report(alloc, checked, limits)?;
-    let lean = told(alloc, &lean)?;
-    let whole = whole.as_str();
-    let lean = lean.as_str();
-    format!(in alloc; "whole: {whole}\n  lean: {lean}")
-}
-
-fn answer_of(alloc: Global, limits: &Limits, model: &[u8]) -> Mem<String> {
-    match read_model(alloc, model) {
-        Ok(checked) => {
-            let answer = both_told(alloc, &checked, limits);
-            drop(checked);
-            answer
-        }
-        Err(Refused::For(_)) => String::from_str(alloc, "a fault of the model"),
-        Err(Refused::NoMemory) => Err(AllocError),
-    }
-}
-
-fn tell_line(rt: HostRuntime, alloc: Global, line: &str) -> io::Result<()> {
-    let (ground, file) = line.split_once(' ').unwrap_or((line, ""));
-    let model = fs::read(&rt, file)?;
-    let answer = answer_of(alloc, &limits_of(ground), &model)?;
-    let answer = answer.as_str();
-    println!(&rt; "{line}\n  {answer}")
-}
-
-fn tell_all(rt: HostRuntime) -> io::Result<()> {
-    let alloc = rt.alloc();
-    let text = fs::read_to_string(&rt, "lean.txt")?;
-    for line in text.as_str().lines() {
-        tell_line(rt, alloc, line)?;
-    }
-    Ok(())
 }
 
 fn main(rt: HostRuntime) -> ExitCode {
-    match tell_all(rt) {
-        Ok(()) => ExitCode::SUCCESS,
-        Err(_) => {
-            let _ = eprintln!(&rt; "a file can't be read, or the memory or the output fails");
-            ExitCode::FAILURE
-        }
-    }
+    status_of(rt, tell::<Reports>(rt, rt.alloc(), "lean.txt"))
 }

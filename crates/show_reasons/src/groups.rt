@@ -16,6 +16,15 @@ fn conjecture_count(checked: &Checked) -> u32
     checked.model().conjectures().len() as u32
 }
 
+// The first line stands behind two blanks already.
+fn begin_line(out: &mut Vec<u8>) -> Mem<()> {
+    if out.is_empty() {
+        Ok(())
+    } else {
+        push_text(out, "\n  ")
+    }
+}
+
 fn push_group(
     alloc: Global,
     out: &mut Vec<u8>,
@@ -27,7 +36,7 @@ fn push_group(
     requires { HasAbout checked.now stage about }
 {
     let names = checked.model().names();
-    push_text(out, "\n  ")?;
+    begin_line(out)?;
     push_head(out, names, stage, about)?;
     let carried = carried_by(alloc, checked, stage, about, limits)?;
     let pushed = push_carried(out, names, &carried);
@@ -54,7 +63,7 @@ fn push_stage(
     Ok(())
 }
 
-/// What carries each group, a group behind a line feed.
+/// What carries each group, on lines of its own.
 pub fn told(alloc: Global, checked: &Checked, limits: &Limits) -> Mem<Vec<u8>> {
     let mut out = Vec::new(alloc);
     push_stage(alloc, &mut out, checked, Stage::Init, limits)?;

@@ -9,7 +9,7 @@ mod models;
 mod normal_forms;
 mod paths;
 
-use call_files::tell;
+use call_files::{status_of, tell};
 use fragments::Fragments;
 use normal_forms::NormalForms;
 use paths::BlockPaths;
@@ -24,11 +24,5 @@ fn tell_all(rt: HostRuntime) -> io::Result<()> {
 }
 
 fn main(rt: HostRuntime) -> ExitCode {
-    match tell_all(rt) {
-        Ok(()) => ExitCode::SUCCESS,
-        Err(_) => {
-            let _ = eprintln!(&rt; "a file can't be read, or the memory or the output fails");
-            ExitCode::FAILURE
-        }
-    }
+    status_of(rt, tell_all(rt))
 }
