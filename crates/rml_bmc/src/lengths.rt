@@ -197,15 +197,7 @@ fn decide_walks(
         let legs = walk_of_number(alloc, &places, number)?;
         let walk = legs.as_slice();
         let known = look_at(alloc, checked, walk, limits, infeasible)?;
-        let turn = decide_goals(
-            alloc,
-            checked,
-            walk,
-            ends.as_slice(),
-            known,
-            limits,
-            now,
-        )?;
+        let turn = decide_goals(alloc, checked, walk, ends.as_slice(), known, limits, now)?;
         match turn {
             Turn::On(next) => now = next,
             Turn::Met(run) => return Ok(Length::Broken(run)),
