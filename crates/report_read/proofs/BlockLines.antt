@@ -51,7 +51,7 @@ use Rattle.report_read.proofs.SizeLines.{few_elements}
 use Rattle.report_read.proofs.TableParts.{AreTables, tables_part}
 
 -- the sorts of havocs and of leading quantifiers are sorts
-havocs_known : (sig : Symbols) (p : List PrimitiveTree) → FitsPath sig p
+pub havocs_known : (sig : Symbols) (p : List PrimitiveTree) → FitsPath sig p
     → AllByRecursion (λ k. k < sig.sorts) (havoc_sorts sig p)
 havocs_known sig [] fits = tt
 havocs_known sig (assume f ∷ qs) fits = havocs_known sig qs fits.1
@@ -73,11 +73,7 @@ about_known m stage.Init k has = has
 about_known m (stage.Action a) k has = has
 about_known m stage.Final k has = absurd has
 
-pub record Known (m : ModelTree) (k : ℕ) : Type 0 where
-  pub sentence : FormTree
-  pub is : slice_get m.conjectures k ≡ Some sentence
-
-get_known : (cs : List FormTree) (k : ℕ) → k < length cs → (c : FormTree) × (slice_get cs k ≡ Some c)
+pub get_known : (cs : List FormTree) (k : ℕ) → k < length cs → (c : FormTree) × (slice_get cs k ≡ Some c)
 get_known [] k lt = absurd (omega (arith, lt))
 get_known (c ∷ cs) zero lt = (c, refl)
 get_known (c ∷ cs) (suc k) lt = get_known cs k (omega (arith, lt))

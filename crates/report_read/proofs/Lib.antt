@@ -11,3 +11,5 @@ mod Fitting
 mod TableParts
 mod BlockLines
 mod GroupLines
+mod Lengths
+mod Turns

@@ -159,6 +159,10 @@ tuples_from sizes ks k n = map (tuple_at sizes ks) (count_from k n)
 abbrev pub all_tuples : List ℕ → List ℕ → List (List ℕ)
 all_tuples sizes ks = tuples_from sizes ks 0 (tuple_count sizes ks)
 
+-- whether a tuple stands in front, and what is left behind it
+abbrev pub tuple_in : List ℕ → List ℕ → Bool × List ℕ
+tuple_in xs bs = choose (behind (tuple_text xs) bs) (λ a. (true, a)) (false, bs)
+
 -- whether each tuple stands there, behind what was read, and the end
 abbrev pub truths_end : List (List ℕ) → List Bool → List ℕ → Option (List Bool)
 truths_end [] done bs = if is_end bs then Some done else None

@@ -214,6 +214,14 @@ read_nothing x left = ended x left.lines left.number
 abbrev pub read_all : ModelTree → LinesLeft → Got Printed
 read_all m left = and_then (read_lines m left) read_nothing
 
+-- a text is read to this end: what it says, or the number of the line that can't stand there
+abbrev pub ReadsText : ModelTree → List (List ℕ) → Result Printed (Refused Unread) → Type 0
+ReadsText m lines (Ok p) = (rest : LinesLeft) × (read_all m (record { lines = lines; number = 1 }) ≡ got p rest)
+ReadsText m lines (Err (For unread)) =
+    (rest : LinesLeft) × (read_all m (record { lines = lines; number = 1 }) ≡ stuck rest)
+    × (unread.line ≡ rest.number)
+ReadsText m lines (Err NoMemory) = Unit {0}
+
 -- sizes of the model's sorts
 pub record AreSizes (m : ModelTree) (sizes : List ℕ) : Type 0 where
   pub count : length sizes ≡ m.signature.sorts

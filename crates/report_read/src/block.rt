@@ -10,17 +10,18 @@ ghost use Rattle.report_read.specs.Reading.{read_structure, read_elements, read_
 ghost use Rattle.report_read.specs.Reading.{read_end_tables, read_after, read_abort, read_end, read_course};
 ghost use Rattle.report_read.specs.Reading.{read_execution, read_block};
 
-use crate::elements::{elements_in, havoc_sorts, leading_sorts};
+use crate::elements::{elements_in, havoc_sorts, value_sorts};
 use crate::goals::{is_goal, path_count};
 use crate::opening::is_least_line;
 use crate::reader::Reader;
 use crate::tables::{read_sizes, read_tables};
-use base::{Refused, Row};
+use base::{Mem, Refused, Row};
 use fol_sig::{Sort, Structure};
 use line_scan::Scan;
 use printed_report::{PrintedAnswer, Unread};
 use rml_command::{About, Checked, Goal, Stage};
 use rml_exec::{Counterexample, Trace};
+use std::alloc::Global;
 
 // The line is these words.
 fn read_words(reader: &mut Reader, words: &str) -> Result<(), Refused<Unread>>
@@ -155,8 +156,7 @@ fn read_values(
     requires structure { FitsStructure (symbols checked.now.signature) structure.now }
     ensures { Reads (read_values checked.now conjecture structure.now reader.old) reader.new result }
 {
-    let sentence = &checked.model().conjectures()[conjecture as usize];
-    let sorts = leading_sorts(reader.alloc(), sentence.formula())?;
+    let sorts = value_sorts(reader.alloc(), checked, conjecture)?;
     let values = read_elements(reader, "  values:", structure, sorts.as_slice())?;
     Ok(values)
 }
@@ -168,11 +168,11 @@ pub struct End {
     pub values: Row<u32>,
 }
 
-fn sizes_of(reader: &Reader, checked: &Checked, structure: &Structure) -> Result<Row<u32>, Refused<Unread>>
+fn sizes_of(alloc: Global, checked: &Checked, structure: &Structure) -> Mem<Row<u32>>
     requires { FitsStructure (symbols checked.now.signature) structure.now }
     ensures { IfOk result (λ sizes. sizes ≡ structure.now.sizes) }
 {
-    let mut sizes = Row::new(reader.alloc());
+    let mut sizes = Row::new(alloc);
     for sort in 0..checked.model().signature().sorts() {
         sizes.push(structure.size(Sort(sort)))?;
     }
@@ -189,7 +189,7 @@ fn read_end_tables(
     ensures { Reads (read_end_tables checked.now structure.now reader.old) reader.new result }
 {
     read_words(reader, "  after\n")?;
-    let sizes = sizes_of(reader, checked, structure)?;
+    let sizes = sizes_of(reader.alloc(), checked, structure)?;
     let after = read_tables(reader, checked, sizes.as_slice())?;
     Ok(after)
 }

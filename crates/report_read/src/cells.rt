@@ -1,9 +1,10 @@
 // The cells of relations and functions, as a line gives them.
 ghost use Rattle.std.specs.Prelude.{◌≡◌, ◌<◌, ◌≤◌, ◌^◌, ◌++◌, [], All, length, slice_index, codes, decimal, IfOk};
-ghost use Rattle.fol_sig.specs.Tables.{numbers, tuple_count, relation_at, function_at, size_at};
+ghost use Rattle.fol_sig.specs.Tables.{numbers, tuple_count, relation_at, function_at, size_at, IsStructure};
 ghost use Rattle.rml_report.specs.TableText.{more_text, listed_text, tuple_text};
 ghost use Rattle.line_scan.specs.Scanning.{behind, name_at};
-ghost use Rattle.report_read.specs.LineReading.{behind_labelled, all_tuples, truths_end, mapped_at, values_end};
+ghost use Rattle.report_read.specs.LineReading.{behind_labelled, all_tuples, tuple_in, truths_end};
+ghost use Rattle.report_read.specs.LineReading.{mapped_at, values_end};
 ghost use Rattle.report_read.specs.LineReading.{truth_end, relation_end, truths_in, variable_end, values_in};
 
 use crate::elements::{element_at, value_at};
@@ -87,6 +88,16 @@ fn tuples(sizes: &[u32], sorts: &[Sort]) -> Mem<usize>
     Ok(count)
 }
 
+// Whether a tuple stands in front, and what is left behind it.
+fn take_tuple<'a>(scan: Scan<'a>, tuple: &[u32]) -> (bool, Scan<'a>)
+    ensures { result ≡ tuple_in tuple.now scan.entry }
+{
+    match behind_tuple(&scan, tuple) {
+        None => (false, scan),
+        Some(behind) => (true, behind),
+    }
+}
+
 // The truth values at all tuples: a tuple that stands there is true.
 fn truths_end(alloc: Global, first: Scan, sizes: &[u32], sorts: &[Sort]) -> Mem<Option<Row<bool>>>
     requires sorted { All (λ k. k < length sizes.now) (numbers sorts.now) }
@@ -97,13 +108,9 @@ fn truths_end(alloc: Global, first: Scan, sizes: &[u32], sorts: &[Sort]) -> Mem<
     let mut cells = Row::new(alloc);
     for number in 0..tuples(sizes, sorts)? {
         let tuple = tuple_of_number(alloc, sizes, sorts, number);
-        match behind_tuple(&scan, tuple.as_slice()) {
-            None => cells.push(false)?,
-            Some(behind) => {
-                cells.push(true)?;
-                scan = behind;
-            }
-        }
+        let (truth, next) = take_tuple(scan, tuple.as_slice());
+        cells.push(truth)?;
+        scan = next;
     }
     if scan.ends() { Ok(Some(cells)) } else { Ok(None) }
 }
@@ -182,6 +189,7 @@ pub fn truths_in(
     sizes: &[u32],
     rel: RelId,
 ) -> Mem<Option<Row<bool>>>
+    requires whole { IsStructure structure.now }
     requires sizes { sizes.now ≡ structure.now.sizes }
     requires known { rel.0 < length structure.now.relations }
     ensures { IfOk result (λ found. found ≡
@@ -219,6 +227,7 @@ pub fn values_in(
     sizes: &[u32],
     fun: FunId,
 ) -> Mem<Option<Row<u32>>>
+    requires whole { IsStructure structure.now }
     requires sizes { sizes.now ≡ structure.now.sizes }
     requires known { fun.0 < length structure.now.functions }
     ensures { IfOk result (λ found. found ≡ values_in sizes.now (function_at structure.now fun.0).sorts
@@ -234,7 +243,10 @@ pub fn values_in(
     } else {
         match behind_labelled(line, "    function ", names, fun.0, ":") {
             None => Ok(None),
-            Some(scan) => values_end(alloc, scan, structure, sizes, into, sorts),
+            Some(scan) => {
+                let cells = values_end(alloc, scan, structure, sizes, into, sorts)?;
+                Ok(cells)
+            }
         }
     }
 }

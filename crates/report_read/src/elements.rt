@@ -7,6 +7,7 @@ ghost use Rattle.rml_command.specs.Models.{FitsPath};
 ghost use Rattle.rml_command.specs.Goals.{leading_sorts};
 ghost use Rattle.printed_report.specs.Executions.{havoc_sorts};
 ghost use Rattle.report_read.specs.LineReading.{value_at, element_at, elements_end, elements_in};
+ghost use Rattle.report_read.specs.Reading.{value_sorts};
 
 use base::{Mem, Row};
 use fol_formula::Formula;
@@ -19,7 +20,8 @@ use std::alloc::Global;
 pub fn havoc_sorts(alloc: Global, checked: &Checked, path: &Path, structure: &Structure) -> Mem<Row<Sort>>
     requires path { FitsPath (symbols checked.now.signature) path.now }
     requires structure { FitsStructure (symbols checked.now.signature) structure.now }
-    ensures { IfOk result (λ sorts. numbers sorts ≡ havoc_sorts (symbols checked.now.signature) path.now) }
+    ensures sorts { IfOk result (λ sorts. numbers sorts ≡ havoc_sorts (symbols checked.now.signature) path.now) }
+    ensures known { IfOk result (λ sorts. All (λ k. k < checked.now.signature.sorts) (numbers sorts)) }
 {
     let mut sorts = Row::new(alloc);
     for primitive in path.primitives() {
@@ -46,11 +48,15 @@ fn push_leading(formula: &Formula, before: Row<Sort>) -> Mem<Row<Sort>>
     }
 }
 
-/// The sorts of the leading run of `forall`.
-pub fn leading_sorts(alloc: Global, formula: &Formula) -> Mem<Row<Sort>>
-    ensures { IfOk result (λ sorts. numbers sorts ≡ leading_sorts (form formula.now)) }
+/// The sorts of the leading run of `forall` of a conjecture.
+pub fn value_sorts(alloc: Global, checked: &Checked, conjecture: u32) -> Mem<Row<Sort>>
+    requires { conjecture < length checked.now.conjectures }
+    ensures sorts { IfOk result
+        (λ sorts. numbers sorts ≡ value_sorts (slice_get checked.now.conjectures conjecture)) }
+    ensures known { IfOk result (λ sorts. All (λ k. k < checked.now.signature.sorts) (numbers sorts)) }
 {
-    let sorts = push_leading(formula, Row::new(alloc))?;
+    let sentence = &checked.model().conjectures()[conjecture as usize];
+    let sorts = push_leading(sentence.formula(), Row::new(alloc))?;
     Ok(sorts)
 }
 

@@ -2,17 +2,20 @@
 ghost use Rattle.std.specs.Prelude.{◌≡◌, IfOk, IfErr};
 ghost use Rattle.base.specs.Because.{Because};
 ghost use Rattle.line_scan.specs.Lines.{lines_of};
+ghost use Rattle.fol_sig.specs.Tables.{IsSignature};
+ghost use Rattle.rml_command.specs.Fragment.{IsChecked};
 ghost use Rattle.printed_report.specs.PrintedReports.{IsPrintedReport, IsRead, IsUnread};
 ghost use Rattle.report_read.specs.LineReading.{is_axioms_line, verdict_in};
 ghost use Rattle.report_read.specs.Reading.{Reads, read_axioms, read_verdict, read_lines, read_nothing, read_all};
+ghost use Rattle.report_read.specs.Reading.{ReadsText};
 
 use crate::groups::read_groups;
-use crate::laws::print_laws;
+use crate::laws::reading_laws;
 use crate::opening::is_axioms_line;
 use crate::reader::Reader;
-use base::{Refused, Row};
+use base::Refused;
 use line_scan::Scan;
-use printed_report::{Printed, PrintedGroup, Unread};
+use printed_report::{Printed, Unread};
 use rml_command::Checked;
 use rml_report::Verdict;
 use std::alloc::Global;
@@ -86,14 +89,33 @@ fn read_all(reader: &mut Reader, checked: &Checked) -> Result<Printed, Refused<U
     read_nothing(reader, printed)
 }
 
+// The lines of a text, of which none is passed yet.
+fn read_text(alloc: Global, checked: &Checked, text: &[u8]) -> Result<Printed, Refused<Unread>>
+    ensures { ReadsText checked.now (lines_of text.now) result }
+{
+    let mut reader = Reader::new(alloc, text);
+    let printed = read_all(&mut reader, checked)?;
+    Ok(printed)
+}
+
+// A model of which reports are read.
+fn check_model(checked: &Checked)
+    ensures checked { IsChecked checked.now }
+    ensures signature { IsSignature checked.now.signature }
+{
+    let _sorts = checked.model().signature().sorts();
+}
+
 /// What a printed report of the model says, or the first line that no printed report has behind the lines before it.
 pub fn read_report(alloc: Global, checked: &Checked, text: &[u8]) -> Result<Printed, Refused<Unread>>
     ensures report { IfOk result (IsPrintedReport checked.now text.now) }
     ensures read { IfOk result (IsRead checked.now) }
     ensures unread { IfErr result (Because (λ u. IsUnread checked.now (lines_of text.now) u.line)) }
 {
-    print_laws();
-    let mut reader = Reader::new(alloc, text);
-    let read = read_all(&mut reader, checked);
+    check_model(checked);
+    reading_laws();
+    line_scan::line_laws();
+    let _len = text.len();
+    let read = read_text(alloc, checked, text);
     read
 }

@@ -1,6 +1,6 @@
 // The lines of a structure's sorts and tables.
 ghost use Rattle.std.specs.Prelude.{◌≡◌, ◌<◌, ◌≤◌, [], All, length, IfOk};
-ghost use Rattle.fol_sig.specs.Tables.{blank, relation_at, function_at, tuple_count, size_at};
+ghost use Rattle.fol_sig.specs.Tables.{blank, relation_at, function_at, tuple_count, size_at, IsStructure};
 ghost use Rattle.fol_sig.specs.Symbols.{FitsStructure, symbols};
 ghost use Rattle.line_scan.specs.Scanning.{name_at};
 ghost use Rattle.report_read.specs.LineReading.{size_end, size_in};
@@ -87,6 +87,7 @@ fn read_truths(
     structure: &Structure,
     rel: RelId,
 ) -> Result<Row<bool>, Refused<Unread>>
+    requires whole { IsStructure structure.now }
     requires sizes { sizes.now ≡ structure.now.sizes }
     requires known { rel.0 < length structure.now.relations }
     ensures reads { Reads (read_truths checked.now.names structure.now rel.0 reader.old) reader.new result }
@@ -109,6 +110,7 @@ fn read_images(
     structure: &Structure,
     fun: FunId,
 ) -> Result<Row<u32>, Refused<Unread>>
+    requires whole { IsStructure structure.now }
     requires sizes { sizes.now ≡ structure.now.sizes }
     requires known { fun.0 < length structure.now.functions }
     ensures reads { Reads (read_images checked.now.names structure.now fun.0 reader.old) reader.new result }
