@@ -13,3 +13,4 @@ mod BlockLines
 mod GroupLines
 mod Lengths
 mod Turns
+mod GroupTurns

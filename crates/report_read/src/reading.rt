@@ -1,5 +1,5 @@
 // A whole report: the axioms, the groups, the verdict.
-ghost use Rattle.std.specs.Prelude.{◌≡◌, IfOk, IfErr};
+ghost use Rattle.std.specs.Prelude.{◌≡◌, ◌<◌, ◌^◌, length, IfOk, IfErr};
 ghost use Rattle.base.specs.Because.{Because};
 ghost use Rattle.line_scan.specs.Lines.{lines_of};
 ghost use Rattle.fol_sig.specs.Tables.{IsSignature};
@@ -98,6 +98,13 @@ fn read_text(alloc: Global, checked: &Checked, text: &[u8]) -> Result<Printed, R
     Ok(printed)
 }
 
+// No text has so many bytes.
+fn check_text(text: &[u8])
+    ensures { length text.now < 2 ^ 63 }
+{
+    let _len = text.len();
+}
+
 // A model of which reports are read.
 fn check_model(checked: &Checked)
     ensures checked { IsChecked checked.now }
@@ -115,7 +122,7 @@ pub fn read_report(alloc: Global, checked: &Checked, text: &[u8]) -> Result<Prin
     check_model(checked);
     reading_laws();
     line_scan::line_laws();
-    let _len = text.len();
+    check_text(text);
     let read = read_text(alloc, checked, text);
     read
 }
