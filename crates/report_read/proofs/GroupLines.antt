@@ -337,7 +337,7 @@ module _ (x : ScansAreExact) (numbered_are : TuplesAreNumbered) (m : ModelTree) 
       by (stuck l) is f = absurd (cc f)
       by (got q l) is f = whole_at lines p q l.number l.lines rest is f
 
-  whole_read : (lines : Lines) (p : Printed) → IsPrinted m p lines
+  pub whole_read : (lines : Lines) (p : Printed) → IsPrinted m p lines
       → read_all m (left 1 lines) ≡ got p (left (1 + length lines) [])
   whole_read lines p is =
       ap (λ l. read_all m (left 1 l)) (sym (append-nil lines))
@@ -426,6 +426,8 @@ exact x numbered_are law = record {
   whole = λ m ok sig lines p rest e. read_whole x numbered_are m sig ok.model.fits law (few_paths m ok) lines p rest e;
   unread = λ m ok sig lines rest e.
       stuck_unread x numbered_are m sig ok.model.fits law (few_paths m ok) lines rest e;
+  there = λ m ok sig lines p is.
+      (left (1 + length lines) [], whole_read x numbered_are m sig ok.model.fits law (few_paths m ok) lines p is);
 }
 
 pub is_one : ScansAreExact → TuplesAreNumbered → GoalPathsFit → PrintedIsOne

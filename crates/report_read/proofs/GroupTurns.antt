@@ -8,7 +8,7 @@ use Rattle.fol_sig.specs.Tables.{IsSignature}
 use Rattle.rml_command.specs.Fragment.{IsChecked}
 use Rattle.printed_report.specs.PrintedReports.{IsPrinted, IsRead, IsUnread}
 use Rattle.printed_report.specs.declared.printed.Printed.{Printed}
-use Rattle.report_read.specs.Laws.{ReadingIsExact}
+use Rattle.report_read.specs.Laws.{ReadingIsExact, IsReadBack}
 use Rattle.base.specs.Lists.{count_from}
 use Rattle.base.specs.declared.refused.Refused.{Refused}
 use Rattle.base.specs.declared.refused.Refused.TheVariants.{For, NoMemory}
@@ -19,6 +19,7 @@ use Rattle.printed_report.specs.declared.printed.Unread.{Unread}
 use Rattle.printed_report.specs.declared.printed.PrintedGroup.{PrintedGroup}
 use Rattle.report_read.specs.Got.{Got, got, stuck, and_then}
 use Rattle.report_read.specs.Reading.{Reads, ReadsText, read_group, read_groups}
+use Rattle.report_read.proofs.Parts.{got_value}
 use Rattle.report_read.proofs.Turns.{reads_err}
 
 module _ (m : ModelTree) where
@@ -91,3 +92,10 @@ module _ (m : ModelTree) (ok : IsChecked m) (sig : IsSignature m.signature) (law
   text_unread (Err (For u)) reads =
       subst (IsUnread m lines) (sym reads.2) (law.unread m ok sig lines reads.0 reads.1)
   text_unread (Err NoMemory) reads = tt
+
+  pub text_there : (r : Result Printed (Refused Unread)) → ReadsText m lines r → IsReadBack m lines r
+  text_there (Ok q) reads = λ p is. let t = law.there m ok sig lines p is in
+      got_value q p reads.0 t.0 (sym reads.1 ∙ t.1)
+  text_there (Err (For u)) reads = λ p is. let t = law.there m ok sig lines p is in
+      let e : stuck reads.0 ≡ got p t.0 = sym reads.1 ∙ t.1 in cc e
+  text_there (Err NoMemory) reads = λ p is. tt

@@ -1,10 +1,8 @@
 // The line of the axioms, causes, and the line that says whether a structure is least.
-ghost use Rattle.std.specs.Prelude.{◌≡◌, codes, false, nat_le};
-ghost use Rattle.line_scan.specs.Scanning.{behind};
-ghost use Rattle.report_read.specs.LineReading.{choose};
-ghost use Rattle.report_read.specs.LineReading.{behind_number, behind_counted, behind_cause, ends, is_open_axioms};
+ghost use Rattle.std.specs.Prelude.{◌≡◌, nat_le};
+ghost use Rattle.report_read.specs.LineReading.{behind_number, behind_counted, behind_cause, ends};
 ghost use Rattle.report_read.specs.LineReading.{is_axioms_line, is_stop, stops_at, stops_at_some};
-ghost use Rattle.report_read.specs.LineReading.{stops_at_relation, is_stopped, is_least_line};
+ghost use Rattle.report_read.specs.LineReading.{is_stopped, is_least_line};
 
 use line_scan::Scan;
 use rml_command::{Name, Names};
@@ -60,15 +58,6 @@ pub fn is_cause_end(scan: &Scan) -> bool
     }
 }
 
-fn is_open_axioms(line: &Scan) -> bool
-    ensures { result ≡ is_open_axioms line.now }
-{
-    match line.behind_word("axioms: undecided ") {
-        None => false,
-        Some(cause) => is_counted_end(&cause),
-    }
-}
-
 /// Whether the line is one of the axioms.
 pub fn is_axioms_line(line: &[u8]) -> bool
     ensures { result ≡ is_axioms_line line.now }
@@ -80,7 +69,10 @@ pub fn is_axioms_line(line: &[u8]) -> bool
     if line.is("axioms: inconsistent\n") {
         return true;
     }
-    is_open_axioms(&line)
+    match line.behind_word("axioms: undecided ") {
+        None => false,
+        Some(cause) => is_counted_end(&cause),
+    }
 }
 
 /// Whether a number is at most another.
@@ -88,16 +80,6 @@ pub fn is_up_to(size: u64, most: u64) -> bool
     ensures { result ≡ nat_le size most }
 {
     size <= most
-}
-
-// A blank, a cause with a number, and the end of the line.
-fn is_blank_counted_end(scan: &Scan) -> bool
-    ensures { result ≡ choose (behind (codes " ") scan.now) (λ a. ends (behind_counted a)) false }
-{
-    match scan.behind_word(" ") {
-        None => false,
-        Some(cause) => is_counted_end(&cause),
-    }
 }
 
 // A number up to the most, and what stands behind it.
@@ -110,24 +92,21 @@ fn is_stop(scan: &Scan, most: u64) -> bool
     if !is_up_to(size, most) {
         return false;
     }
-    is_blank_counted_end(&behind)
-}
-
-fn is_blank_stop(scan: &Scan, most: u64) -> bool
-    ensures { result ≡ choose (behind (codes " ") scan.now) (is_stop most) false }
-{
-    match scan.behind_word(" ") {
+    match behind.behind_word(" ") {
         None => false,
-        Some(stop) => is_stop(&stop, most),
+        Some(cause) => is_counted_end(&cause),
     }
 }
 
 fn stops_at(scan: &Scan, name: &Name, most: u64) -> bool
     ensures { result ≡ stops_at most scan.now name.now }
 {
-    match scan.behind(name.as_slice()) {
+    let Some(behind) = scan.behind(name.as_slice()) else {
+        return false;
+    };
+    match behind.behind_word(" ") {
         None => false,
-        Some(behind) => is_blank_stop(&behind, most),
+        Some(stop) => is_stop(&stop, most),
     }
 }
 
@@ -145,16 +124,6 @@ fn stops_at_some(scan: &Scan, names: &[Name], most: u64) -> bool
     false
 }
 
-// Whether it stops at a relation.
-fn stops_at_relation(scan: &Scan, names: &Names) -> bool
-    ensures { result ≡ stops_at_relation names.now scan.now }
-{
-    match scan.behind_word("relation ") {
-        None => false,
-        Some(stop) => stops_at_some(&stop, names.relations.as_slice(), 18446744073709551615),
-    }
-}
-
 // Whether it stops at a sort or a relation.
 fn is_stopped(scan: &Scan, names: &Names) -> bool
     ensures { result ≡ is_stopped names.now scan.now }
@@ -162,7 +131,10 @@ fn is_stopped(scan: &Scan, names: &Names) -> bool
     if stops_at_some(scan, names.sorts.as_slice(), 100000) {
         return true;
     }
-    stops_at_relation(scan, names)
+    match scan.behind_word("relation ") {
+        None => false,
+        Some(stop) => stops_at_some(&stop, names.relations.as_slice(), 18446744073709551615),
+    }
 }
 
 /// Whether the line says that the structure is least, or where the search stopped.

@@ -8,6 +8,7 @@ ghost use Rattle.printed_report.specs.PrintedReports.{IsPrintedReport, IsRead, I
 ghost use Rattle.report_read.specs.LineReading.{is_axioms_line, verdict_in};
 ghost use Rattle.report_read.specs.Reading.{Reads, read_axioms, read_verdict, read_lines, read_nothing, read_all};
 ghost use Rattle.report_read.specs.Reading.{ReadsText};
+ghost use Rattle.report_read.specs.Laws.{IsReadBack};
 
 use crate::groups::read_groups;
 use crate::laws::reading_laws;
@@ -98,19 +99,14 @@ fn read_text(alloc: Global, checked: &Checked, text: &[u8]) -> Result<Printed, R
     Ok(printed)
 }
 
-// No text has so many bytes.
-fn check_text(text: &[u8])
-    ensures { length text.now < 2 ^ 63 }
-{
-    let _len = text.len();
-}
-
-// A model of which reports are read.
-fn check_model(checked: &Checked)
+// A model of which reports are read, and a text, which has not so many bytes.
+fn check_given(checked: &Checked, text: &[u8])
     ensures checked { IsChecked checked.now }
     ensures signature { IsSignature checked.now.signature }
+    ensures few { length text.now < 2 ^ 63 }
 {
     let _sorts = checked.model().signature().sorts();
+    let _len = text.len();
 }
 
 /// What a printed report of the model says, or the first line that no printed report has behind the lines before it.
@@ -118,11 +114,11 @@ pub fn read_report(alloc: Global, checked: &Checked, text: &[u8]) -> Result<Prin
     ensures report { IfOk result (IsPrintedReport checked.now text.now) }
     ensures read { IfOk result (IsRead checked.now) }
     ensures unread { IfErr result (Because (λ u. IsUnread checked.now (lines_of text.now) u.line)) }
+    ensures there { IsReadBack checked.now (lines_of text.now) result }
 {
-    check_model(checked);
+    check_given(checked, text);
     reading_laws();
     line_scan::line_laws();
-    check_text(text);
     let read = read_text(alloc, checked, text);
     read
 }
