@@ -1,0 +1,16 @@
+mod Scans
+mod Pieces
+mod LineLaws
+mod Parts
+mod HeadLines
+mod LeastLines
+mod Tuples
+mod TableLines
+mod SizeLines
+mod Fitting
+mod TableParts
+mod BlockLines
+mod GroupLines
+mod Lengths
+mod Turns
+mod GroupTurns

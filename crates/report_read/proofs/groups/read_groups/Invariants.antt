@@ -1,0 +1,17 @@
+use Rattle.std.proofs.Common.{◌≡◌, ◌-◌, [], ◌∷◌, ◌++◌, length}
+use Rattle.std.specs.List.{flat_map}
+use Rattle.base.specs.Lists.{count_from}
+use Rattle.rml_command.specs.Goals.{stage_groups, groups_of}
+use Rattle.rml_command.specs.declared.goal.Stage.TheVariants as stage
+use Rattle.rml_command.specs.declared.goal.About.TheVariants as about
+use Rattle.report_read.specs.Reading.{read_groups}
+use Rattle.report_read.proofs.groups.read_groups.Given as goal
+
+abbrev pub invariant-loop-a : goal.invariant-loop-a
+invariant-loop-a l = record {
+  count : l.count ≡ length l.checked.actions;
+  reads : read_groups l.checked
+      (flat_map (λ a. stage_groups l.checked (stage.Action a)) (count_from l.a (l.count - l.a))
+      ++ record { stage = stage.Final; about = about.Abort } ∷ []) l.groups l.reader
+      ≡ read_groups l.checked (groups_of l.checked) [] l.fn.reader;
+}

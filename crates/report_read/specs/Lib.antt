@@ -1,0 +1,4 @@
+pub mod LineReading
+pub mod Got
+pub mod Reading
+pub mod Laws
