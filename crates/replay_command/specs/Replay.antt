@@ -31,7 +31,7 @@ IsJudged m p (Denied line code) = IsFirstBroken (demands m p) line code
 pub record IsReplay (m : ModelTree) (text : List ℕ) (judged : Judged) : Type 0 where
   pub printed : Printed
   pub is_report : IsPrintedReport m text printed
-  pub only : (p : Printed) → IsPrintedReport m text p → p ≡ printed
+  pub only : (p : Printed) → IsPrintedReport m text p → printed ≡ p
   pub is : judged ≡ judgement m printed
   pub right : IsJudged m printed judged
 

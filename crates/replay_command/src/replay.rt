@@ -1,6 +1,7 @@
 // `replay MODEL REPORT`: whether a printed report of the model is right.
 ghost use Rattle.std.specs.Prelude.{◌≡◌, ◌≤◌, length, IfOk};
 ghost use Rattle.printed_report.specs.PrintedReports.{IsPrintedReport, IsRead};
+ghost use Rattle.printed_report.specs.declared.printed.Printed.{Printed};
 ghost use Rattle.command_parts.specs.ModelTexts.{IsTheModel};
 ghost use Rattle.replay_command.specs.Replay.{IsReplayAnswer, IsFound, IsReplay, denial_line, confirmed_text};
 ghost use Rattle.replay_command.specs.Replay.{judged_due, replay_due};
@@ -34,10 +35,10 @@ pub enum ReplayAnswer {
 fn judge_printed(alloc: Global, model: &Checked, text: &[u8], printed: &Printed) -> Mem<Judged>
     requires read { IsRead model.now printed.now }
     requires report { IsPrintedReport model.now text.now printed.now }
+    requires only { (p : Printed) → IsPrintedReport model.now text.now p → printed.now ≡ p }
     ensures { IfOk result (IsReplay model.now text.now) }
 {
     judgement_law();
-    report_read::reading_law();
     let judged = judge(alloc, model, printed)?;
     Ok(judged)
 }
@@ -46,12 +47,12 @@ fn judge_printed(alloc: Global, model: &Checked, text: &[u8], printed: &Printed)
 fn judge_report(alloc: Global, model: &Checked, text: &[u8]) -> Mem<ReplayAnswer>
     ensures { IfOk result (IsFound model.now text.now) }
 {
-    report_read::reading_law();
     match read_report(alloc, model, text) {
         Ok(printed) => {
             let judged = judge_printed(alloc, model, text, &printed);
             drop(printed);
-            Ok(ReplayAnswer::Replayed(judged?))
+            let judged = judged?;
+            Ok(ReplayAnswer::Replayed(judged))
         }
         Err(Refused::For(unread)) => Ok(ReplayAnswer::Unread(unread)),
         Err(Refused::NoMemory) => Err(AllocError),
