@@ -164,15 +164,30 @@ module _ (x : ScansAreExact) (numbered_are : TuplesAreNumbered) (m : ModelTree) 
         said_by (n + length is.1) a is.0 is.3.0 is.2 lines is.3.1 is.4 (is.5 ∙ ap (λ l. l ++ is.2) is.3.2)
 
     said_back : (n : ℕ) (a : PrintedAnswer) (lines : Lines) → Says m group a lines → SaidFrom n a lines
-    said_back n answer.Holds lines is =
-        (head.Holds, head_line m group (codes ": holds\n") ∷ [], [],
-        (head_line m group (codes ": holds\n"), refl, refl), (refl, refl), is)
-    said_back n (answer.Fails paths shown after) lines is =
-        (head.Fails, head_line m group (codes ": fails\n") ∷ [], is.0,
-        (head_line m group (codes ": fails\n"),
-        (refl, goal_has m group shown.trace.path
-        (subst (IsGoal m) is.1.execution.goal is.1.execution.is_goal)), refl),
-        (paths, shown, after, refl, is.1), is.2)
+    said_back n answer.Holds lines is = (
+      head.Holds,
+      head_line m group (codes ": holds\n") ∷ [],
+      [],
+      (head_line m group (codes ": holds\n"), refl, refl),
+      (refl, refl),
+      is,
+    )
+    said_back n (answer.Fails paths shown after) lines is = (
+      head.Fails,
+      head_line m group (codes ": fails\n") ∷ [],
+      is.0,
+      (
+        head_line m group (codes ": fails\n"),
+        (
+          refl,
+          goal_has m group shown.trace.path
+              (subst (IsGoal m) is.1.execution.goal is.1.execution.is_goal),
+        ),
+        refl,
+      ),
+      (paths, shown, after, refl, is.1),
+      is.2,
+    )
     said_back n answer.Undecided lines is =
         (head.Undecided, is.0 ∷ [], [], (is.0, is.1, refl), (refl, refl), is.2)
 
@@ -194,11 +209,13 @@ module _ (x : ScansAreExact) (numbered_are : TuplesAreNumbered) (m : ModelTree) 
 
     group_back : (n : ℕ) (g : PrintedGroup) (lines : Lines) → OfGroup n g lines
         → IsMade (λ (_ : ℕ). Says m group) (group_of group) n g lines
-    group_back n g lines is =
-        (g.answer, is.answer,
-        ap (λ s. make_group s group.about n g.answer) (sym is.stage)
-        ∙ ap (λ a. make_group g.stage a n g.answer) (sym is.about)
-        ∙ ap (λ k. make_group g.stage g.about k g.answer) (sym is.line))
+    group_back n g lines is = (
+      g.answer,
+      is.answer,
+      ap (λ s. make_group s group.about n g.answer) (sym is.stage)
+          ∙ ap (λ a. make_group g.stage a n g.answer) (sym is.about)
+          ∙ ap (λ k. make_group g.stage g.about k g.answer) (sym is.line),
+    )
 
     group_part : IsPart (read_group m group) OfGroup
     group_part =
@@ -249,9 +266,14 @@ module _ (x : ScansAreExact) (numbered_are : TuplesAreNumbered) (m : ModelTree) 
       by : (more : List PrintedGroup) → gs ≡ done ++ more → AreGroups m n (group ∷ groups) more lines
           → GroupStep group groups done n gs lines
       by [] all are = absurd are
-      by (g ∷ more) all are =
-          (g, are.0, are.1, are.2,
-          record { more = more; all = all ∙ sym (append_assoc done (g ∷ []) more); are = are.3 }, are.4)
+      by (g ∷ more) all are = (
+        g,
+        are.0,
+        are.1,
+        are.2,
+        record { more = more; all = all ∙ sym (append_assoc done (g ∷ []) more); are = are.3 },
+        are.4,
+      )
 
   groups_part : (groups : List Group) → AllByRecursion (HasForm m) groups
       → (done : List PrintedGroup) → IsPart (read_groups m groups done) (GroupsFrom groups done)
@@ -308,12 +330,21 @@ module _ (x : ScansAreExact) (numbered_are : TuplesAreNumbered) (m : ModelTree) 
       })
 
   printed_back : (p : Printed) (lines : Lines) → IsPrinted m p lines → LinesFrom 1 p lines
-  printed_back p lines is =
-      (tt, is.axioms ∷ [], is.middle ++ verdict_text p.verdict ∷ [], (is.axioms, is.is_axioms, refl),
-      (p.groups, is.middle, verdict_text p.verdict ∷ [],
+  printed_back p lines is = (
+    tt,
+    is.axioms ∷ [],
+    is.middle ++ verdict_text p.verdict ∷ [],
+    (is.axioms, is.is_axioms, refl),
+    (
+      p.groups,
+      is.middle,
+      verdict_text p.verdict ∷ [],
       record { more = p.groups; all = refl; are = is.groups },
-      (p.verdict, (verdict_text p.verdict, refl, refl), refl), refl),
-      is.text)
+      (p.verdict, (verdict_text p.verdict, refl, refl), refl),
+      refl,
+    ),
+    is.text,
+  )
 
   -- what the whole reader answers
   abbrev start : Lines → LinesLeft

@@ -246,10 +246,14 @@ module _ (x : ScansAreExact) where
         passed_test (is_goal_at m group a.value.0)
         (choose (behind (codes " ") a.value.1) (λ a. ends (behind_cause a)) false) a.holds in
         let d = chosen (behind (codes " ") a.value.1) (λ a. ends (behind_cause a)) c.1 in
-        let h = cause_end_sound d.value d.holds in
-        (a.value.0, h.cause_is, goal_sound m group a.value.0 has c.0, h.can,
-        number_then x bs a.value (codes " " ++ (cause_text h.cause_is ++ codes "\n")) a.found
-        (behind_then x (codes " ") a.value.1 d.value (cause_text h.cause_is ++ codes "\n") d.found h.text))
+        let h = cause_end_sound d.value d.holds in (
+          a.value.0,
+          h.cause_is,
+          goal_sound m group a.value.0 has c.0,
+          h.can,
+          number_then x bs a.value (codes " " ++ (cause_text h.cause_is ++ codes "\n")) a.found
+              (behind_then x (codes " ") a.value.1 d.value (cause_text h.cause_is ++ codes "\n") d.found h.text),
+        )
 
     open_sound : (line bs : List ℕ) (h : Head) → line ≡ head_line m group bs
         → on (behind (codes ": undecided path ") bs) (λ a. cond (is_open_path m group a) (Some head.Undecided) None)

@@ -45,8 +45,11 @@ relation_length : (sizes ks : List ℕ) (bs : List ℕ) (cells : List Bool) → 
     → length cells ≡ tuple_count sizes ks
 relation_length sizes [] bs cells e = truth_length bs cells e
 relation_length sizes (k ∷ ks) bs cells e =
-    omega (arith, truths_length (all_tuples sizes (k ∷ ks)) [] cells bs e,
-    length-tuples_from sizes (k ∷ ks) 0 (tuple_count sizes (k ∷ ks)))
+    omega (
+      arith,
+      truths_length (all_tuples sizes (k ∷ ks)) [] cells bs e,
+      length-tuples_from sizes (k ∷ ks) 0 (tuple_count sizes (k ∷ ks)),
+    )
 
 pub length_truths : (sizes given ks name line : List ℕ) (cells : List Bool) → given ≡ sizes
     → truths_in given ks name line ≡ Some cells → length cells ≡ tuple_count sizes ks

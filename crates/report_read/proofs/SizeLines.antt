@@ -114,16 +114,20 @@ module _ (x : ScansAreExact) (names : Names) where
       by : (vs : List ℕ) → length vs ≡ suc n → AllByRecursion IsSortSize vs → xs ≡ done ++ vs
           → lines ≡ size_lines names k vs → StepOf k n done m xs lines
       by [] count can all text = absurd (omega (arith, count))
-      by (v ∷ vs) count can all text =
-          (v, sort_line names k v ∷ [], size_lines names (suc k) vs,
-          (sort_line names k v, record { least = can.0.0; most_is = can.0.1; text = line_text k v }, refl),
-          record {
-            values = vs;
-            count = omega (arith, count);
-            can = can.1;
-            all = all ∙ sym (append_assoc done (v ∷ []) vs);
-            text = refl;
-          }, text)
+      by (v ∷ vs) count can all text = (
+        v,
+        sort_line names k v ∷ [],
+        size_lines names (suc k) vs,
+        (sort_line names k v, record { least = can.0.0; most_is = can.0.1; text = line_text k v }, refl),
+        record {
+          values = vs;
+          count = omega (arith, count);
+          can = can.1;
+          all = all ∙ sym (append_assoc done (v ∷ []) vs);
+          text = refl;
+        },
+        text,
+      )
 
   pub sizes_part : (n k : ℕ) (done : List ℕ) → IsPart (read_sizes names k n done)
       (λ (_ : ℕ). SizesFrom names k n done)
