@@ -459,6 +459,21 @@ else
     expect 'models: a length that is broken and called safe is told' wrote ': safe, and broken by '
     lie "sed 's/^  values: 0/  values: 1/'"
     expect 'models: values that are no elements are told' wrote 'the answer cannot be read: '
+    bench replay_base.py
+    expect 'replay_base: no solver stands below the judge' ended 0
+    sed 's/^report_replay: /&cdcl /' "$here/crates.txt" >crates.txt
+    bench replay_base.py crates.txt
+    expect 'replay_base: one that stands there is told' wrote ' stand on cdcl'
+    bench replays.py --step 9 "$examples/flag.rml" "$examples/lock_server-weak.rml"
+    expect 'replays: none differs' ended 0
+    # `lie`, and `replays.py` has to see it.
+    lie_of_reports() {
+        printf '#!/bin/bash\n"%s" "$@" | %s\nexit "${PIPESTATUS[0]}"\n' "$program" "$1" >"$room/bin/liar"
+        chmod +x "$room/bin/liar"
+        IVYCHECK=$room/bin/liar bench replays.py --step 200 "$examples/flag.rml"
+    }
+    lie_of_reports "sed 's/^P5 at line .*/executions 1/'"
+    expect 'replays: a wrong end that is confirmed is told' wrote "P5 at line 12: wrong end"
     if command -v cc >/dev/null; then
         bench growths.py 'a log that refutes'
         expect 'growths: a log' ended 0
