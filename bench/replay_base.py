@@ -32,12 +32,13 @@ def main():
         crate = todo.pop()
         if crate not in seen:
             seen.add(crate)
-            todo += below[crate]
+            todo += below.get(crate, [])
     wrong = sorted(seen & FORBIDDEN)
-    if wrong:
-        sys.exit("report_read and report_replay stand on " + ", ".join(wrong))
-    print("report_read and report_replay stand on no solver and no precondition: " + ", ".join(sorted(seen - set(JUDGES))))
+    standing = ", ".join(sorted(seen - set(JUDGES)))
+    print("report_read and report_replay", "stand on " + ", ".join(wrong) if wrong else
+          f"stand on no solver and no precondition: {standing}")
+    return 1 if wrong else 0
 
 
 if __name__ == "__main__":
-    main()
+    sys.exit(main())
