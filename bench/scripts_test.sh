@@ -474,6 +474,8 @@ else
     }
     lie_of_reports "sed 's/^P5 at line .*/executions 1/'"
     expect 'replays: a wrong end that is confirmed is told' wrote "P5 at line 12: wrong end"
+    bench long_report.py 1
+    expect 'long_report: a megabyte is confirmed' ended 0
     if command -v cc >/dev/null; then
         bench growths.py 'a log that refutes'
         expect 'growths: a log' ended 0
