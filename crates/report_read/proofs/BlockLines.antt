@@ -1,12 +1,12 @@
 -- The lines of what is shown of a group that fails.
-use Rattle.std.proofs.Common.{◌≡◌, ℕ, zero, suc, ◌+◌, ◌<◌, ◌≤◌, true, List, [], ◌∷◌, ◌++◌, length, map, All, Option, Some}
+use Rattle.std.proofs.Common.{◌≡◌, ℕ, zero, suc, ◌<◌, ◌≤◌, List, [], ◌∷◌, ◌++◌, length, map, All, Option, Some}
 use Rattle.std.proofs.Common.{None, refl, sym, ap, ◌∙◌, subst, arith, append_assoc}
 use Rattle.std.specs.Prelude.{codes, slice_index, slice_get}
 use Rattle.std.specs.List.{AllByRecursion}
 use Rattle.std.proofs.lemmas.List.Elements.{All-from_recursion, recursion_from_All}
-use Rattle.base.specs.Lists.{count_from, numbered}
+use Rattle.base.specs.Lists.{count_from}
 use Rattle.base.proofs.Lists.{all_more, all_at}
-use Rattle.fol_sig.specs.Tables.{Tables, Declared, IsSignature, InRange, size_at}
+use Rattle.fol_sig.specs.Tables.{Tables, IsSignature, InRange}
 use Rattle.fol_sig.specs.Symbols.{Symbols, FitsStructure, symbols}
 use Rattle.fol_sig.specs.Tuples.{TuplesAreNumbered}
 use Rattle.fol_formula.specs.Syntax.{FormTree, for_all}
@@ -15,7 +15,6 @@ use Rattle.rml_command.specs.Trees.{PrimitiveTree, assume, set_rel, set_fun, hav
 use Rattle.rml_command.specs.Models.{ModelTree, FitsPath, FitsModel}
 use Rattle.rml_command.specs.Goals.{Group, stage_paths, goal_path, leading_sorts, HasAbout, IsGoal}
 use Rattle.rml_command.specs.Laws.{GoalPathsFit}
-use Rattle.rml_command.specs.declared.names.Names.{Names}
 use Rattle.rml_command.specs.declared.goal.Stage.{Stage}
 use Rattle.rml_command.specs.declared.goal.Stage.TheVariants as stage
 use Rattle.rml_command.specs.declared.goal.About.{About}
@@ -27,26 +26,25 @@ use Rattle.rml_report.specs.Words.{numbers_line}
 use Rattle.rml_report.specs.TableText.{sort_line}
 use Rattle.rml_report.specs.ReportText.{path_line}
 use Rattle.rml_report.specs.Reports.{goal_at}
-use Rattle.line_scan.specs.Lines.{LinesLeft, first_of}
 use Rattle.line_scan.specs.Scanning.{most}
 use Rattle.line_scan.specs.Laws.{ScansAreExact}
-use Rattle.printed_report.specs.Executions.{IsSize, havoc_sorts, sorts_along, HasSizes, HasEnd, IsExecution}
-use Rattle.printed_report.specs.Lines.{IsLeastLine, sort_lines, table_lines, end_lines, block_lines}
+use Rattle.printed_report.specs.Executions.{IsSize, havoc_sorts, sorts_along, HasEnd}
+use Rattle.printed_report.specs.Lines.{IsLeastLine, sort_lines, table_lines, end_lines}
 use Rattle.printed_report.specs.PrintedReports.{IsBlock}
 use Rattle.printed_report.specs.declared.printed.PrintedAnswer.{PrintedAnswer}
 use Rattle.printed_report.specs.declared.printed.PrintedAnswer.TheVariants as answer
-use Rattle.report_read.specs.Got.{Got, got, one, and_then}
+use Rattle.report_read.specs.Got.{got, and_then}
 use Rattle.report_read.specs.LineReading.{is_least_line, path_in, elements_in, words_in}
-use Rattle.report_read.specs.Reading.{passing, read_sizes, read_tables, read_structure, read_elements, value_sorts, read_words}
+use Rattle.report_read.specs.Reading.{passing, read_sizes, read_tables, read_structure, value_sorts, read_words}
 use Rattle.report_read.specs.Reading.{end_in, no_end, read_end_tables, read_after, read_abort, read_end, read_path, read_least}
 use Rattle.report_read.specs.Reading.{read_values, read_havoc, read_opening, read_course, shown_of, fails_of, read_execution}
-use Rattle.report_read.specs.Reading.{read_block, AreSizes, HasTables}
+use Rattle.report_read.specs.Reading.{read_block, AreSizes}
 use Rattle.report_read.specs.declared.block.End.{End}
 use Rattle.report_read.specs.declared.block.Course.{Course}
 use Rattle.report_read.proofs.Parts.{Lines, IsPart, IsLine, IsOne, IsBoth, IsMade, part_as, one_part, both_part, made_part}
 use Rattle.report_read.proofs.HeadLines.{words_line, IsPathLine, path_line_is}
 use Rattle.report_read.proofs.LeastLines.{least_line_is, IsElements, elements_line_is, zeros_in, small_at}
-use Rattle.report_read.proofs.SizeLines.{IsSortSize, SizesFrom, sizes_part, size_lines, size_lines_are, positive_sizes}
+use Rattle.report_read.proofs.SizeLines.{IsSortSize, SizesFrom, sizes_part, size_lines_are, positive_sizes}
 use Rattle.report_read.proofs.SizeLines.{few_elements}
 use Rattle.report_read.proofs.TableParts.{AreTables, tables_part}
 
@@ -125,13 +123,14 @@ module _ (x : ScansAreExact) (numbered_are : TuplesAreNumbered) (m : ModelTree) 
   structure_to : (n : ℕ) (s : Tables) (lines : Lines) → StructureFrom n s lines → IsStructureText m n s lines
   structure_to n s lines is =
       let a = is.3 in
-      let values : s.sizes ≡ a.values = is.4.0.sizes_are ∙ a.all in
-      (is.4.0.fits,
-      subst (All IsSize) (sym values) (All-from_recursion IsSize a.values (few_elements a.values a.can)),
-      is.5
-      ∙ ap (λ l. l ++ is.2) (a.text ∙ sym (size_lines_are m.names a.values)
-      ∙ ap (λ z. map (λ j. sort_line m.names j (slice_index z j)) (count_from 0 (length z))) (sym values))
-      ∙ ap (λ l. sort_lines m.names s ++ l) is.4.1)
+      let values : s.sizes ≡ a.values = is.4.0.sizes_are ∙ a.all in (
+        is.4.0.fits,
+        subst (All IsSize) (sym values) (All-from_recursion IsSize a.values (few_elements a.values a.can)),
+        is.5
+            ∙ ap (λ l. l ++ is.2) (a.text ∙ sym (size_lines_are m.names a.values)
+            ∙ ap (λ z. map (λ j. sort_line m.names j (slice_index z j)) (count_from 0 (length z))) (sym values))
+            ∙ ap (λ l. sort_lines m.names s ++ l) is.4.1,
+      )
 
   -- sizes that are printed, from a structure
   sort_sizes : (sizes : List ℕ) → AllByRecursion (λ n. 0 < n) sizes → AllByRecursion IsSize sizes
@@ -140,17 +139,21 @@ module _ (x : ScansAreExact) (numbered_are : TuplesAreNumbered) (m : ModelTree) 
   sort_sizes (v ∷ vs) a b = ((omega (arith, a.0), b.0), sort_sizes vs a.1 b.1)
 
   structure_back : (n : ℕ) (s : Tables) (lines : Lines) → IsStructureText m n s lines → StructureFrom n s lines
-  structure_back n s lines is =
-      (s.sizes, sort_lines m.names s, table_lines m.names s,
-      record {
-        values = s.sizes;
-        count = sym is.0.sorts;
-        can = sort_sizes s.sizes (recursion_from_All (λ n. 0 < n) s.sizes is.0.whole.positive)
-            (recursion_from_All IsSize s.sizes is.1);
-        all = refl;
-        text = size_lines_are m.names s.sizes;
-      },
-      (record { fits = is.0; sizes_are = refl }, refl), is.2)
+  structure_back n s lines is = (
+    s.sizes,
+    sort_lines m.names s,
+    table_lines m.names s,
+    record {
+      values = s.sizes;
+      count = sym is.0.sorts;
+      can = sort_sizes s.sizes (recursion_from_All (λ n. 0 < n) s.sizes is.0.whole.positive)
+          (recursion_from_All IsSize s.sizes is.1);
+      all = refl;
+      text = size_lines_are m.names s.sizes;
+    },
+    (record { fits = is.0; sizes_are = refl }, refl),
+    is.2,
+  )
 
   structure_part : IsPart (read_structure m) (IsStructureText m)
   structure_part =
@@ -185,14 +188,17 @@ module _ (x : ScansAreExact) (numbered_are : TuplesAreNumbered) (m : ModelTree) 
 
       abort_to : (n : ℕ) (end : End) (lines : Lines) → AbortFrom n end lines → IsEnd about.Abort n end lines
       abort_to n end lines is =
-          let one = is.1 in
-          ((sym (ap (λ (e : End). e.values) is.2), sym (ap (λ (e : End). e.after) is.2)),
-          one.2 ∙ ap (λ l. l ∷ []) one.1)
+          let one = is.1 in (
+            (sym (ap (λ (e : End). e.values) is.2), sym (ap (λ (e : End). e.after) is.2)),
+            one.2 ∙ ap (λ l. l ∷ []) one.1,
+          )
 
       abort_back : (n : ℕ) (end : End) (lines : Lines) → IsEnd about.Abort n end lines → AbortFrom n end lines
-      abort_back n end lines is =
-          (tt, (codes "  aborts\n", refl, is.1),
-          ap (λ vs. make_end None vs) (sym is.0.0) ∙ ap (λ t. make_end t end.values) (sym is.0.1))
+      abort_back n end lines is = (
+        tt,
+        (codes "  aborts\n", refl, is.1),
+        ap (λ vs. make_end None vs) (sym is.0.0) ∙ ap (λ t. make_end t end.values) (sym is.0.1),
+      )
 
       abort_part : IsPart read_abort (IsEnd about.Abort)
       abort_part =
@@ -225,10 +231,17 @@ module _ (x : ScansAreExact) (numbered_are : TuplesAreNumbered) (m : ModelTree) 
             ∙ ap (λ l. codes "  after\n" ∷ l) tables.1 in
             let last : is.2 ≡ numbers_line (codes "  values:") is.4.0 ∷ [] =
             values.2 ∙ ap (λ l. l ∷ []) values.1.text in
-            subst (λ e. IsEnd (about.Conjecture k) n e lines) is.4.2
-            ((c, is.0, is_c, refl, record { structure = tables.0.fits; sizes = tables.0.sizes_are },
-            subst (λ ks. InRange s.sizes ks is.4.0) leading values.1.in_range),
-            is.5 ∙ ap (λ l. l ++ is.2) head ∙ ap (λ l. (codes "  after\n" ∷ table_lines m.names is.0) ++ l) last)
+            subst (λ e. IsEnd (about.Conjecture k) n e lines) is.4.2 (
+              (
+                c,
+                is.0,
+                is_c,
+                refl,
+                record { structure = tables.0.fits; sizes = tables.0.sizes_are },
+                subst (λ ks. InRange s.sizes ks is.4.0) leading values.1.in_range,
+              ),
+              is.5 ∙ ap (λ l. l ++ is.2) head ∙ ap (λ l. (codes "  after\n" ∷ table_lines m.names is.0) ++ l) last,
+            )
 
         after_back : (n : ℕ) (end : End) (lines : Lines) → IsEnd (about.Conjecture k) n end lines → AfterFrom n end lines
         after_back n end lines is =
@@ -237,16 +250,32 @@ module _ (x : ScansAreExact) (numbered_are : TuplesAreNumbered) (m : ModelTree) 
             let t : Tables = h.1 in
             let end_is : end_in h.1 end.values ≡ end = ap (λ o. make_end o end.values) (sym h.3) in
             let text : lines ≡ end_lines m.names (about.Conjecture k) end.values (Some h.1) =
-            is.1 ∙ ap (end_lines m.names (about.Conjecture k) end.values) h.3 in
-            (h.1, codes "  after\n" ∷ table_lines m.names h.1, numbers_line (codes "  values:") end.values ∷ [],
-            (tt, codes "  after\n" ∷ [], table_lines m.names h.1, (codes "  after\n", refl, refl),
-            (record { fits = h.4.structure; sizes_are = h.4.sizes }, refl), refl),
-            (end.values, (numbers_line (codes "  values:") end.values,
-            record {
-              in_range = subst (λ ks. InRange s.sizes ks end.values) (ap leading_sorts same ∙ sym leading) h.5;
-              text = refl;
-            }, refl), end_is),
-            text)
+            is.1 ∙ ap (end_lines m.names (about.Conjecture k) end.values) h.3 in (
+              h.1,
+              codes "  after\n" ∷ table_lines m.names h.1,
+              numbers_line (codes "  values:") end.values ∷ [],
+              (
+                tt,
+                codes "  after\n" ∷ [],
+                table_lines m.names h.1,
+                (codes "  after\n", refl, refl),
+                (record { fits = h.4.structure; sizes_are = h.4.sizes }, refl),
+                refl,
+              ),
+              (
+                end.values,
+                (
+                  numbers_line (codes "  values:") end.values,
+                  record {
+                    in_range = subst (λ ks. InRange s.sizes ks end.values) (ap leading_sorts same ∙ sym leading) h.5;
+                    text = refl;
+                  },
+                  refl,
+                ),
+                end_is,
+              ),
+              text,
+            )
 
         values_known : AllByRecursion (λ j. j < m.signature.sorts) (leading_sorts c)
             → IsPart (read_values m k s) (IsOne ValuesOf)
@@ -301,17 +330,22 @@ module _ (x : ScansAreExact) (numbered_are : TuplesAreNumbered) (m : ModelTree) 
         course_to : (n : ℕ) (course : Course) (lines : Lines) → CourseFrom n course lines → IsCourse n course lines
         course_to n course lines is =
             let one = is.3 in
-            subst (λ c. IsCourse n c lines) is.4.2
-            (one.1.in_range, is.4.1.0,
-            is.5 ∙ ap (λ l. l ++ is.2) one.2 ∙ ap (λ l. l ∷ is.2) one.1.text
-            ∙ ap (λ ls. numbers_line (codes "  havoc:") is.0 ∷ ls) is.4.1.1)
+            subst (λ c. IsCourse n c lines) is.4.2 (
+              one.1.in_range,
+              is.4.1.0,
+              is.5 ∙ ap (λ l. l ++ is.2) one.2 ∙ ap (λ l. l ∷ is.2) one.1.text
+                  ∙ ap (λ ls. numbers_line (codes "  havoc:") is.0 ∷ ls) is.4.1.1,
+            )
 
         course_back : (n : ℕ) (course : Course) (lines : Lines) → IsCourse n course lines → CourseFrom n course lines
-        course_back n course lines is =
-            (course.havoc, numbers_line (codes "  havoc:") course.havoc ∷ [],
-            end_lines m.names group.about course.end.values course.end.after,
-            (numbers_line (codes "  havoc:") course.havoc, record { in_range = is.0; text = refl }, refl),
-            (course.end, (is.1, refl), refl), is.2)
+        course_back n course lines is = (
+          course.havoc,
+          numbers_line (codes "  havoc:") course.havoc ∷ [],
+          end_lines m.names group.about course.end.values course.end.after,
+          (numbers_line (codes "  havoc:") course.havoc, record { in_range = is.0; text = refl }, refl),
+          (course.end, (is.1, refl), refl),
+          is.2,
+        )
 
         course_part : IsPart (read_course m (goal_at group path) s) IsCourse
         course_part =
@@ -371,11 +405,21 @@ module _ (x : ScansAreExact) (numbered_are : TuplesAreNumbered) (m : ModelTree) 
         }
 
     opening_back : (n path : ℕ) (lines : Lines) → IsOpening n path lines → OpeningFrom n path lines
-    opening_back n path lines is =
-        (path, path_line path (length (stage_paths m group.stage)) ∷ [], is.least ∷ codes "  before\n" ∷ [],
-        (path_line path (length (stage_paths m group.stage)), record { goal_is = is.is_goal; text = refl }, refl),
-        (tt, is.least ∷ [], codes "  before\n" ∷ [], (is.least, is.is_least, refl),
-        (tt, (codes "  before\n", refl, refl), refl), refl), is.text)
+    opening_back n path lines is = (
+      path,
+      path_line path (length (stage_paths m group.stage)) ∷ [],
+      is.least ∷ codes "  before\n" ∷ [],
+      (path_line path (length (stage_paths m group.stage)), record { goal_is = is.is_goal; text = refl }, refl),
+      (
+        tt,
+        is.least ∷ [],
+        codes "  before\n" ∷ [],
+        (is.least, is.is_least, refl),
+        (tt, (codes "  before\n", refl, refl), refl),
+        refl,
+      ),
+      is.text,
+    )
 
     module _ (first : ℕ) (first_is : IsGoal m (goal_at group first)) where
       opening_part : IsPart (read_opening m group (length (stage_paths m group.stage))) IsOpening
@@ -432,28 +476,32 @@ module _ (x : ScansAreExact) (numbered_are : TuplesAreNumbered) (m : ModelTree) 
           let s : Tables = is.4.0 in
           let made = is.4.4 in
           let course : Course = is.4.4.0 in
-          let of = is.4.4.1 in
-          (length (stage_paths m group.stage), shown_of group is.0 is.4.0 is.4.4.0, is.4.4.0.end.after, sym is.4.4.2,
-          record {
-            execution = record {
-              goal = refl;
-              is_goal = is.3.is_goal;
-              count = refl;
-              structure = is.4.3.0;
-              sizes = is.4.3.1;
-              havoc = is.4.4.1.0;
-              end = is.4.4.1.1;
-            };
-            least = is.3.least;
-            is_least = is.3.is_least;
-            text = is.5 ∙ ap (λ l. l ++ is.2) is.3.text
-                ∙ ap (λ l. path_line is.0 (length (stage_paths m group.stage)) ∷ is.3.least ∷ codes "  before\n" ∷ l)
-                (is.4.5 ∙ ap (λ l. l ++ is.4.2) is.4.3.2
-                ∙ ap (λ l. (sort_lines m.names is.4.0 ++ table_lines m.names is.4.0) ++ l) is.4.4.1.2
-                ∙ append_assoc (sort_lines m.names is.4.0) (table_lines m.names is.4.0)
-                (numbers_line (codes "  havoc:") is.4.4.0.havoc
-                ∷ end_lines m.names group.about is.4.4.0.end.values is.4.4.0.end.after));
-          })
+          let of = is.4.4.1 in (
+            length (stage_paths m group.stage),
+            shown_of group is.0 is.4.0 is.4.4.0,
+            is.4.4.0.end.after,
+            sym is.4.4.2,
+            record {
+              execution = record {
+                goal = refl;
+                is_goal = is.3.is_goal;
+                count = refl;
+                structure = is.4.3.0;
+                sizes = is.4.3.1;
+                havoc = is.4.4.1.0;
+                end = is.4.4.1.1;
+              };
+              least = is.3.least;
+              is_least = is.3.is_least;
+              text = is.5 ∙ ap (λ l. l ++ is.2) is.3.text
+                  ∙ ap (λ l. path_line is.0 (length (stage_paths m group.stage)) ∷ is.3.least ∷ codes "  before\n" ∷ l)
+                  (is.4.5 ∙ ap (λ l. l ++ is.4.2) is.4.3.2
+                  ∙ ap (λ l. (sort_lines m.names is.4.0 ++ table_lines m.names is.4.0) ++ l) is.4.4.1.2
+                  ∙ append_assoc (sort_lines m.names is.4.0) (table_lines m.names is.4.0)
+                  (numbers_line (codes "  havoc:") is.4.4.0.havoc
+                  ∷ end_lines m.names group.about is.4.4.0.end.values is.4.4.0.end.after));
+            },
+          )
 
       block_back : (n : ℕ) (a : PrintedAnswer) (lines : Lines) → IsBlockText m group n a lines → BlockFrom n a lines
       block_back n a lines is =
@@ -474,26 +522,38 @@ module _ (x : ScansAreExact) (numbered_are : TuplesAreNumbered) (m : ModelTree) 
           (sym is.4.execution.goal) ∙ sym is.3 in
           let last : Lines = numbers_line (codes "  havoc:") is.1.trace.havoc
           ∷ end_lines m.names group.about is.1.values is.2 in
-          let tail : Lines = (sort_lines m.names is.1.structure ++ table_lines m.names is.1.structure) ++ last in
-          (is.1.trace.path,
-          path_line is.1.trace.path (length (stage_paths m group.stage)) ∷ is.4.least ∷ codes "  before\n" ∷ [],
-          (sort_lines m.names is.1.structure ++ table_lines m.names is.1.structure)
-          ++ (numbers_line (codes "  havoc:") is.1.trace.havoc ∷ end_lines m.names group.about is.1.values is.2),
-          record { is_goal = is_goal; least = is.4.least; is_least = is.4.is_least; text = refl },
-          (is.1.structure, sort_lines m.names is.1.structure ++ table_lines m.names is.1.structure,
-          numbers_line (codes "  havoc:") is.1.trace.havoc ∷ end_lines m.names group.about is.1.values is.2,
-          (is.4.execution.structure, is.4.execution.sizes, refl),
-          (make_course is.1.trace.havoc (make_end is.2 is.1.values),
-          (subst (λ g. InRange is.1.structure.sizes (sorts_along (symbols m.signature) (goal_path m g))
-          is.1.trace.havoc) is.4.execution.goal is.4.execution.havoc, is.4.execution.end, refl), same), refl),
-          is.4.text
-          ∙ ap (λ k. path_line is.1.trace.path k ∷ is.4.least ∷ codes "  before\n"
-          ∷ (sort_lines m.names is.1.structure ++ (table_lines m.names is.1.structure
-          ++ numbers_line (codes "  havoc:") is.1.trace.havoc ∷ end_lines m.names group.about is.1.values is.2)))
-          is.4.execution.count
-          ∙ ap (λ l. path_line is.1.trace.path (length (stage_paths m group.stage)) ∷ is.4.least ∷ codes "  before\n" ∷ l)
-          (sym (append_assoc (sort_lines m.names is.1.structure) (table_lines m.names is.1.structure)
-          (numbers_line (codes "  havoc:") is.1.trace.havoc ∷ end_lines m.names group.about is.1.values is.2))))
+          let tail : Lines = (sort_lines m.names is.1.structure ++ table_lines m.names is.1.structure) ++ last in (
+            is.1.trace.path,
+            path_line is.1.trace.path (length (stage_paths m group.stage)) ∷ is.4.least ∷ codes "  before\n" ∷ [],
+            (sort_lines m.names is.1.structure ++ table_lines m.names is.1.structure)
+                ++ (numbers_line (codes "  havoc:") is.1.trace.havoc ∷ end_lines m.names group.about is.1.values is.2),
+            record { is_goal = is_goal; least = is.4.least; is_least = is.4.is_least; text = refl },
+            (
+              is.1.structure,
+              sort_lines m.names is.1.structure ++ table_lines m.names is.1.structure,
+              numbers_line (codes "  havoc:") is.1.trace.havoc ∷ end_lines m.names group.about is.1.values is.2,
+              (is.4.execution.structure, is.4.execution.sizes, refl),
+              (
+                make_course is.1.trace.havoc (make_end is.2 is.1.values),
+                (
+                  subst (λ g. InRange is.1.structure.sizes (sorts_along (symbols m.signature) (goal_path m g))
+                      is.1.trace.havoc) is.4.execution.goal is.4.execution.havoc,
+                  is.4.execution.end,
+                  refl,
+                ),
+                same,
+              ),
+              refl,
+            ),
+            is.4.text
+                ∙ ap (λ k. path_line is.1.trace.path k ∷ is.4.least ∷ codes "  before\n"
+                ∷ (sort_lines m.names is.1.structure ++ (table_lines m.names is.1.structure
+                ++ numbers_line (codes "  havoc:") is.1.trace.havoc ∷ end_lines m.names group.about is.1.values is.2)))
+                is.4.execution.count
+                ∙ ap (λ l. path_line is.1.trace.path (length (stage_paths m group.stage)) ∷ is.4.least ∷ codes "  before\n" ∷ l)
+                (sym (append_assoc (sort_lines m.names is.1.structure) (table_lines m.names is.1.structure)
+                (numbers_line (codes "  havoc:") is.1.trace.havoc ∷ end_lines m.names group.about is.1.values is.2))),
+          )
 
       pub block_part : IsPart (read_block m group) (IsBlockText m group)
       block_part =

@@ -1,11 +1,11 @@
 -- The lines of groups, and whole reports.
 use Rattle.std.proofs.Common.{◌≡◌, ℕ, zero, suc, ◌+◌, ◌<◌, ◌≤◌, Bool, true, false, List, [], ◌∷◌, ◌++◌, length, map, Option}
-use Rattle.std.proofs.Common.{Some, None, refl, sym, ap, ◌∙◌, subst, cond, arith, append_assoc, append-nil, length-append}
+use Rattle.std.proofs.Common.{Some, None, refl, sym, ap, ◌∙◌, subst, cond, arith, append_assoc, append-nil}
 use Rattle.std.specs.Prelude.{codes, slice_get}
 use Rattle.std.specs.List.{AllByRecursion, flat_map}
 use Rattle.base.specs.Lists.{count_from, numbered}
 use Rattle.base.proofs.Lists.{all_append, all_at}
-use Rattle.fol_sig.specs.Tables.{Tables, IsSignature}
+use Rattle.fol_sig.specs.Tables.{IsSignature}
 use Rattle.fol_sig.specs.Tuples.{TuplesAreNumbered}
 use Rattle.rml_command.specs.Trees.{PrimitiveTree, CommandTree}
 use Rattle.rml_command.specs.Fragment.{IsChecked, HasFewPaths}
@@ -13,7 +13,6 @@ use Rattle.rml_command.specs.Models.{ModelTree, FitsModel}
 use Rattle.rml_command.specs.Goals.{Group, stage_groups, groups_of, stage_paths, paths_of_block, is_for, HasAbout}
 use Rattle.rml_command.specs.Goals.{IsGoal}
 use Rattle.rml_command.specs.Laws.{GoalPathsFit}
-use Rattle.rml_command.specs.declared.names.Names.{Names}
 use Rattle.rml_command.specs.declared.goal.Stage.{Stage}
 use Rattle.rml_command.specs.declared.goal.Stage.TheVariants as stage
 use Rattle.rml_command.specs.declared.goal.About.{About}
@@ -21,19 +20,19 @@ use Rattle.rml_command.specs.declared.goal.About.TheVariants as about
 use Rattle.rml_report.specs.ReportText.{verdict_text, stage_text, about_text}
 use Rattle.rml_report.specs.Reports.{goal_at}
 use Rattle.rml_report.specs.declared.report.Verdict.{Verdict}
-use Rattle.line_scan.specs.Lines.{LinesLeft, first_of}
+use Rattle.line_scan.specs.Lines.{LinesLeft}
 use Rattle.line_scan.specs.Scanning.{behind}
 use Rattle.line_scan.specs.Laws.{ScansAreExact}
-use Rattle.printed_report.specs.Lines.{IsAxiomsLine, IsUndecidedLine}
+use Rattle.printed_report.specs.Lines.{IsAxiomsLine}
 use Rattle.printed_report.specs.PrintedReports.{head_line, Says, IsGroup, AreGroups, IsPrinted, BeginsReport, IsUnexpected}
 use Rattle.printed_report.specs.PrintedReports.{IsUnread}
 use Rattle.printed_report.specs.declared.printed.Printed.{Printed}
 use Rattle.printed_report.specs.declared.printed.PrintedGroup.{PrintedGroup}
 use Rattle.printed_report.specs.declared.printed.PrintedAnswer.{PrintedAnswer}
 use Rattle.printed_report.specs.declared.printed.PrintedAnswer.TheVariants as answer
-use Rattle.report_read.specs.Got.{Got, got, stuck, one, and_then}
+use Rattle.report_read.specs.Got.{Got, got, stuck, and_then}
 use Rattle.report_read.specs.LineReading.{on, has_goal, has_goal_among, head_in, head_end, is_axioms_line, verdict_in}
-use Rattle.report_read.specs.Reading.{passing, read_axioms, read_head, read_answer, read_block, read_said, group_of, read_group}
+use Rattle.report_read.specs.Reading.{passing, read_axioms, read_head, read_answer, read_said, group_of, read_group}
 use Rattle.report_read.specs.Reading.{read_groups, read_verdict, printed_of, read_lines, ended, read_nothing, read_all}
 use Rattle.report_read.specs.Laws.{ReadingIsExact, PrintedIsOne}
 use Rattle.report_read.specs.declared.heads.Head.{Head}
@@ -164,15 +163,30 @@ module _ (x : ScansAreExact) (numbered_are : TuplesAreNumbered) (m : ModelTree) 
         said_by (n + length is.1) a is.0 is.3.0 is.2 lines is.3.1 is.4 (is.5 ∙ ap (λ l. l ++ is.2) is.3.2)
 
     said_back : (n : ℕ) (a : PrintedAnswer) (lines : Lines) → Says m group a lines → SaidFrom n a lines
-    said_back n answer.Holds lines is =
-        (head.Holds, head_line m group (codes ": holds\n") ∷ [], [],
-        (head_line m group (codes ": holds\n"), refl, refl), (refl, refl), is)
-    said_back n (answer.Fails paths shown after) lines is =
-        (head.Fails, head_line m group (codes ": fails\n") ∷ [], is.0,
-        (head_line m group (codes ": fails\n"),
-        (refl, goal_has m group shown.trace.path
-        (subst (IsGoal m) is.1.execution.goal is.1.execution.is_goal)), refl),
-        (paths, shown, after, refl, is.1), is.2)
+    said_back n answer.Holds lines is = (
+      head.Holds,
+      head_line m group (codes ": holds\n") ∷ [],
+      [],
+      (head_line m group (codes ": holds\n"), refl, refl),
+      (refl, refl),
+      is,
+    )
+    said_back n (answer.Fails paths shown after) lines is = (
+      head.Fails,
+      head_line m group (codes ": fails\n") ∷ [],
+      is.0,
+      (
+        head_line m group (codes ": fails\n"),
+        (
+          refl,
+          goal_has m group shown.trace.path
+              (subst (IsGoal m) is.1.execution.goal is.1.execution.is_goal),
+        ),
+        refl,
+      ),
+      (paths, shown, after, refl, is.1),
+      is.2,
+    )
     said_back n answer.Undecided lines is =
         (head.Undecided, is.0 ∷ [], [], (is.0, is.1, refl), (refl, refl), is.2)
 
@@ -194,11 +208,13 @@ module _ (x : ScansAreExact) (numbered_are : TuplesAreNumbered) (m : ModelTree) 
 
     group_back : (n : ℕ) (g : PrintedGroup) (lines : Lines) → OfGroup n g lines
         → IsMade (λ (_ : ℕ). Says m group) (group_of group) n g lines
-    group_back n g lines is =
-        (g.answer, is.answer,
-        ap (λ s. make_group s group.about n g.answer) (sym is.stage)
-        ∙ ap (λ a. make_group g.stage a n g.answer) (sym is.about)
-        ∙ ap (λ k. make_group g.stage g.about k g.answer) (sym is.line))
+    group_back n g lines is = (
+      g.answer,
+      is.answer,
+      ap (λ s. make_group s group.about n g.answer) (sym is.stage)
+          ∙ ap (λ a. make_group g.stage a n g.answer) (sym is.about)
+          ∙ ap (λ k. make_group g.stage g.about k g.answer) (sym is.line),
+    )
 
     group_part : IsPart (read_group m group) OfGroup
     group_part =
@@ -249,9 +265,14 @@ module _ (x : ScansAreExact) (numbered_are : TuplesAreNumbered) (m : ModelTree) 
       by : (more : List PrintedGroup) → gs ≡ done ++ more → AreGroups m n (group ∷ groups) more lines
           → GroupStep group groups done n gs lines
       by [] all are = absurd are
-      by (g ∷ more) all are =
-          (g, are.0, are.1, are.2,
-          record { more = more; all = all ∙ sym (append_assoc done (g ∷ []) more); are = are.3 }, are.4)
+      by (g ∷ more) all are = (
+        g,
+        are.0,
+        are.1,
+        are.2,
+        record { more = more; all = all ∙ sym (append_assoc done (g ∷ []) more); are = are.3 },
+        are.4,
+      )
 
   groups_part : (groups : List Group) → AllByRecursion (HasForm m) groups
       → (done : List PrintedGroup) → IsPart (read_groups m groups done) (GroupsFrom groups done)
@@ -308,12 +329,21 @@ module _ (x : ScansAreExact) (numbered_are : TuplesAreNumbered) (m : ModelTree) 
       })
 
   printed_back : (p : Printed) (lines : Lines) → IsPrinted m p lines → LinesFrom 1 p lines
-  printed_back p lines is =
-      (tt, is.axioms ∷ [], is.middle ++ verdict_text p.verdict ∷ [], (is.axioms, is.is_axioms, refl),
-      (p.groups, is.middle, verdict_text p.verdict ∷ [],
+  printed_back p lines is = (
+    tt,
+    is.axioms ∷ [],
+    is.middle ++ verdict_text p.verdict ∷ [],
+    (is.axioms, is.is_axioms, refl),
+    (
+      p.groups,
+      is.middle,
+      verdict_text p.verdict ∷ [],
       record { more = p.groups; all = refl; are = is.groups },
-      (p.verdict, (verdict_text p.verdict, refl, refl), refl), refl),
-      is.text)
+      (p.verdict, (verdict_text p.verdict, refl, refl), refl),
+      refl,
+    ),
+    is.text,
+  )
 
   -- what the whole reader answers
   abbrev start : Lines → LinesLeft

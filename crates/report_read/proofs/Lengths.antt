@@ -1,5 +1,5 @@
 -- How many cells a line gives, and that they are elements.
-use Rattle.std.proofs.Common.{◌≡◌, ℕ, zero, suc, ◌+◌, ◌<◌, ◌≤◌, Bool, true, false, List, [], ◌∷◌, ◌++◌, length, Option, Some, None}
+use Rattle.std.proofs.Common.{◌≡◌, ℕ, ◌+◌, ◌<◌, ◌≤◌, Bool, true, false, List, [], ◌∷◌, ◌++◌, length, Option, Some, None}
 use Rattle.std.proofs.Common.{refl, sym, ap, ◌∙◌, subst, cond, arith, length-append, All}
 use Rattle.std.specs.Prelude.{codes, nat_lt, nat_le, ◌&&◌}
 use Rattle.std.specs.Str.{bytes_eq}
@@ -45,8 +45,11 @@ relation_length : (sizes ks : List ℕ) (bs : List ℕ) (cells : List Bool) → 
     → length cells ≡ tuple_count sizes ks
 relation_length sizes [] bs cells e = truth_length bs cells e
 relation_length sizes (k ∷ ks) bs cells e =
-    omega (arith, truths_length (all_tuples sizes (k ∷ ks)) [] cells bs e,
-    length-tuples_from sizes (k ∷ ks) 0 (tuple_count sizes (k ∷ ks)))
+    omega (
+      arith,
+      truths_length (all_tuples sizes (k ∷ ks)) [] cells bs e,
+      length-tuples_from sizes (k ∷ ks) 0 (tuple_count sizes (k ∷ ks)),
+    )
 
 pub length_truths : (sizes given ks name line : List ℕ) (cells : List Bool) → given ≡ sizes
     → truths_in given ks name line ≡ Some cells → length cells ≡ tuple_count sizes ks

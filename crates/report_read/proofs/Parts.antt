@@ -3,7 +3,7 @@
 use Rattle.std.proofs.Common.{◌≡◌, ℕ, ◌+◌, List, [], ◌∷◌, ◌++◌, length, Option, Some, None, refl, sym, ap, ◌∙◌, subst}
 use Rattle.std.proofs.Common.{arith, append_assoc, length-append}
 use Rattle.line_scan.specs.Lines.{first_of, LinesLeft}
-use Rattle.report_read.specs.Got.{Got, got, stuck, one, and_then, passed}
+use Rattle.report_read.specs.Got.{Got, got, stuck, one, and_then}
 
 abbrev pub Lines : Type 0
 Lines = List (List ℕ)
@@ -235,9 +235,14 @@ module _ {A B : Type 0} (read : LinesLeft → Got A) (Is : ℕ → A → Lines �
             number = h.number;
             value = p.value (n + length (h.front ++ h.more));
             more = h.more ++ p.text (n + length (h.front ++ h.more));
-            begun = (h.value, h.front ++ h.more, p.text (n + length (h.front ++ h.more)), h.begun,
-                p.some (n + length (h.front ++ h.more)),
-                sym (append_assoc h.front h.more (p.text (n + length (h.front ++ h.more)))));
+            begun = (
+              h.value,
+              h.front ++ h.more,
+              p.text (n + length (h.front ++ h.more)),
+              h.begun,
+              p.some (n + length (h.front ++ h.more)),
+              sym (append_assoc h.front h.more (p.text (n + length (h.front ++ h.more)))),
+            );
             same = λ line others after is_line.
                 ap (λ g. and_then g next) (h.same line others after is_line);
           }
@@ -250,9 +255,14 @@ module _ {A B : Type 0} (read : LinesLeft → Got A) (Is : ℕ → A → Lines �
             number = h.number ∙ ap (λ k. k + length h.front) a.number ∙ two_lengths n a.front h.front;
             value = h.value;
             more = h.more;
-            begun = (x, a.front, h.front ++ h.more, a.is,
-                subst (λ k. Next x k h.value (h.front ++ h.more)) a.number h.begun,
-                append_assoc a.front h.front h.more);
+            begun = (
+              x,
+              a.front,
+              h.front ++ h.more,
+              a.is,
+              subst (λ k. Next x k h.value (h.front ++ h.more)) a.number h.begun,
+              append_assoc a.front h.front h.more,
+            );
             same = λ line others after is_line.
                 ap (λ l. read_both (left n l)) (append_assoc a.front h.front (line ∷ after))
                 ∙ ap (λ g. and_then g next) (first.there n x a.front (h.front ++ line ∷ after) a.is)
@@ -268,9 +278,14 @@ module _ {A B : Type 0} (read : LinesLeft → Got A) (Is : ℕ → A → Lines �
     value = λ n. (second (first.value n) n (first.text n) (first.some n)).value (n + length (first.text n));
     text = λ n. first.text n
         ++ (second (first.value n) n (first.text n) (first.some n)).text (n + length (first.text n));
-    some = λ n. (first.value n, first.text n,
-        (second (first.value n) n (first.text n) (first.some n)).text (n + length (first.text n)), first.some n,
-        (second (first.value n) n (first.text n) (first.some n)).some (n + length (first.text n)), refl);
+    some = λ n. (
+      first.value n,
+      first.text n,
+      (second (first.value n) n (first.text n) (first.some n)).text (n + length (first.text n)),
+      first.some n,
+      (second (first.value n) n (first.text n) (first.some n)).some (n + length (first.text n)),
+      refl,
+    );
   }
 
 -- what is made of a part

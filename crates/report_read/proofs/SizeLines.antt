@@ -1,6 +1,6 @@
 -- The lines of a structure's sorts.
 use Rattle.std.proofs.Common.{◌≡◌, ℕ, zero, suc, ◌+◌, ◌<◌, ◌≤◌, List, [], ◌∷◌, ◌++◌, length, map, All}
-use Rattle.std.proofs.Common.{refl, sym, ap, ◌∙◌, subst, arith, append_assoc, append-nil}
+use Rattle.std.proofs.Common.{refl, sym, ap, ◌∙◌, arith, append_assoc, append-nil}
 use Rattle.std.specs.Prelude.{codes, decimal, slice_index}
 use Rattle.std.specs.List.{AllByRecursion}
 use Rattle.std.proofs.lemmas.List.Elements.{All-from_recursion}
@@ -11,7 +11,7 @@ use Rattle.rml_report.specs.Words.{name_at, labelled}
 use Rattle.rml_report.specs.TableText.{sort_line}
 use Rattle.line_scan.specs.Lines.{LinesLeft, first_of}
 use Rattle.line_scan.specs.Laws.{ScansAreExact}
-use Rattle.report_read.specs.Got.{got, one, and_then}
+use Rattle.report_read.specs.Got.{got, one}
 use Rattle.report_read.specs.LineReading.{size_in}
 use Rattle.report_read.specs.Reading.{read_sizes}
 use Rattle.report_read.proofs.Parts.{Lines, IsPart, IsLine, IsOne, IsBoth, IsNothing, part_as, nothing, one_part, both_part}
@@ -114,16 +114,20 @@ module _ (x : ScansAreExact) (names : Names) where
       by : (vs : List ℕ) → length vs ≡ suc n → AllByRecursion IsSortSize vs → xs ≡ done ++ vs
           → lines ≡ size_lines names k vs → StepOf k n done m xs lines
       by [] count can all text = absurd (omega (arith, count))
-      by (v ∷ vs) count can all text =
-          (v, sort_line names k v ∷ [], size_lines names (suc k) vs,
-          (sort_line names k v, record { least = can.0.0; most_is = can.0.1; text = line_text k v }, refl),
-          record {
-            values = vs;
-            count = omega (arith, count);
-            can = can.1;
-            all = all ∙ sym (append_assoc done (v ∷ []) vs);
-            text = refl;
-          }, text)
+      by (v ∷ vs) count can all text = (
+        v,
+        sort_line names k v ∷ [],
+        size_lines names (suc k) vs,
+        (sort_line names k v, record { least = can.0.0; most_is = can.0.1; text = line_text k v }, refl),
+        record {
+          values = vs;
+          count = omega (arith, count);
+          can = can.1;
+          all = all ∙ sym (append_assoc done (v ∷ []) vs);
+          text = refl;
+        },
+        text,
+      )
 
   pub sizes_part : (n k : ℕ) (done : List ℕ) → IsPart (read_sizes names k n done)
       (λ (_ : ℕ). SizesFrom names k n done)

@@ -1,6 +1,6 @@
 -- The lines of a structure's tables.
 use Rattle.std.proofs.Common.{◌≡◌, ◌≢◌, ℕ, zero, suc, ◌+◌, ◌<◌, ◌≤◌, Bool, List, [], ◌∷◌, ◌++◌, length, map, All, get_or}
-use Rattle.std.proofs.Common.{refl, sym, ap, ◌∙◌, subst, arith, length-set, set, ⊎_elim}
+use Rattle.std.proofs.Common.{refl, sym, ap, ◌∙◌, subst, arith, length-set, ⊎_elim}
 use Rattle.std.proofs.lemmas.Bool.{cases_eq, cases_lt}
 use Rattle.std.specs.Prelude.{slice_index}
 use Rattle.std.specs.List.{AllByRecursion}
@@ -22,7 +22,7 @@ use Rattle.printed_report.specs.Lines.{table_lines}
 use Rattle.report_read.specs.LineReading.{truths_in, values_in}
 use Rattle.report_read.specs.Reading.{read_truths, read_images, read_relations, read_functions, read_tables, AreSizes}
 use Rattle.report_read.specs.Reading.{HasTables}
-use Rattle.report_read.proofs.Parts.{Lines, IsPart, IsOne, IsBoth, IsNothing, part_as, nothing, one_part, both_part}
+use Rattle.report_read.proofs.Parts.{Lines, IsPart, IsOne, IsBoth, part_as, nothing, one_part, both_part}
 use Rattle.report_read.proofs.TableLines.{truths_line, images_line, relation_line_is, function_line_is, relation_of}
 use Rattle.report_read.proofs.TableLines.{function_of, IsTruths, AreImages, truths_line_is, images_line_is}
 use Rattle.report_read.proofs.Fitting.{no_table, no_function_table, fits_relation_cells, fits_function_cells, fits_blank}
@@ -250,18 +250,25 @@ module _ (names : Names) where
       let inside : k < length u.relations = omega (arith, h.place, h.count) in
       let t : RelationTable = relation_at u k in
       let full = All-get_or (IsFullRelation u.sizes) u.relations k no_table inside h.full in
-      let line : List ℕ = truths_line (name_at names.relations k) u.sizes (relation_at u k) in
-      ((relation_at u k).cells, line ∷ [], relation_lines u (suc k) n,
-      (line,
-      record {
-        full = full.full ∙ ap (λ z. tuple_count z (relation_at u k).sorts) h.sizes
-            ∙ ap (tuple_count s.sizes) (sym (h.sorts k));
-        text = ap (λ z. truths_line (name_at names.relations k) z (relation_at u k)) h.sizes
-            ∙ ap (λ ks. truths_line (name_at names.relations k) s.sizes (relation_of ks (relation_at u k).cells))
-            (sym (h.sorts k));
-      }, refl),
-      build_relations n (suc k) (p + 1) (with_relation_cells s k (relation_at u k).cells) u
-      (set_relation_like k n s u h), refl)
+      let line : List ℕ = truths_line (name_at names.relations k) u.sizes (relation_at u k) in (
+        (relation_at u k).cells,
+        line ∷ [],
+        relation_lines u (suc k) n,
+        (
+          line,
+          record {
+            full = full.full ∙ ap (λ z. tuple_count z (relation_at u k).sorts) h.sizes
+                ∙ ap (tuple_count s.sizes) (sym (h.sorts k));
+            text = ap (λ z. truths_line (name_at names.relations k) z (relation_at u k)) h.sizes
+                ∙ ap (λ ks. truths_line (name_at names.relations k) s.sizes (relation_of ks (relation_at u k).cells))
+                (sym (h.sorts k));
+          },
+          refl,
+        ),
+        build_relations n (suc k) (p + 1) (with_relation_cells s k (relation_at u k).cells) u
+            (set_relation_like k n s u h),
+        refl,
+      )
 
   build_functions : (n k p : ℕ) (s u : Tables) → FunctionsLike k n s u
       → FunctionsFrom k n s p (with_functions s u.functions) (function_lines u k n)
@@ -276,23 +283,30 @@ module _ (names : Names) where
       let full = All-get_or (IsFullFunction u.sizes) u.functions k no_function_table inside h.full in
       let line : List ℕ = images_line (name_at names.functions k) u.sizes (function_at u k) in
       let within : AllByRecursion (λ x. x < slice_index u.sizes (function_at u k).into) (function_at u k).cells =
-      recursion_from_All (λ x. x < slice_index u.sizes (function_at u k).into) (function_at u k).cells full.within in
-      ((function_at u k).cells, line ∷ [], function_lines u (suc k) n,
-      (line,
-      record {
-        full = full.full ∙ ap (λ z. tuple_count z (function_at u k).sorts) h.sizes
-            ∙ ap (tuple_count s.sizes) (sym (h.sorts k));
-        within = subst (λ i. AllByRecursion (λ x. x < slice_index s.sizes i) (function_at u k).cells) (sym (h.into k))
-            (subst (λ z. AllByRecursion (λ x. x < slice_index z (function_at u k).into) (function_at u k).cells) h.sizes
-            within);
-        text = ap (λ z. images_line (name_at names.functions k) z (function_at u k)) h.sizes
-            ∙ ap (λ ks. images_line (name_at names.functions k) s.sizes
-            (function_of ks (function_at u k).into (function_at u k).cells)) (sym (h.sorts k))
-            ∙ ap (λ i. images_line (name_at names.functions k) s.sizes
-            (function_of (function_at s k).sorts i (function_at u k).cells)) (sym (h.into k));
-      }, refl),
-      build_functions n (suc k) (p + 1) (with_function_cells s k (function_at u k).cells) u
-      (set_function_like k n s u h), refl)
+      recursion_from_All (λ x. x < slice_index u.sizes (function_at u k).into) (function_at u k).cells full.within in (
+        (function_at u k).cells,
+        line ∷ [],
+        function_lines u (suc k) n,
+        (
+          line,
+          record {
+            full = full.full ∙ ap (λ z. tuple_count z (function_at u k).sorts) h.sizes
+                ∙ ap (tuple_count s.sizes) (sym (h.sorts k));
+            within = subst (λ i. AllByRecursion (λ x. x < slice_index s.sizes i) (function_at u k).cells) (sym (h.into k))
+                (subst (λ z. AllByRecursion (λ x. x < slice_index z (function_at u k).into) (function_at u k).cells) h.sizes
+                within);
+            text = ap (λ z. images_line (name_at names.functions k) z (function_at u k)) h.sizes
+                ∙ ap (λ ks. images_line (name_at names.functions k) s.sizes
+                (function_of ks (function_at u k).into (function_at u k).cells)) (sym (h.sorts k))
+                ∙ ap (λ i. images_line (name_at names.functions k) s.sizes
+                (function_of (function_at s k).sorts i (function_at u k).cells)) (sym (h.into k));
+          },
+          refl,
+        ),
+        build_functions n (suc k) (p + 1) (with_function_cells s k (function_at u k).cells) u
+            (set_function_like k n s u h),
+        refl,
+      )
 
   -- they are read
   module _ (x : ScansAreExact) (numbered : TuplesAreNumbered) where
@@ -378,16 +392,17 @@ module _ (x : ScansAreExact) (numbered : TuplesAreNumbered) (m : ModelTree) (ok 
       let h = give_functions m.names (length m.signature.functions) 0 (n + length is.1) is.0 u is.2
       (functions_all is.0 g.functions) is.4 in
       let fits : FitsStructure (symbols m.signature) u =
-      h.fits (symbols m.signature) (g.fits (symbols m.signature) start_fits) in
-      (record { fits = fits; sizes_are = h.sizes ∙ g.sizes },
-      is.5 ∙ ap (λ l. l ++ is.2)
-      (g.text
-      ∙ ap (λ z. map (λ q. truths_line (name_at m.names.relations q) z (relation_at is.0 q))
-      (count_from 0 (length m.signature.relations))) (sym h.sizes)
-      ∙ ap (λ rs. map (λ q. truths_line (name_at m.names.relations q) u.sizes (get_or rs q no_table))
-      (count_from 0 (length m.signature.relations))) (sym h.relations))
-      ∙ ap (λ l. relation_lines m.names u 0 (length m.signature.relations) ++ l) h.text
-      ∙ lines_as u fits)
+      h.fits (symbols m.signature) (g.fits (symbols m.signature) start_fits) in (
+        record { fits = fits; sizes_are = h.sizes ∙ g.sizes },
+        is.5 ∙ ap (λ l. l ++ is.2)
+            (g.text
+            ∙ ap (λ z. map (λ q. truths_line (name_at m.names.relations q) z (relation_at is.0 q))
+            (count_from 0 (length m.signature.relations))) (sym h.sizes)
+            ∙ ap (λ rs. map (λ q. truths_line (name_at m.names.relations q) u.sizes (get_or rs q no_table))
+            (count_from 0 (length m.signature.relations))) (sym h.relations))
+            ∙ ap (λ l. relation_lines m.names u 0 (length m.signature.relations) ++ l) h.text
+            ∙ lines_as u fits,
+      )
 
   -- tables of the same symbols have the same sorts
   relation_sorts : (u : Tables) → FitsStructure (symbols m.signature) u → (q : ℕ)
@@ -443,36 +458,37 @@ module _ (x : ScansAreExact) (numbered : TuplesAreNumbered) (m : ModelTree) (ok 
       let front : Lines = relation_lines m.names u 0 (length m.signature.relations) in
       let back : Lines = function_lines m.names u 0 (length m.signature.functions) in
       let made : with_functions m.names (with_relations m.names (blank m.signature sizes) u.relations) u.functions ≡ u =
-      ap (λ z. make_tables z u.relations u.functions) (sym is.0.sizes_are) in
-      (with_relations m.names (blank m.signature sizes) u.relations,
-      relation_lines m.names u 0 (length m.signature.relations),
-      function_lines m.names u 0 (length m.signature.functions),
-      build_relations m.names (length m.signature.relations) 0 n (blank m.signature sizes) u
-      (record {
-        sizes = is.0.sizes_are;
-        count = sym start_fits.relations ∙ r;
-        sorts = relation_sorts u is.0.fits;
-        before = λ q lt. absurd (omega arith);
-        place = relations_all;
-        full = is.0.fits.whole.relations_full;
-      }),
-      subst (λ v. FunctionsFrom m.names 0 (length m.signature.functions)
-      (with_relations m.names (blank m.signature sizes) u.relations)
-      (n + length (relation_lines m.names u 0 (length m.signature.relations))) v
-      (function_lines m.names u 0 (length m.signature.functions))) made
-      (build_functions m.names (length m.signature.functions) 0
-      (n + length (relation_lines m.names u 0 (length m.signature.relations)))
-      (with_relations m.names (blank m.signature sizes) u.relations) u
-      (record {
-        sizes = is.0.sizes_are;
-        count = sym start_fits.functions ∙ f;
-        sorts = function_sorts u is.0.fits;
-        into = function_into u is.0.fits;
-        before = λ q lt. absurd (omega arith);
-        place = functions_all (with_relations m.names (blank m.signature sizes) u.relations) refl;
-        full = is.0.fits.whole.functions_full;
-      })),
-      is.1 ∙ sym (lines_as u is.0.fits))
+      ap (λ z. make_tables z u.relations u.functions) (sym is.0.sizes_are) in (
+        with_relations m.names (blank m.signature sizes) u.relations,
+        relation_lines m.names u 0 (length m.signature.relations),
+        function_lines m.names u 0 (length m.signature.functions),
+        build_relations m.names (length m.signature.relations) 0 n (blank m.signature sizes) u
+            (record {
+              sizes = is.0.sizes_are;
+              count = sym start_fits.relations ∙ r;
+              sorts = relation_sorts u is.0.fits;
+              before = λ q lt. absurd (omega arith);
+              place = relations_all;
+              full = is.0.fits.whole.relations_full;
+            }),
+        subst (λ v. FunctionsFrom m.names 0 (length m.signature.functions)
+            (with_relations m.names (blank m.signature sizes) u.relations)
+            (n + length (relation_lines m.names u 0 (length m.signature.relations))) v
+            (function_lines m.names u 0 (length m.signature.functions))) made
+            (build_functions m.names (length m.signature.functions) 0
+            (n + length (relation_lines m.names u 0 (length m.signature.relations)))
+            (with_relations m.names (blank m.signature sizes) u.relations) u
+            (record {
+              sizes = is.0.sizes_are;
+              count = sym start_fits.functions ∙ f;
+              sorts = function_sorts u is.0.fits;
+              into = function_into u is.0.fits;
+              before = λ q lt. absurd (omega arith);
+              place = functions_all (with_relations m.names (blank m.signature sizes) u.relations) refl;
+              full = is.0.fits.whole.functions_full;
+            })),
+        is.1 ∙ sym (lines_as u is.0.fits),
+      )
 
   pub tables_part : IsPart (read_tables m sizes) (AreTables m sizes)
   tables_part =

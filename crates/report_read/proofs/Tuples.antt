@@ -1,7 +1,7 @@
 -- The texts of tuples in a line: which tuple stands in front is told by the text, and the tuples of some sorts stand in
 -- the order of their numbers.
 use Rattle.std.proofs.Common.{◌≡◌, ℕ, zero, suc, ◌+◌, ◌<◌, ◌≤◌, Bool, true, false, List, [], ◌∷◌, ◌++◌, length, map, drop}
-use Rattle.std.proofs.Common.{Option, Some, None, refl, sym, ap, ◌∙◌, subst, cond, arith, append_assoc, append-nil, get_or}
+use Rattle.std.proofs.Common.{Option, Some, None, refl, sym, ap, ◌∙◌, cond, arith, append_assoc, append-nil, get_or}
 use Rattle.std.proofs.Common.{add-one}
 use Rattle.std.specs.Prelude.{codes, decimal, slice_index}
 use Rattle.std.specs.List.{AllByRecursion, flat_map}
@@ -10,7 +10,7 @@ use Rattle.base.proofs.Lists.{flat_map-append}
 use Rattle.std.proofs.lemmas.List.{drop_more}
 use Rattle.fol_sig.specs.Tables.{RelationTable, FunctionTable, InRange, tuple_count, place_of, cell_at}
 use Rattle.fol_sig.specs.Tuples.{join_below, tuples, tuple_at, AreNumbered}
-use Rattle.rml_report.specs.TableText.{each_tuple, more_text, listed_text, tuple_text}
+use Rattle.rml_report.specs.TableText.{each_tuple, more_text, tuple_text}
 use Rattle.line_scan.specs.Scanning.{behind, number_at, most}
 use Rattle.line_scan.specs.Laws.{ScansAreExact, ends_number}
 use Rattle.report_read.specs.LineReading.{tuples_from, all_tuples}
@@ -48,7 +48,6 @@ ends_more (x ∷ xs) r = refl
 module _ (x : ScansAreExact) (sizes : List ℕ) (small : (k : ℕ) → slice_index sizes k ≤ most) where
   same_number : (a b : ℕ) (p q : List ℕ) → a ≤ most → b ≤ most → ends_number p ≡ true → ends_number q ≡ true
       → decimal a ++ p ≡ decimal b ++ q → (a ≡ b) × (p ≡ q)
-
   same_number a b p q la lb ea eb e =
       let h : Some (a, p) ≡ Some (b, q) =
       sym (x.number_there a p la ea) ∙ ap number_at e ∙ x.number_there b q lb eb in
@@ -134,10 +133,11 @@ module _ (sizes ks : List ℕ) (num : AreNumbered sizes ks) where
   others : (n j k : ℕ) → j < k → k + n ≤ tuple_count sizes ks
       → AllByRecursion (λ ys. tuple_at sizes ks j ≡ ys → ⊥) (map (tuple_at sizes ks) (count_from k n))
   others zero j k lt le = tt
-  others (suc n) j k lt le =
-      (λ e. let same : j ≡ k = sym (num.place_of_tuple j (omega arith)) ∙ ap (place_of sizes ks) e
-      ∙ num.place_of_tuple k (omega arith) in absurd (omega (arith, same)),
-      others n j (suc k) (omega arith) (omega arith))
+  others (suc n) j k lt le = (
+    λ e. let same : j ≡ k = sym (num.place_of_tuple j (omega arith)) ∙ ap (place_of sizes ks) e
+        ∙ num.place_of_tuple k (omega arith) in absurd (omega (arith, same)),
+    others n j (suc k) (omega arith) (omega arith),
+  )
 
   pub distinct : (n k : ℕ) → k + n ≤ tuple_count sizes ks → Distinct (map (tuple_at sizes ks) (count_from k n))
   distinct zero k le = tt

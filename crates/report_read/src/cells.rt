@@ -112,11 +112,20 @@ fn truths_end(alloc: Global, first: Scan, sizes: &[u32], sorts: &[Sort]) -> Mem<
         cells.push(truth)?;
         scan = next;
     }
-    if scan.ends() { Ok(Some(cells)) } else { Ok(None) }
+    if scan.ends() {
+        Ok(Some(cells))
+    } else {
+        Ok(None)
+    }
 }
 
 // A tuple, and the value there.
-fn mapped_at<'a>(scan: &Scan<'a>, structure: &Structure, into: Sort, tuple: &[u32]) -> Option<(u32, Scan<'a>)>
+fn mapped_at<'a>(
+    scan: &Scan<'a>,
+    structure: &Structure,
+    into: Sort,
+    tuple: &[u32],
+) -> Option<(u32, Scan<'a>)>
     requires { into.0 < length structure.now.sizes }
     ensures { result ≡ mapped_at (slice_index structure.now.sizes into.0) tuple.now scan.now }
 {
@@ -151,7 +160,11 @@ fn values_end(
         cells.push(value)?;
         scan = behind;
     }
-    if scan.ends() { Ok(Some(cells)) } else { Ok(None) }
+    if scan.ends() {
+        Ok(Some(cells))
+    } else {
+        Ok(None)
+    }
 }
 
 // A blank, `true` or `false`, and the end of the line.
@@ -203,7 +216,12 @@ pub fn truths_in(
 }
 
 // The value of a variable, and the end of the line.
-fn variable_end(alloc: Global, scan: &Scan, structure: &Structure, into: Sort) -> Mem<Option<Row<u32>>>
+fn variable_end(
+    alloc: Global,
+    scan: &Scan,
+    structure: &Structure,
+    into: Sort,
+) -> Mem<Option<Row<u32>>>
     requires { into.0 < length structure.now.sizes }
     ensures { IfOk result (λ found. found ≡ variable_end (slice_index structure.now.sizes into.0) scan.now) }
 {

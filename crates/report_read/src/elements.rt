@@ -17,7 +17,12 @@ use rml_command::{Checked, Path, Primitive};
 use std::alloc::Global;
 
 /// The sorts of the variables that a path havocs, in order.
-pub fn havoc_sorts(alloc: Global, checked: &Checked, path: &Path, structure: &Structure) -> Mem<Row<Sort>>
+pub fn havoc_sorts(
+    alloc: Global,
+    checked: &Checked,
+    path: &Path,
+    structure: &Structure,
+) -> Mem<Row<Sort>>
     requires path { FitsPath (symbols checked.now.signature) path.now }
     requires structure { FitsStructure (symbols checked.now.signature) structure.now }
     ensures sorts { IfOk result (λ sorts. numbers sorts ≡ havoc_sorts (symbols checked.now.signature) path.now) }
@@ -83,7 +88,12 @@ pub fn element_at<'a>(scan: &Scan<'a>, structure: &Structure, sort: Sort) -> Opt
 }
 
 // The elements of these sorts, and the end of the line.
-fn elements_end(alloc: Global, first: Scan, structure: &Structure, sorts: &[Sort]) -> Mem<Option<Row<u32>>>
+fn elements_end(
+    alloc: Global,
+    first: Scan,
+    structure: &Structure,
+    sorts: &[Sort],
+) -> Mem<Option<Row<u32>>>
     requires { All (λ k. k < length structure.now.sizes) (numbers sorts.now) }
     ensures { IfOk result (λ found. found ≡ elements_end structure.now.sizes (numbers sorts.now) [] first.entry) }
 {
@@ -98,7 +108,11 @@ fn elements_end(alloc: Global, first: Scan, structure: &Structure, sorts: &[Sort
         scan = behind;
         rest = after;
     }
-    if scan.ends() { Ok(Some(elements)) } else { Ok(None) }
+    if scan.ends() {
+        Ok(Some(elements))
+    } else {
+        Ok(None)
+    }
 }
 
 /// The elements of these sorts that stand in the line behind the word.

@@ -122,7 +122,10 @@ fn read_stage(
 }
 
 /// The groups of a model.
-pub fn read_groups(reader: &mut Reader, checked: &Checked) -> Result<Row<PrintedGroup>, Refused<Unread>>
+pub fn read_groups(
+    reader: &mut Reader,
+    checked: &Checked,
+) -> Result<Row<PrintedGroup>, Refused<Unread>>
     ensures { Reads (read_groups checked.now (groups_of checked.now) [] reader.old) reader.new result }
 {
     let mut groups = read_stage(reader, checked, Stage::Init, Row::new(reader.alloc()))?;

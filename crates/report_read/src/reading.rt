@@ -110,7 +110,11 @@ fn check_given(checked: &Checked, text: &[u8])
 }
 
 /// What a printed report of the model says, or the first line that no printed report has behind the lines before it.
-pub fn read_report(alloc: Global, checked: &Checked, text: &[u8]) -> Result<Printed, Refused<Unread>>
+pub fn read_report(
+    alloc: Global,
+    checked: &Checked,
+    text: &[u8],
+) -> Result<Printed, Refused<Unread>>
     ensures report { IfOk result (IsPrintedReport checked.now text.now) }
     ensures read { IfOk result (IsRead checked.now) }
     ensures unread { IfErr result (Because (λ u. IsUnread checked.now (lines_of text.now) u.line)) }

@@ -95,7 +95,8 @@ fn read_truths(
         (λ cells. length cells ≡ tuple_count structure.now.sizes (relation_at structure.now rel.0).sorts) }
 {
     let names = checked.model().names().relations.as_slice();
-    let Some(cells) = truths_in(reader.alloc(), reader.first(), names, structure, sizes, rel)? else {
+    let Some(cells) = truths_in(reader.alloc(), reader.first(), names, structure, sizes, rel)?
+    else {
         return Err(reader.unread());
     };
     reader.pass();
@@ -120,7 +121,8 @@ fn read_images(
         (All (λ x. x < size_at structure.now (function_at structure.now fun.0).into)) }
 {
     let names = checked.model().names().functions.as_slice();
-    let Some(cells) = values_in(reader.alloc(), reader.first(), names, structure, sizes, fun)? else {
+    let Some(cells) = values_in(reader.alloc(), reader.first(), names, structure, sizes, fun)?
+    else {
         return Err(reader.unread());
     };
     reader.pass();
@@ -178,7 +180,11 @@ fn read_functions(
 }
 
 /// A line for each relation, function and variable: the structure of these sizes that they give.
-pub fn read_tables(reader: &mut Reader, checked: &Checked, sizes: &[u32]) -> Result<Structure, Refused<Unread>>
+pub fn read_tables(
+    reader: &mut Reader,
+    checked: &Checked,
+    sizes: &[u32],
+) -> Result<Structure, Refused<Unread>>
     requires { AreSizes checked.now sizes.now }
     ensures reads { Reads (read_tables checked.now sizes.now reader.old) reader.new result }
     ensures fits { IfOk result (λ s. HasTables checked.now sizes.now s) }

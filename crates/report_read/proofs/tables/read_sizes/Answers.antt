@@ -1,4 +1,4 @@
-use Rattle.std.proofs.Common.{◌≡◌, ℕ, ◌<◌, List, [], ◌∷◌, length, All, rules, sym, ap, ◌∙◌, subst, arith, length-append}
+use Rattle.std.proofs.Common.{ℕ, ◌<◌, List, [], ◌∷◌, length, All, rules, sym, ap, ◌∙◌, subst, arith, length-append}
 use Rattle.std.proofs.lemmas.List.Elements.{All-push}
 use Rattle.line_scan.specs.Scanning.{name_at}
 use Rattle.rml_command.specs.Models.{ModelTree}
@@ -28,8 +28,12 @@ loop-sort-preserved c =
           c.loop-sort.sizes c.push.new.self _ _ c.loop-sort.reader c.pass.new.self c.size_in.result lt named
           c.first.ensures c.size_in.ensures c.in-Some.is c.in_ok-push.ensures.pushed c.pass.ensures
           ∙ c.loop-sort.invariant.reads;
-      count = omega (arith, ap (λ (l : List ℕ). length l) c.in_ok-push.ensures.pushed,
-          length-append c.loop-sort.sizes (c.in-Some.size ∷ []), c.loop-sort.invariant.count);
+      count = omega (
+        arith,
+        ap (λ (l : List ℕ). length l) c.in_ok-push.ensures.pushed,
+        length-append c.loop-sort.sizes (c.in-Some.size ∷ []),
+        c.loop-sort.invariant.count,
+      );
       positive = subst (All (λ n. 0 < n)) (sym c.in_ok-push.ensures.pushed)
           (All-push (λ n. 0 < n) c.loop-sort.sizes c.in-Some.size c.loop-sort.invariant.positive
           (size_positive (name_at c.as_slice-names.result.now c.loop-sort.sort) c.first.result.now c.in-Some.size c.size_in.result c.size_in.ensures c.in-Some.is));
