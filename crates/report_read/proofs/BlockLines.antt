@@ -1,12 +1,12 @@
 -- The lines of what is shown of a group that fails.
-use Rattle.std.proofs.Common.{◌≡◌, ℕ, zero, suc, ◌+◌, ◌<◌, ◌≤◌, true, List, [], ◌∷◌, ◌++◌, length, map, All, Option, Some}
+use Rattle.std.proofs.Common.{◌≡◌, ℕ, zero, suc, ◌<◌, ◌≤◌, List, [], ◌∷◌, ◌++◌, length, map, All, Option, Some}
 use Rattle.std.proofs.Common.{None, refl, sym, ap, ◌∙◌, subst, arith, append_assoc}
 use Rattle.std.specs.Prelude.{codes, slice_index, slice_get}
 use Rattle.std.specs.List.{AllByRecursion}
 use Rattle.std.proofs.lemmas.List.Elements.{All-from_recursion, recursion_from_All}
-use Rattle.base.specs.Lists.{count_from, numbered}
+use Rattle.base.specs.Lists.{count_from}
 use Rattle.base.proofs.Lists.{all_more, all_at}
-use Rattle.fol_sig.specs.Tables.{Tables, Declared, IsSignature, InRange, size_at}
+use Rattle.fol_sig.specs.Tables.{Tables, IsSignature, InRange}
 use Rattle.fol_sig.specs.Symbols.{Symbols, FitsStructure, symbols}
 use Rattle.fol_sig.specs.Tuples.{TuplesAreNumbered}
 use Rattle.fol_formula.specs.Syntax.{FormTree, for_all}
@@ -15,7 +15,6 @@ use Rattle.rml_command.specs.Trees.{PrimitiveTree, assume, set_rel, set_fun, hav
 use Rattle.rml_command.specs.Models.{ModelTree, FitsPath, FitsModel}
 use Rattle.rml_command.specs.Goals.{Group, stage_paths, goal_path, leading_sorts, HasAbout, IsGoal}
 use Rattle.rml_command.specs.Laws.{GoalPathsFit}
-use Rattle.rml_command.specs.declared.names.Names.{Names}
 use Rattle.rml_command.specs.declared.goal.Stage.{Stage}
 use Rattle.rml_command.specs.declared.goal.Stage.TheVariants as stage
 use Rattle.rml_command.specs.declared.goal.About.{About}
@@ -27,26 +26,25 @@ use Rattle.rml_report.specs.Words.{numbers_line}
 use Rattle.rml_report.specs.TableText.{sort_line}
 use Rattle.rml_report.specs.ReportText.{path_line}
 use Rattle.rml_report.specs.Reports.{goal_at}
-use Rattle.line_scan.specs.Lines.{LinesLeft, first_of}
 use Rattle.line_scan.specs.Scanning.{most}
 use Rattle.line_scan.specs.Laws.{ScansAreExact}
-use Rattle.printed_report.specs.Executions.{IsSize, havoc_sorts, sorts_along, HasSizes, HasEnd, IsExecution}
-use Rattle.printed_report.specs.Lines.{IsLeastLine, sort_lines, table_lines, end_lines, block_lines}
+use Rattle.printed_report.specs.Executions.{IsSize, havoc_sorts, sorts_along, HasEnd}
+use Rattle.printed_report.specs.Lines.{IsLeastLine, sort_lines, table_lines, end_lines}
 use Rattle.printed_report.specs.PrintedReports.{IsBlock}
 use Rattle.printed_report.specs.declared.printed.PrintedAnswer.{PrintedAnswer}
 use Rattle.printed_report.specs.declared.printed.PrintedAnswer.TheVariants as answer
-use Rattle.report_read.specs.Got.{Got, got, one, and_then}
+use Rattle.report_read.specs.Got.{got, and_then}
 use Rattle.report_read.specs.LineReading.{is_least_line, path_in, elements_in, words_in}
-use Rattle.report_read.specs.Reading.{passing, read_sizes, read_tables, read_structure, read_elements, value_sorts, read_words}
+use Rattle.report_read.specs.Reading.{passing, read_sizes, read_tables, read_structure, value_sorts, read_words}
 use Rattle.report_read.specs.Reading.{end_in, no_end, read_end_tables, read_after, read_abort, read_end, read_path, read_least}
 use Rattle.report_read.specs.Reading.{read_values, read_havoc, read_opening, read_course, shown_of, fails_of, read_execution}
-use Rattle.report_read.specs.Reading.{read_block, AreSizes, HasTables}
+use Rattle.report_read.specs.Reading.{read_block, AreSizes}
 use Rattle.report_read.specs.declared.block.End.{End}
 use Rattle.report_read.specs.declared.block.Course.{Course}
 use Rattle.report_read.proofs.Parts.{Lines, IsPart, IsLine, IsOne, IsBoth, IsMade, part_as, one_part, both_part, made_part}
 use Rattle.report_read.proofs.HeadLines.{words_line, IsPathLine, path_line_is}
 use Rattle.report_read.proofs.LeastLines.{least_line_is, IsElements, elements_line_is, zeros_in, small_at}
-use Rattle.report_read.proofs.SizeLines.{IsSortSize, SizesFrom, sizes_part, size_lines, size_lines_are, positive_sizes}
+use Rattle.report_read.proofs.SizeLines.{IsSortSize, SizesFrom, sizes_part, size_lines_are, positive_sizes}
 use Rattle.report_read.proofs.SizeLines.{few_elements}
 use Rattle.report_read.proofs.TableParts.{AreTables, tables_part}
 

@@ -1,5 +1,5 @@
 -- Structures of a signature: the blank one, and one with other cells in one of its tables.
-use Rattle.std.proofs.Common.{◌≡◌, ℕ, ◌<◌, Bool, false, List, [], length, get_or, All, map, sym, ap, ◌∙◌, subst, ⊎_elim}
+use Rattle.std.proofs.Common.{◌≡◌, ℕ, ◌<◌, Bool, false, List, [], length, get_or, All, sym, ap, ◌∙◌, subst, ⊎_elim}
 use Rattle.std.proofs.Common.{length-set}
 use Rattle.std.proofs.lemmas.Bool.{cases_eq}
 use Rattle.std.proofs.lemmas.List.{length-replicate, length-map, get_or-map, get_or-set_same, get_or-set_other}

@@ -1,11 +1,11 @@
 -- The lines of groups, and whole reports.
 use Rattle.std.proofs.Common.{◌≡◌, ℕ, zero, suc, ◌+◌, ◌<◌, ◌≤◌, Bool, true, false, List, [], ◌∷◌, ◌++◌, length, map, Option}
-use Rattle.std.proofs.Common.{Some, None, refl, sym, ap, ◌∙◌, subst, cond, arith, append_assoc, append-nil, length-append}
+use Rattle.std.proofs.Common.{Some, None, refl, sym, ap, ◌∙◌, subst, cond, arith, append_assoc, append-nil}
 use Rattle.std.specs.Prelude.{codes, slice_get}
 use Rattle.std.specs.List.{AllByRecursion, flat_map}
 use Rattle.base.specs.Lists.{count_from, numbered}
 use Rattle.base.proofs.Lists.{all_append, all_at}
-use Rattle.fol_sig.specs.Tables.{Tables, IsSignature}
+use Rattle.fol_sig.specs.Tables.{IsSignature}
 use Rattle.fol_sig.specs.Tuples.{TuplesAreNumbered}
 use Rattle.rml_command.specs.Trees.{PrimitiveTree, CommandTree}
 use Rattle.rml_command.specs.Fragment.{IsChecked, HasFewPaths}
@@ -13,7 +13,6 @@ use Rattle.rml_command.specs.Models.{ModelTree, FitsModel}
 use Rattle.rml_command.specs.Goals.{Group, stage_groups, groups_of, stage_paths, paths_of_block, is_for, HasAbout}
 use Rattle.rml_command.specs.Goals.{IsGoal}
 use Rattle.rml_command.specs.Laws.{GoalPathsFit}
-use Rattle.rml_command.specs.declared.names.Names.{Names}
 use Rattle.rml_command.specs.declared.goal.Stage.{Stage}
 use Rattle.rml_command.specs.declared.goal.Stage.TheVariants as stage
 use Rattle.rml_command.specs.declared.goal.About.{About}
@@ -21,19 +20,19 @@ use Rattle.rml_command.specs.declared.goal.About.TheVariants as about
 use Rattle.rml_report.specs.ReportText.{verdict_text, stage_text, about_text}
 use Rattle.rml_report.specs.Reports.{goal_at}
 use Rattle.rml_report.specs.declared.report.Verdict.{Verdict}
-use Rattle.line_scan.specs.Lines.{LinesLeft, first_of}
+use Rattle.line_scan.specs.Lines.{LinesLeft}
 use Rattle.line_scan.specs.Scanning.{behind}
 use Rattle.line_scan.specs.Laws.{ScansAreExact}
-use Rattle.printed_report.specs.Lines.{IsAxiomsLine, IsUndecidedLine}
+use Rattle.printed_report.specs.Lines.{IsAxiomsLine}
 use Rattle.printed_report.specs.PrintedReports.{head_line, Says, IsGroup, AreGroups, IsPrinted, BeginsReport, IsUnexpected}
 use Rattle.printed_report.specs.PrintedReports.{IsUnread}
 use Rattle.printed_report.specs.declared.printed.Printed.{Printed}
 use Rattle.printed_report.specs.declared.printed.PrintedGroup.{PrintedGroup}
 use Rattle.printed_report.specs.declared.printed.PrintedAnswer.{PrintedAnswer}
 use Rattle.printed_report.specs.declared.printed.PrintedAnswer.TheVariants as answer
-use Rattle.report_read.specs.Got.{Got, got, stuck, one, and_then}
+use Rattle.report_read.specs.Got.{Got, got, stuck, and_then}
 use Rattle.report_read.specs.LineReading.{on, has_goal, has_goal_among, head_in, head_end, is_axioms_line, verdict_in}
-use Rattle.report_read.specs.Reading.{passing, read_axioms, read_head, read_answer, read_block, read_said, group_of, read_group}
+use Rattle.report_read.specs.Reading.{passing, read_axioms, read_head, read_answer, read_said, group_of, read_group}
 use Rattle.report_read.specs.Reading.{read_groups, read_verdict, printed_of, read_lines, ended, read_nothing, read_all}
 use Rattle.report_read.specs.Laws.{ReadingIsExact, PrintedIsOne}
 use Rattle.report_read.specs.declared.heads.Head.{Head}

@@ -1,13 +1,12 @@
 -- The lines of a group's head, of a path and of a verdict, and lines of words alone.
-use Rattle.std.proofs.Common.{◌≡◌, ℕ, ◌≤◌, Bool, true, false, List, [], ◌∷◌, ◌++◌, length, Option, Some, None, refl, sym}
-use Rattle.std.proofs.Common.{ap, ◌∙◌, subst, cond, arith, append_assoc}
+use Rattle.std.proofs.Common.{◌≡◌, ℕ, ◌≤◌, Bool, true, false, List, [], ◌++◌, length, Option, Some, None, refl, sym}
+use Rattle.std.proofs.Common.{ap, ◌∙◌, subst, cond, arith}
 use Rattle.std.specs.Prelude.{codes, decimal}
 use Rattle.std.specs.Str.{bytes_eq}
 use Rattle.base.specs.Lists.{numbered}
 use Rattle.rml_command.specs.Trees.{PrimitiveTree}
 use Rattle.rml_command.specs.Models.{ModelTree}
-use Rattle.rml_command.specs.Goals.{Group, stage_paths, is_for, HasAbout, IsGoal}
-use Rattle.rml_command.specs.declared.goal.About.{About}
+use Rattle.rml_command.specs.Goals.{Group, stage_paths, HasAbout, IsGoal}
 use Rattle.rml_report.specs.Words.{cause_text}
 use Rattle.rml_report.specs.ReportText.{stage_text, about_text, head_text, path_line, undecided_text, verdict_text}
 use Rattle.rml_report.specs.Reports.{goal_at}
@@ -25,7 +24,6 @@ use Rattle.report_read.specs.LineReading.{verdict_in}
 use Rattle.report_read.specs.declared.heads.Head.{Head}
 use Rattle.report_read.specs.declared.heads.Head.TheVariants as head
 use Rattle.report_read.proofs.Pieces.{apart3, apart5, tested, passed_test, numbered_below, behind_then, number_then}
-use Rattle.report_read.proofs.Pieces.{number_small}
 use Rattle.report_read.proofs.Parts.{IsLine}
 use Rattle.report_read.proofs.LineLaws.{chosen, taken, kept, same_words, are_words, other_words, counted_end}
 use Rattle.report_read.proofs.LineLaws.{counted_end_sound, not_words}

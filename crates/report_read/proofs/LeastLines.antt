@@ -1,6 +1,6 @@
 -- The line that says whether a structure is least, that of the axioms, and the lines of elements.
-use Rattle.std.proofs.Common.{◌≡◌, ℕ, zero, suc, ◌+◌, ◌<◌, ◌≤◌, Bool, true, false, List, [], ◌∷◌, ◌++◌, length, map, All}
-use Rattle.std.proofs.Common.{Option, Some, None, refl, sym, ap, ◌∙◌, subst, cond, arith, append_assoc}
+use Rattle.std.proofs.Common.{◌≡◌, ℕ, zero, suc, ◌<◌, ◌≤◌, Bool, true, false, List, [], ◌∷◌, ◌++◌, length, map, All}
+use Rattle.std.proofs.Common.{Some, None, refl, sym, ap, ◌∙◌, subst, cond, arith, append_assoc}
 use Rattle.std.specs.Prelude.{codes, decimal, slice_index, nat_le}
 use Rattle.std.specs.Str.{bytes_eq}
 use Rattle.std.specs.List.{AllByRecursion}
@@ -10,7 +10,6 @@ use Rattle.rml_command.specs.Models.{ModelTree}
 use Rattle.rml_command.specs.declared.names.Names.{Names}
 use Rattle.rml_report.specs.Words.{cause_text, labelled, numbers_text, numbers_line, name_at}
 use Rattle.rml_report.specs.ReportText.{stopped_text, least_line}
-use Rattle.rml_report.specs.declared.cause.Bound.{Bound}
 use Rattle.rml_report.specs.declared.cause.Bound.TheVariants as at
 use Rattle.rml_report.specs.declared.cause.Cause.{Cause}
 use Rattle.rml_report.specs.declared.cause.Least.{Least}
@@ -18,7 +17,7 @@ use Rattle.rml_report.specs.declared.cause.Least.TheVariants as least
 use Rattle.rml_report.specs.declared.report.Axioms.TheVariants as axioms
 use Rattle.line_scan.specs.Scanning.{behind, number_at, most}
 use Rattle.line_scan.specs.Laws.{ScansAreExact}
-use Rattle.printed_report.specs.Lines.{IsCounted, IsBound, IsLeast, IsLeastLine, IsAxiomsLine}
+use Rattle.printed_report.specs.Lines.{IsCounted, IsLeast, IsLeastLine, IsAxiomsLine}
 use Rattle.report_read.specs.LineReading.{choose, on, behind_counted, ends, is_stop, stops_at, stops_at_some}
 use Rattle.report_read.specs.LineReading.{stops_at_relation, is_stopped, is_least_line, is_axioms_line, elements_in}
 use Rattle.report_read.specs.LineReading.{elements_end}

@@ -1,5 +1,5 @@
 -- What a line is found to say is what it says: one law for each kind of line.
-use Rattle.std.proofs.Common.{◌≡◌, ℕ, ◌+◌, ◌<◌, ◌≤◌, Bool, true, false, List, [], ◌∷◌, ◌++◌, Option, Some, None, refl}
+use Rattle.std.proofs.Common.{◌≡◌, ℕ, ◌<◌, ◌≤◌, Bool, true, false, List, [], ◌∷◌, ◌++◌, Option, Some, None, refl}
 use Rattle.std.proofs.Common.{sym, ap, ◌∙◌, subst, cond, arith, append_assoc, append-nil}
 use Rattle.std.specs.Prelude.{◌&&◌, nat_le, nat_lt, codes, decimal, slice_index}
 use Rattle.std.specs.Str.{bytes_eq}
@@ -7,7 +7,7 @@ use Rattle.std.proofs.lemmas.Slice.Eq.{bytes_eq-Decides}
 use Rattle.std.proofs.lemmas.Bool.{and_parts, and_from, leb-true, le-leb, ltb-true, lt-ltb}
 use Rattle.fol_sig.specs.Tables.{InRange}
 use Rattle.rml_report.specs.Words.{cause_text, labelled, numbers_text}
-use Rattle.rml_report.specs.ReportText.{axioms_text, open_text, path_line}
+use Rattle.rml_report.specs.ReportText.{axioms_text, open_text}
 use Rattle.rml_report.specs.declared.cause.Cause.{Cause}
 use Rattle.rml_report.specs.declared.cause.Cause.TheVariants as cause
 use Rattle.rml_report.specs.declared.report.Axioms.{Axioms}
@@ -16,7 +16,7 @@ use Rattle.line_scan.specs.Scanning.{behind, number_at, is_end, most}
 use Rattle.line_scan.specs.Laws.{ScansAreExact, ends_number}
 use Rattle.printed_report.specs.Lines.{IsCounted, IsAxioms, IsAxiomsLine}
 use Rattle.report_read.specs.LineReading.{choose, on, behind_number, behind_counted, ends, is_open_axioms, is_axioms_line}
-use Rattle.report_read.specs.LineReading.{behind_labelled, size_in, size_end, value_at, element_at, elements_in}
+use Rattle.report_read.specs.LineReading.{behind_labelled, size_in, size_end, value_at, element_at}
 use Rattle.report_read.specs.LineReading.{elements_end}
 
 pub record Chosen {A : Type 0} (o : Option A) (f : A → Bool) : Type 0 where

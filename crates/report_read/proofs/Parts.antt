@@ -3,7 +3,7 @@
 use Rattle.std.proofs.Common.{◌≡◌, ℕ, ◌+◌, List, [], ◌∷◌, ◌++◌, length, Option, Some, None, refl, sym, ap, ◌∙◌, subst}
 use Rattle.std.proofs.Common.{arith, append_assoc, length-append}
 use Rattle.line_scan.specs.Lines.{first_of, LinesLeft}
-use Rattle.report_read.specs.Got.{Got, got, stuck, one, and_then, passed}
+use Rattle.report_read.specs.Got.{Got, got, stuck, one, and_then}
 
 abbrev pub Lines : Type 0
 Lines = List (List ℕ)

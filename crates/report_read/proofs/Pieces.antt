@@ -1,7 +1,7 @@
 -- What was found in front of a text, one piece behind another.
-use Rattle.std.proofs.Common.{◌≡◌, ℕ, suc, zero, ◌+◌, ◌<◌, ◌≤◌, Bool, true, false, List, [], ◌∷◌, ◌++◌, length, Option}
-use Rattle.std.proofs.Common.{Some, None, refl, sym, ap, ◌∙◌, cond, arith, append_assoc}
-use Rattle.std.specs.Prelude.{decimal, slice_get}
+use Rattle.std.proofs.Common.{◌≡◌, ℕ, suc, zero, ◌≤◌, Bool, true, false, List, ◌++◌, length, Option}
+use Rattle.std.proofs.Common.{Some, None, refl, ap, ◌∙◌, cond, arith, append_assoc}
+use Rattle.std.specs.Prelude.{decimal}
 use Rattle.base.specs.Lists.{numbered}
 use Rattle.base.proofs.Lists.{at-below}
 use Rattle.line_scan.specs.Scanning.{behind, number_at, most}

@@ -1,6 +1,6 @@
 -- The lines of a structure's sorts.
 use Rattle.std.proofs.Common.{◌≡◌, ℕ, zero, suc, ◌+◌, ◌<◌, ◌≤◌, List, [], ◌∷◌, ◌++◌, length, map, All}
-use Rattle.std.proofs.Common.{refl, sym, ap, ◌∙◌, subst, arith, append_assoc, append-nil}
+use Rattle.std.proofs.Common.{refl, sym, ap, ◌∙◌, arith, append_assoc, append-nil}
 use Rattle.std.specs.Prelude.{codes, decimal, slice_index}
 use Rattle.std.specs.List.{AllByRecursion}
 use Rattle.std.proofs.lemmas.List.Elements.{All-from_recursion}
@@ -11,7 +11,7 @@ use Rattle.rml_report.specs.Words.{name_at, labelled}
 use Rattle.rml_report.specs.TableText.{sort_line}
 use Rattle.line_scan.specs.Lines.{LinesLeft, first_of}
 use Rattle.line_scan.specs.Laws.{ScansAreExact}
-use Rattle.report_read.specs.Got.{got, one, and_then}
+use Rattle.report_read.specs.Got.{got, one}
 use Rattle.report_read.specs.LineReading.{size_in}
 use Rattle.report_read.specs.Reading.{read_sizes}
 use Rattle.report_read.proofs.Parts.{Lines, IsPart, IsLine, IsOne, IsBoth, IsNothing, part_as, nothing, one_part, both_part}

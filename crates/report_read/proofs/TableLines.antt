@@ -1,19 +1,19 @@
 -- The lines of relations, functions and variables.
-use Rattle.std.proofs.Common.{◌≡◌, ℕ, zero, suc, ◌+◌, ◌<◌, ◌≤◌, Bool, true, false, List, [], ◌∷◌, ◌++◌, length, map}
+use Rattle.std.proofs.Common.{◌≡◌, ℕ, zero, suc, ◌+◌, ◌<◌, ◌≤◌, Bool, true, false, List, [], ◌∷◌, ◌++◌, length}
 use Rattle.std.proofs.Common.{Option, Some, None, refl, sym, ap, ◌∙◌, subst, cond, arith, append_assoc, append-nil, get_or}
-use Rattle.std.specs.Prelude.{codes, decimal, slice_index, nat_lt, replicate}
+use Rattle.std.specs.Prelude.{codes, decimal, slice_index, replicate}
 use Rattle.std.specs.Str.{bytes_eq}
 use Rattle.std.specs.List.{AllByRecursion}
 use Rattle.std.proofs.lemmas.List.{length-replicate}
 use Rattle.fol_sig.specs.Tables.{Tables, RelationTable, FunctionTable, InRange, tuple_count, place_of, cell_at}
 use Rattle.fol_sig.specs.Tables.{relation_at, function_at}
-use Rattle.fol_sig.specs.Tuples.{AreNumbered, TuplesAreNumbered}
+use Rattle.fol_sig.specs.Tuples.{TuplesAreNumbered}
 use Rattle.rml_command.specs.declared.names.Names.{Names}
 use Rattle.rml_report.specs.Words.{labelled, truth_text, name_at}
 use Rattle.rml_report.specs.TableText.{each_tuple, tuple_text, symbol_line, relation_line, function_line, values_text}
 use Rattle.rml_report.specs.TableText.{symbol_label}
 use Rattle.rml_report.specs.declared.structures.Symbol.TheVariants as symbol
-use Rattle.line_scan.specs.Scanning.{behind, number_at, is_end, most}
+use Rattle.line_scan.specs.Scanning.{behind, is_end, most}
 use Rattle.line_scan.specs.Laws.{ScansAreExact, ends_number}
 use Rattle.report_read.specs.LineReading.{choose, on, behind_labelled, value_at, element_at, all_tuples, truths_end}
 use Rattle.report_read.specs.LineReading.{mapped_at, values_end, truth_end, relation_end, truths_in, variable_end}

@@ -1,6 +1,6 @@
 -- The lines of a structure's tables.
 use Rattle.std.proofs.Common.{◌≡◌, ◌≢◌, ℕ, zero, suc, ◌+◌, ◌<◌, ◌≤◌, Bool, List, [], ◌∷◌, ◌++◌, length, map, All, get_or}
-use Rattle.std.proofs.Common.{refl, sym, ap, ◌∙◌, subst, arith, length-set, set, ⊎_elim}
+use Rattle.std.proofs.Common.{refl, sym, ap, ◌∙◌, subst, arith, length-set, ⊎_elim}
 use Rattle.std.proofs.lemmas.Bool.{cases_eq, cases_lt}
 use Rattle.std.specs.Prelude.{slice_index}
 use Rattle.std.specs.List.{AllByRecursion}
@@ -22,7 +22,7 @@ use Rattle.printed_report.specs.Lines.{table_lines}
 use Rattle.report_read.specs.LineReading.{truths_in, values_in}
 use Rattle.report_read.specs.Reading.{read_truths, read_images, read_relations, read_functions, read_tables, AreSizes}
 use Rattle.report_read.specs.Reading.{HasTables}
-use Rattle.report_read.proofs.Parts.{Lines, IsPart, IsOne, IsBoth, IsNothing, part_as, nothing, one_part, both_part}
+use Rattle.report_read.proofs.Parts.{Lines, IsPart, IsOne, IsBoth, part_as, nothing, one_part, both_part}
 use Rattle.report_read.proofs.TableLines.{truths_line, images_line, relation_line_is, function_line_is, relation_of}
 use Rattle.report_read.proofs.TableLines.{function_of, IsTruths, AreImages, truths_line_is, images_line_is}
 use Rattle.report_read.proofs.Fitting.{no_table, no_function_table, fits_relation_cells, fits_function_cells, fits_blank}

@@ -1,7 +1,7 @@
 -- The texts of tuples in a line: which tuple stands in front is told by the text, and the tuples of some sorts stand in
 -- the order of their numbers.
 use Rattle.std.proofs.Common.{◌≡◌, ℕ, zero, suc, ◌+◌, ◌<◌, ◌≤◌, Bool, true, false, List, [], ◌∷◌, ◌++◌, length, map, drop}
-use Rattle.std.proofs.Common.{Option, Some, None, refl, sym, ap, ◌∙◌, subst, cond, arith, append_assoc, append-nil, get_or}
+use Rattle.std.proofs.Common.{Option, Some, None, refl, sym, ap, ◌∙◌, cond, arith, append_assoc, append-nil, get_or}
 use Rattle.std.proofs.Common.{add-one}
 use Rattle.std.specs.Prelude.{codes, decimal, slice_index}
 use Rattle.std.specs.List.{AllByRecursion, flat_map}
@@ -10,7 +10,7 @@ use Rattle.base.proofs.Lists.{flat_map-append}
 use Rattle.std.proofs.lemmas.List.{drop_more}
 use Rattle.fol_sig.specs.Tables.{RelationTable, FunctionTable, InRange, tuple_count, place_of, cell_at}
 use Rattle.fol_sig.specs.Tuples.{join_below, tuples, tuple_at, AreNumbered}
-use Rattle.rml_report.specs.TableText.{each_tuple, more_text, listed_text, tuple_text}
+use Rattle.rml_report.specs.TableText.{each_tuple, more_text, tuple_text}
 use Rattle.line_scan.specs.Scanning.{behind, number_at, most}
 use Rattle.line_scan.specs.Laws.{ScansAreExact, ends_number}
 use Rattle.report_read.specs.LineReading.{tuples_from, all_tuples}

@@ -1,9 +1,8 @@
 -- One turn of each loop.
-use Rattle.std.proofs.Common.{◌≡◌, ℕ, zero, suc, ◌+◌, ◌-◌, ◌<◌, ◌≤◌, Bool, true, false, List, [], ◌∷◌, ◌++◌, length, map}
-use Rattle.std.proofs.Common.{Option, Some, None, refl, sym, ap, ◌∙◌, subst, cond, arith, get_or, take, drop, All}
+use Rattle.std.proofs.Common.{◌≡◌, ℕ, zero, suc, ◌+◌, ◌-◌, ◌<◌, ◌≤◌, Bool, true, false, List, [], ◌∷◌, ◌++◌, length}
+use Rattle.std.proofs.Common.{Option, Some, None, refl, sym, ap, ◌∙◌, subst, cond, arith, get_or, drop, All}
 use Rattle.std.specs.Prelude.{slice_index, slice_get, codes, Err}
-use Rattle.base.specs.Lists.{count_from}
-use Rattle.fol_sig.specs.Tables.{Tables, RelationTable, FunctionTable, IsStructure, IsFullRelation, IsFullFunction}
+use Rattle.fol_sig.specs.Tables.{Tables, IsStructure, IsFullRelation, IsFullFunction}
 use Rattle.fol_sig.specs.Tables.{relation_at, function_at}
 use Rattle.fol_sig.specs.Tuples.{tuple_at}
 use Rattle.fol_sig.specs.Updates.{with_relation_cells, with_function_cells}
@@ -22,7 +21,7 @@ use Rattle.std.specs.List.{AllByRecursion}
 use Rattle.rml_report.specs.TableText.{tuple_text}
 use Rattle.line_scan.specs.Scanning.{behind, is_end, name_at}
 use Rattle.report_read.specs.LineReading.{choose, on, tuples_from, tuple_in, truths_end, mapped_at, values_end, element_at}
-use Rattle.report_read.specs.LineReading.{elements_end, values_in, variable_end, behind_labelled, all_tuples}
+use Rattle.report_read.specs.LineReading.{elements_end, values_in, behind_labelled, all_tuples}
 use Rattle.report_read.specs.LineReading.{has_goal_among, size_in}
 use Rattle.report_read.proofs.Fitting.{no_table, no_function_table}
 

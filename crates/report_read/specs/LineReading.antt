@@ -1,5 +1,5 @@
 -- What a line says, read from left to right; None, or false, where it is no such line.
-use Rattle.std.specs.Prelude.{ℕ, ◌+◌, Bool, true, false, ◌&&◌, nat_le, nat_lt, if◌then◌else◌, List, [], ◌∷◌, ◌++◌, codes}
+use Rattle.std.specs.Prelude.{ℕ, Bool, true, false, ◌&&◌, nat_le, nat_lt, if◌then◌else◌, List, [], ◌∷◌, ◌++◌, codes}
 use Rattle.std.specs.Prelude.{Option, Some, None, map, slice_index, decimal}
 use Rattle.std.specs.Str.{bytes_eq}
 use Rattle.fol_sig.specs.Tables.{tuple_count}
@@ -14,7 +14,7 @@ use Rattle.rml_report.specs.ReportText.{stage_text, about_text}
 use Rattle.rml_report.specs.TableText.{tuple_text}
 use Rattle.rml_report.specs.declared.report.Verdict.{Verdict}
 use Rattle.rml_report.specs.declared.report.Verdict.TheVariants as verdict
-use Rattle.line_scan.specs.Scanning.{behind, number_at, is_end, name_at, most}
+use Rattle.line_scan.specs.Scanning.{behind, number_at, is_end, most}
 use Rattle.report_read.specs.declared.heads.Head.{Head}
 use Rattle.report_read.specs.declared.heads.Head.TheVariants as head
 

@@ -1,4 +1,4 @@
-use Rattle.std.proofs.Common.{◌≡◌, ◌∙◌, sym, arith}
+use Rattle.std.proofs.Common.{◌∙◌, arith}
 use Rattle.report_read.proofs.Turns.{values_turn}
 use Rattle.report_read.proofs.cells.values_end.Goals as goal
 

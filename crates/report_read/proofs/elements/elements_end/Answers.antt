@@ -1,4 +1,4 @@
-use Rattle.std.proofs.Common.{List, ◌<◌, length, ap, ◌∙◌}
+use Rattle.std.proofs.Common.{◌<◌, length, ap, ◌∙◌}
 use Rattle.std.proofs.lemmas.List.Elements.{All-rest}
 use Rattle.fol_sig.specs.Tables.{numbers}
 use Rattle.report_read.proofs.Scans.{first_and_rest}

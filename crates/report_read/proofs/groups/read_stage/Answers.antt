@@ -1,11 +1,10 @@
-use Rattle.std.proofs.Common.{◌≡◌, ℕ, ◌-◌, ◌+◌, ◌<◌, List, [], ◌∷◌, ◌++◌, length, map, rules, sym, ap, ◌∙◌, arith, subst}
+use Rattle.std.proofs.Common.{◌≡◌, ℕ, ◌-◌, ◌+◌, List, [], ◌∷◌, length, map, rules, sym, ap, ◌∙◌, arith, subst}
 use Rattle.std.specs.Prelude.{Err}
 use Rattle.base.specs.Lists.{count_from}
 use Rattle.fol_formula.specs.Syntax.{FormTree}
 use Rattle.rml_command.specs.Models.{ModelTree}
 use Rattle.rml_command.specs.Goals.{Group, stage_groups}
 use Rattle.rml_command.specs.declared.goal.Stage.{Stage}
-use Rattle.rml_command.specs.declared.goal.About.{About}
 use Rattle.rml_command.specs.declared.goal.About.TheVariants as about
 use Rattle.report_read.specs.Reading.{Reads, read_groups}
 use Rattle.report_read.proofs.GroupTurns.{groups_next, groups_err, map_step}

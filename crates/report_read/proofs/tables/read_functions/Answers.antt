@@ -1,4 +1,4 @@
-use Rattle.std.proofs.Common.{◌≡◌, ◌<◌, length, rules, sym, ap, ◌∙◌}
+use Rattle.std.proofs.Common.{◌<◌, length, rules, sym, ap, ◌∙◌}
 use Rattle.fol_sig.specs.Tables.{Tables}
 use Rattle.fol_sig.specs.Symbols.{symbols}
 use Rattle.report_read.proofs.Turns.{functions_turn, functions_stop, reads_err}
