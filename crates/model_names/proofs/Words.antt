@@ -20,13 +20,14 @@ use Rattle.model_names.specs.ModelNames.{IsWord}
 -- as many bytes as go on from the front do
 all_go_on : (xs : List ℕ) → IsWord (take (prefix_len goes_on xs) xs)
 all_go_on [] = tt
-all_go_on (x ∷ xs) = by (goes_on x) refl
+all_go_on (x ∷ xs) = by (goes_on x) refl (all_go_on xs)
   where
-    by : (t : Bool) → goes_on x ≡ t → IsWord (take (cond t (1 + prefix_len goes_on xs) 0) (x ∷ xs))
-    by true is =
+    by : (t : Bool) → goes_on x ≡ t → IsWord (take (prefix_len goes_on xs) xs)
+        → IsWord (take (cond t (1 + prefix_len goes_on xs) 0) (x ∷ xs))
+    by true is rest =
         let e : suc (prefix_len goes_on xs) ≡ 1 + prefix_len goes_on xs = omega arith in
-        subst (λ (n : ℕ). IsWord (take n (x ∷ xs))) e (is, all_go_on xs)
-    by false is = tt
+        subst (λ (n : ℕ). IsWord (take n (x ∷ xs))) e (is, rest)
+    by false is rest = tt
 
 -- what the front says of a word
 of_word : (bs : List ℕ) (n k : ℕ) (t : Bool) → cond t (front.Fault fault_code.LongName)
