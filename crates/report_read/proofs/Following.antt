@@ -1,14 +1,14 @@
 -- Where a path leads, and with which elements.
-use Rattle.std.proofs.Common.{◌≡◌, ℕ, suc, ◌<◌, Bool, true, false, List, [], ◌∷◌, length, Option, Some, None, refl}
+use Rattle.std.proofs.Common.{◌≡◌, ℕ, ◌<◌, List, [], ◌∷◌, length, Some, None, refl}
 use Rattle.std.proofs.Common.{sym, ap}
-use Rattle.std.proofs.Common.{◌∙◌, subst, cond, arith}
+use Rattle.std.proofs.Common.{subst, cond, arith}
 use Rattle.std.specs.Prelude.{nat_lt, slice_index}
 use Rattle.std.proofs.lemmas.Bool.{ltb-true}
 use Rattle.fol_sig.specs.Tables.{Tables, InRange}
 use Rattle.fol_sig.specs.Symbols.{Symbols, FitsStructure}
 use Rattle.fol_formula.specs.Syntax.{FormTree}
 use Rattle.rml_command.specs.Trees.{PrimitiveTree, assume, set_rel, set_fun, havoc, abort}
-use Rattle.rml_command.specs.Outcomes.{Outcome, ended, aborted, follow_path, is_true, satisfies, set_relation}
+use Rattle.rml_command.specs.Outcomes.{Outcome, ended, follow_path, is_true, satisfies, set_relation}
 use Rattle.rml_command.specs.Outcomes.{set_function, set_variable, range_of}
 use Rattle.rml_command.specs.Paths.{havoc_count, EndsAtAbort}
 use Rattle.rml_command.specs.Models.{FitsPath}
@@ -71,10 +71,11 @@ module _ (sig : Symbols) (law : UpdatesKeepSymbols) (axioms : List FormTree) whe
       let a = tested (nat_lt x (range_of s v))
       (cond (satisfies (set_variable s v x) axioms) (follow_path axioms qs xs (set_variable s v x)) None) o e in
       let b = tested (satisfies (set_variable s v x) axioms) (follow_path axioms qs xs (set_variable s v x)) o a.1 in
-      let lt : x < range_of s v = ltb-true x (range_of s v) a.0 in
-      (subst (λ k. x < slice_index s.sizes k) (sym (fits.into_of v path.0.0)) lt,
-      elements_fit qs xs (set_variable s v x) o path.1 last.1 (law.variable sig s v x path.0 lt fits)
-      (omega (arith, count)) b.1)
+      let lt : x < range_of s v = ltb-true x (range_of s v) a.0 in (
+        subst (λ k. x < slice_index s.sizes k) (sym (fits.into_of v path.0.0)) lt,
+        elements_fit qs xs (set_variable s v x) o path.1 last.1 (law.variable sig s v x path.0 lt fits)
+            (omega (arith, count)) b.1,
+      )
   elements_fit (abort ∷ qs) xs s o path last fits count e =
       let none : qs ≡ [] = last.0 refl in
       after_abort xs (subst (λ (ps : List PrimitiveTree). length xs ≡ havoc_count ps) none count)

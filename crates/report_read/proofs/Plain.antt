@@ -1,16 +1,15 @@
 -- Lines without a line feed but at their end.
-use Rattle.std.proofs.Common.{◌≡◌, ℕ, zero, suc, ◌+◌, ◌<◌, ◌≤◌, ◌^◌, ◌/◌, ◌%◌, Bool, true, false, List, [], ◌∷◌}
+use Rattle.std.proofs.Common.{◌≡◌, ℕ, zero, suc, ◌+◌, ◌<◌, ◌≤◌, ◌^◌, ◌%◌, Bool, true, false, List, [], ◌∷◌}
 use Rattle.std.proofs.Common.{◌++◌, length}
-use Rattle.std.proofs.Common.{map, All, refl, sym, ap, ◌∙◌, subst, cond, arith}
+use Rattle.std.proofs.Common.{refl, ap, cond, arith}
 use Rattle.std.specs.Prelude.{codes, decimal, slice_index, ◌==◌}
 use Rattle.std.specs.List.{AllByRecursion}
 use Rattle.std.proofs.lemmas.Bool.{ne_eqb}
 use Rattle.std.proofs.lemmas.Fmt.{decimal_by_steps}
 use Rattle.std.proofs.lemmas.List.Elements.{All-get_or, recursion_from_All}
-use Rattle.base.specs.Lists.{count_from}
-use Rattle.base.proofs.Lists.{all_push, all_more, all_append}
+use Rattle.base.proofs.Lists.{all_push, all_more}
 use Rattle.fol_sig.specs.Tables.{Tables, IsStructure, IsFullFunction, relation_at, function_at, rel_at, fun_at, size_at}
-use Rattle.fol_sig.specs.Tables.{place_of, InRange}
+use Rattle.fol_sig.specs.Tables.{place_of}
 use Rattle.fol_sig.specs.Tuples.{join_below}
 use Rattle.rml_command.specs.declared.names.Names.{Names}
 use Rattle.rml_command.specs.declared.goal.Stage.{Stage}
@@ -18,27 +17,25 @@ use Rattle.rml_command.specs.declared.goal.Stage.TheVariants as stage
 use Rattle.rml_command.specs.declared.goal.About.{About}
 use Rattle.rml_command.specs.declared.goal.About.TheVariants as about
 use Rattle.rml_report.specs.Words.{name_at, labelled, truth_text, cause_text, numbers_text, numbers_line}
-use Rattle.rml_report.specs.TableText.{each_tuple, more_text, listed_text, tuple_text, cell_text, value_text}
+use Rattle.rml_report.specs.TableText.{each_tuple, more_text, listed_text, tuple_text, cell_text}
 use Rattle.rml_report.specs.TableText.{values_text}
-use Rattle.rml_report.specs.TableText.{symbol_label, symbol_line, sort_line, relation_line, function_line, arguments_of}
+use Rattle.rml_report.specs.TableText.{symbol_label, symbol_line, sort_line, relation_line, function_line}
 use Rattle.rml_report.specs.ReportText.{stage_text, about_text, head_text, path_line, bound_text, stopped_text}
 use Rattle.rml_report.specs.ReportText.{least_text}
 use Rattle.rml_report.specs.ReportText.{least_line, undecided_text, open_text, axioms_text, verdict_text}
-use Rattle.rml_report.specs.declared.structures.Symbol.{Symbol}
 use Rattle.rml_report.specs.declared.structures.Symbol.TheVariants as symbol
 use Rattle.rml_report.specs.declared.cause.Bound.{Bound}
 use Rattle.rml_report.specs.declared.cause.Bound.TheVariants as at
 use Rattle.rml_report.specs.declared.cause.Cause.{Cause}
 use Rattle.rml_report.specs.declared.cause.Cause.TheVariants as cause
 use Rattle.rml_report.specs.declared.cause.Least.{Least}
-use Rattle.rml_report.specs.declared.cause.Least.TheVariants as least
 use Rattle.rml_report.specs.declared.report.Axioms.{Axioms}
 use Rattle.rml_report.specs.declared.report.Axioms.TheVariants as axioms
 use Rattle.rml_report.specs.declared.report.Verdict.{Verdict}
 use Rattle.rml_report.specs.declared.report.Verdict.TheVariants as verdict
 use Rattle.line_scan.specs.Scanning.{most}
 use Rattle.line_scan.specs.Laws.{is_whole, is_none}
-use Rattle.printed_report.specs.Lines.{IsCause, IsCounted, IsAxioms, IsLeast}
+use Rattle.printed_report.specs.Lines.{IsCause, IsCounted, IsAxioms}
 use Rattle.report_read.specs.Printing.{is_plain, ArePlain, HasPlainNames}
 use Rattle.report_read.proofs.Fitting.{no_function_table}
 

@@ -1,22 +1,20 @@
 -- The text of a right report is a printed report.
-use Rattle.std.proofs.Common.{◌≡◌, ℕ, zero, suc, ◌+◌, ◌<◌, ◌≤◌, true, List, [], ◌∷◌, ◌++◌, length, map, All, Option}
+use Rattle.std.proofs.Common.{◌≡◌, ℕ, zero, suc, ◌+◌, ◌<◌, ◌≤◌, List, [], ◌∷◌, ◌++◌, length, map, All, Option}
 use Rattle.std.proofs.Common.{Some}
-use Rattle.std.proofs.Common.{None, refl, sym, ap, ◌∙◌, subst, arith, append_assoc, append-nil}
-use Rattle.std.specs.Prelude.{codes, slice_index, slice_get}
+use Rattle.std.proofs.Common.{refl, sym, ap, ◌∙◌, subst, arith, append_assoc, append-nil}
+use Rattle.std.specs.Prelude.{codes, slice_index}
 use Rattle.std.specs.List.{AllByRecursion, flat_map}
 use Rattle.std.proofs.lemmas.List.Elements.{recursion_from_All}
 use Rattle.base.specs.Lists.{count_from}
-use Rattle.base.proofs.Lists.{all_append, all_more}
+use Rattle.base.proofs.Lists.{all_append}
 use Rattle.fol_sig.specs.Tables.{Tables, InRange, size_at}
 use Rattle.fol_sig.specs.Symbols.{FitsStructure, symbols}
 use Rattle.fol_sig.specs.Tuples.{join_below}
-use Rattle.fol_formula.specs.Syntax.{FormTree}
 use Rattle.rml_command.specs.Trees.{PrimitiveTree}
 use Rattle.rml_command.specs.Models.{ModelTree, FitsPath}
 use Rattle.rml_command.specs.Fragment.{IsChecked}
 use Rattle.rml_command.specs.Outcomes.{Outcome, ended, aborted, follow_path}
-use Rattle.rml_command.specs.Goals.{Group, groups_of, stage_paths, goal_path, leading_sorts, IsGoal, FailsGoal}
-use Rattle.rml_command.specs.Goals.{IsCounterexample}
+use Rattle.rml_command.specs.Goals.{Group, stage_paths, goal_path, leading_sorts, IsGoal, FailsGoal}
 use Rattle.rml_command.specs.Laws.{UpdatesKeepSymbols, GoalPathsFit, PathsEndAtAbort}
 use Rattle.rml_command.specs.declared.names.Names.{Names}
 use Rattle.rml_command.specs.declared.goal.Goal.{Goal}
@@ -25,10 +23,9 @@ use Rattle.rml_command.specs.declared.goal.About.TheVariants as about
 use Rattle.rml_exec.specs.declared.trace.Counterexample.{Counterexample}
 use Rattle.rml_report.specs.Words.{numbers_line}
 use Rattle.rml_report.specs.TableText.{sort_line, relation_line, function_line, tables_text, sorts_text}
-use Rattle.rml_report.specs.ReportText.{head_text, path_line, least_line, least_text, undecided_text, axioms_text}
+use Rattle.rml_report.specs.ReportText.{head_text, path_line, least_line, undecided_text, axioms_text}
 use Rattle.rml_report.specs.ReportText.{verdict_text, outcome_of, followed, end_tables, end_text, outcome_text}
 use Rattle.rml_report.specs.ReportText.{execution_text, block_text, answer_text, group_text, report_text}
-use Rattle.rml_report.specs.Reports as reports
 use Rattle.rml_report.specs.Reports.{head_of, goal_at, IsRight, IsAnswer, IsShown, Reports}
 use Rattle.rml_report.specs.declared.cause.Least.{Least}
 use Rattle.rml_report.specs.declared.cause.Least.TheVariants as least
@@ -40,10 +37,9 @@ use Rattle.rml_report.specs.declared.report.Report.{Report}
 use Rattle.line_scan.specs.Lines.{lines_of}
 use Rattle.line_scan.specs.Scanning.{most}
 use Rattle.line_scan.specs.Laws.{join, LinesAreCut}
-use Rattle.printed_report.specs.Executions.{IsSize, havoc_sorts, sorts_along, HasSizes, HasEnd, IsExecution}
+use Rattle.printed_report.specs.Executions.{IsSize, sorts_along, HasEnd, IsExecution}
 use Rattle.printed_report.specs.Lines.{IsLeast, sort_lines, table_lines, end_lines, block_lines}
-use Rattle.printed_report.specs.PrintedReports.{IsBlock, Says, IsGroup, AreGroups, IsPrinted}
-use Rattle.printed_report.specs.declared.printed.PrintedAnswer.TheVariants as answer
+use Rattle.printed_report.specs.PrintedReports.{Says, AreGroups, IsPrinted}
 use Rattle.report_read.specs.Printing.{end_of, printed_answer, answer_lines, group_lines, printed_groups, printed}
 use Rattle.report_read.specs.Printing.{HasPlainNames, CanPrint, CanBeRead, ReportsArePrinted}
 use Rattle.report_read.proofs.Pieces.{apart4, apart5, numbered_below}
@@ -177,9 +173,14 @@ module _ (cuts : LinesAreCut) (updates : UpdatesKeepSymbols) (law : GoalPathsFit
     has_end (about.Conjecture k) o e f =
         let end = end_is f.1 (e ∙ f.3) in
         subst (λ p. HasEnd m shown.structure (about.Conjecture k) shown.values (end_of (about.Conjecture k) p))
-        (sym f.3)
-        (f.0, f.1, f.2, refl, record { structure = end.fits; sizes = end.sizes },
-        subst (λ z. InRange z (leading_sorts f.0) shown.values) end.sizes f.4.in_range)
+        (sym f.3) (
+          f.0,
+          f.1,
+          f.2,
+          refl,
+          record { structure = end.fits; sizes = end.sizes },
+          subst (λ z. InRange z (leading_sorts f.0) shown.values) end.sizes f.4.in_range,
+        )
 
     execution : IsExecution m group paths shown (end_of group.about (outcome_of m shown))
     execution = record {
@@ -251,8 +252,11 @@ module _ (cuts : LinesAreCut) (updates : UpdatesKeepSymbols) (law : GoalPathsFit
     small_path : shown.trace.path ≤ most
     small_path =
         let at_path : IsGoal m (goal_at group shown.trace.path) = subst (IsGoal m) is.goal is.refutation.goal in
-        omega (arith, numbered_below (stage_paths m group.stage) shown.trace.path at_path.path at_path.is_path,
-        few_paths m ok group.stage)
+        omega (
+          arith,
+          numbered_below (stage_paths m group.stage) shown.trace.path at_path.path at_path.is_path,
+          few_paths m ok group.stage,
+        )
 
     values_small : (a : About) → HasEnd m shown.structure a shown.values (end_of a (outcome_of m shown))
         → AreSmall shown.values
@@ -267,10 +271,12 @@ module _ (cuts : LinesAreCut) (updates : UpdatesKeepSymbols) (law : GoalPathsFit
     whole_end (about.Conjecture k) o e f values =
         let end = end_is f.1 (e ∙ f.3) in
         subst (λ p. AllByRecursion Whole (end_lines m.names (about.Conjecture k) shown.values
-        (end_of (about.Conjecture k) p))) (sym f.3)
-        (refl, all_append Whole (table_lines m.names f.1) (numbers_line (codes "  values:") shown.values ∷ [])
-        (whole_tables f.1 end.fits (subst (All IsSize) (sym end.sizes) sizes))
-        (whole_numbers (codes "  values:") shown.values refl values, tt))
+        (end_of (about.Conjecture k) p))) (sym f.3) (
+          refl,
+          all_append Whole (table_lines m.names f.1) (numbers_line (codes "  values:") shown.values ∷ [])
+              (whole_tables f.1 end.fits (subst (All IsSize) (sym end.sizes) sizes))
+              (whole_numbers (codes "  values:") shown.values refl values, tt),
+        )
 
     whole_block : (line : List ℕ) → Whole line
         → AllByRecursion Whole (block_lines m.names group.about paths line shown
@@ -278,17 +284,25 @@ module _ (cuts : LinesAreCut) (updates : UpdatesKeepSymbols) (law : GoalPathsFit
     whole_block line h =
         let s : Tables = shown.structure in
         let fs = is.refutation.refutes.structure in
-        let last : Lines = end_lines m.names group.about shown.values (end_of group.about (outcome_of m shown)) in
-        (whole_path shown.trace.path paths small_path small_paths, (h, (refl,
-        all_append Whole (sort_lines m.names s)
-        (table_lines m.names s ++ numbers_line (codes "  havoc:") shown.trace.havoc ∷ last)
-        (whole_sorts s fs sizes)
-        (all_append Whole (table_lines m.names s) (numbers_line (codes "  havoc:") shown.trace.havoc ∷ last)
-        (whole_tables s fs sizes)
-        (whole_numbers (codes "  havoc:") shown.trace.havoc refl
-        (in_range_small s.sizes (small s fs sizes) (sorts_along (symbols m.signature) (goal_path m shown.goal))
-        shown.trace.havoc in_range),
-        whole_end group.about (outcome_of m shown) refl fails (values_small group.about execution.end))))))
+        let last : Lines = end_lines m.names group.about shown.values (end_of group.about (outcome_of m shown)) in (
+          whole_path shown.trace.path paths small_path small_paths,
+          (
+            h,
+            (
+              refl,
+              all_append Whole (sort_lines m.names s)
+                  (table_lines m.names s ++ numbers_line (codes "  havoc:") shown.trace.havoc ∷ last)
+                  (whole_sorts s fs sizes)
+                  (all_append Whole (table_lines m.names s) (numbers_line (codes "  havoc:") shown.trace.havoc ∷ last)
+                  (whole_tables s fs sizes) (
+                    whole_numbers (codes "  havoc:") shown.trace.havoc refl
+                        (in_range_small s.sizes (small s fs sizes) (sorts_along (symbols m.signature) (goal_path m shown.goal))
+                        shown.trace.havoc in_range),
+                    whole_end group.about (outcome_of m shown) refl fails (values_small group.about execution.end),
+                  )),
+            ),
+          ),
+        )
 
   least_whole : (l : Least) → IsLeast m l → Whole (least_line m.names l)
   least_whole least.Yes can = whole_least m.names plain least.Yes refl
@@ -304,32 +318,42 @@ module _ (cuts : LinesAreCut) (updates : UpdatesKeepSymbols) (law : GoalPathsFit
       → Says m group (printed_answer m group.about a)
       (answer_lines m group.about (head_text m.names group.stage group.about) a)
   says reported.Holds group right can = refl
-  says (reported.Fails paths l shown) group right can =
-      (block_lines m.names group.about paths (least_line m.names l) shown
-      (end_of group.about (outcome_of m shown)),
-      record {
-        execution = execution group paths shown right.0 right.1 can.0;
-        least = least_line m.names l;
-        is_least = record { least = l; can = can.1; text = refl };
-        text = refl;
-      }, refl)
-  says (reported.Undecided path cause) group right can =
-      (head_text m.names group.stage group.about ++ undecided_text path cause,
-      record { path = path; cause = cause; goal = right.is_goal; can = can; text = refl }, refl)
+  says (reported.Fails paths l shown) group right can = (
+    block_lines m.names group.about paths (least_line m.names l) shown
+        (end_of group.about (outcome_of m shown)),
+    record {
+      execution = execution group paths shown right.0 right.1 can.0;
+      least = least_line m.names l;
+      is_least = record { least = l; can = can.1; text = refl };
+      text = refl;
+    },
+    refl,
+  )
+  says (reported.Undecided path cause) group right can = (
+    head_text m.names group.stage group.about ++ undecided_text path cause,
+    record { path = path; cause = cause; goal = right.is_goal; can = can; text = refl },
+    refl,
+  )
 
   answer_whole : (a : Answer) (group : Group) → IsAnswer m group a → CanPrint m a
       → AllByRecursion Whole (answer_lines m group.about (head_text m.names group.stage group.about) a)
   answer_whole reported.Holds group right can =
       (whole_head m.names plain group.stage group.about (codes ": holds\n") refl, tt)
-  answer_whole (reported.Fails paths l shown) group right can =
-      (whole_head m.names plain group.stage group.about (codes ": fails\n") refl,
-      whole_block group paths shown right.0 right.1 can.0 (least_line m.names l) (least_whole l can.1))
+  answer_whole (reported.Fails paths l shown) group right can = (
+    whole_head m.names plain group.stage group.about (codes ": fails\n") refl,
+    whole_block group paths shown right.0 right.1 can.0 (least_line m.names l) (least_whole l can.1),
+  )
   answer_whole (reported.Undecided path cause) group right can =
-      let goal = right.is_goal in
-      (whole_head m.names plain group.stage group.about (undecided_text path cause)
-      (whole_undecided path cause
-      (omega (arith, numbered_below (stage_paths m group.stage) path goal.path goal.is_path,
-      few_paths m ok group.stage)) can), tt)
+      let goal = right.is_goal in (
+        whole_head m.names plain group.stage group.about (undecided_text path cause)
+            (whole_undecided path cause
+            (omega (
+              arith,
+              numbered_below (stage_paths m group.stage) path goal.path goal.is_path,
+              few_paths m ok group.stage,
+            )) can),
+        tt,
+      )
 
   answer_joined : (a : Answer) (group : Group) → IsAnswer m group a → CanPrint m a → (head : List ℕ)
       → join (answer_lines m group.about head a) ≡ head ++ answer_text m group.about a
@@ -349,10 +373,13 @@ module _ (cuts : LinesAreCut) (updates : UpdatesKeepSymbols) (law : GoalPathsFit
       → AllByRecursion (λ (g : report.Group). CanPrint m g.answer) gs
       → AreGroups m n (map head_of gs) (printed_groups m n gs) (all_lines gs)
   groups_are [] n right can = refl
-  groups_are (g ∷ gs) n right can =
-      (group_lines m g, all_lines gs,
-      record { stage = refl; about = refl; line = refl; answer = says g.answer (head_of g) right.0 can.0 },
-      groups_are gs (n + length (group_lines m g)) right.1 can.1, refl)
+  groups_are (g ∷ gs) n right can = (
+    group_lines m g,
+    all_lines gs,
+    record { stage = refl; about = refl; line = refl; answer = says g.answer (head_of g) right.0 can.0 },
+    groups_are gs (n + length (group_lines m g)) right.1 can.1,
+    refl,
+  )
 
   groups_whole : (gs : List report.Group) → AllByRecursion (IsRight m) gs
       → AllByRecursion (λ (g : report.Group). CanPrint m g.answer) gs → AllByRecursion Whole (all_lines gs)
@@ -385,10 +412,11 @@ module _ (cuts : LinesAreCut) (updates : UpdatesKeepSymbols) (law : GoalPathsFit
       ∙ sym (append_assoc (axioms_text r.axioms) (flat_map (group_text m) r.groups) (verdict_text r.verdict))
 
   report_whole : (r : Report) → Reports m r → CanBeRead m r → AllByRecursion Whole (report_lines r)
-  report_whole r right can =
-      (whole_axioms r.axioms can.axioms,
-      all_append Whole (all_lines r.groups) (verdict_text r.verdict ∷ [])
-      (groups_whole r.groups right.right can.groups) (whole_verdict r.verdict, tt))
+  report_whole r right can = (
+    whole_axioms r.axioms can.axioms,
+    all_append Whole (all_lines r.groups) (verdict_text r.verdict ∷ [])
+        (groups_whole r.groups right.right can.groups) (whole_verdict r.verdict, tt),
+  )
 
   report_printed : (r : Report) → Reports m r → CanBeRead m r → IsPrinted m (printed m r) (report_lines r)
   report_printed r right can = record {

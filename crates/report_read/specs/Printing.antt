@@ -9,7 +9,7 @@ use Rattle.rml_command.specs.Outcomes.{Outcome, ended, aborted}
 use Rattle.rml_command.specs.declared.names.Names.{Names}
 use Rattle.rml_command.specs.declared.goal.About.{About}
 use Rattle.rml_command.specs.declared.goal.About.TheVariants as about
-use Rattle.rml_report.specs.ReportText.{head_text, undecided_text, least_line, axioms_text, verdict_text, outcome_of}
+use Rattle.rml_report.specs.ReportText.{head_text, undecided_text, least_line, outcome_of}
 use Rattle.rml_report.specs.ReportText.{report_text}
 use Rattle.rml_report.specs.Reports.{Reports}
 use Rattle.rml_report.specs.declared.report.Answer.{Answer}
