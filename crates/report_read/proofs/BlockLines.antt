@@ -36,12 +36,15 @@ use Rattle.printed_report.specs.declared.printed.PrintedAnswer.TheVariants as an
 use Rattle.report_read.specs.Got.{got, and_then}
 use Rattle.report_read.specs.LineReading.{is_least_line, path_in, elements_in, words_in}
 use Rattle.report_read.specs.Reading.{passing, read_sizes, read_tables, read_structure, value_sorts, read_words}
-use Rattle.report_read.specs.Reading.{end_in, no_end, read_end_tables, read_after, read_abort, read_end, read_path, read_least}
-use Rattle.report_read.specs.Reading.{read_values, read_havoc, read_opening, read_course, shown_of, fails_of, read_execution}
+use Rattle.report_read.specs.Reading.{end_in, no_end, read_end_tables, read_after, read_abort, read_end, read_path}
+use Rattle.report_read.specs.Reading.{read_least}
+use Rattle.report_read.specs.Reading.{read_values, read_havoc, read_opening, read_course, shown_of, fails_of}
+use Rattle.report_read.specs.Reading.{read_execution}
 use Rattle.report_read.specs.Reading.{read_block, AreSizes}
 use Rattle.report_read.specs.declared.block.End.{End}
 use Rattle.report_read.specs.declared.block.Course.{Course}
-use Rattle.report_read.proofs.Parts.{Lines, IsPart, IsLine, IsOne, IsBoth, IsMade, part_as, one_part, both_part, made_part}
+use Rattle.report_read.proofs.Parts.{Lines, IsPart, IsLine, IsOne, IsBoth, IsMade, part_as, one_part, both_part}
+use Rattle.report_read.proofs.Parts.{made_part}
 use Rattle.report_read.proofs.HeadLines.{words_line, IsPathLine, path_line_is}
 use Rattle.report_read.proofs.LeastLines.{least_line_is, IsElements, elements_line_is, zeros_in, small_at}
 use Rattle.report_read.proofs.SizeLines.{IsSortSize, SizesFrom, sizes_part, size_lines_are, positive_sizes}
@@ -222,7 +225,6 @@ module _ (x : ScansAreExact) (numbered_are : TuplesAreNumbered) (m : ModelTree) 
 
         after_to : (n : ℕ) (end : End) (lines : Lines) → AfterFrom n end lines → IsEnd (about.Conjecture k) n end lines
         after_to n end lines is =
-            let t : Tables = is.0 in
             let tables = is.3.4 in
             let words = is.3.3 in
             let values = is.4.1 in
@@ -243,11 +245,11 @@ module _ (x : ScansAreExact) (numbered_are : TuplesAreNumbered) (m : ModelTree) 
               is.5 ∙ ap (λ l. l ++ is.2) head ∙ ap (λ l. (codes "  after\n" ∷ table_lines m.names is.0) ++ l) last,
             )
 
-        after_back : (n : ℕ) (end : End) (lines : Lines) → IsEnd (about.Conjecture k) n end lines → AfterFrom n end lines
+        after_back : (n : ℕ) (end : End) (lines : Lines) → IsEnd (about.Conjecture k) n end lines
+            → AfterFrom n end lines
         after_back n end lines is =
             let h = is.0 in
             let same : h.0 ≡ c = (let e : Some h.0 ≡ Some c = sym h.2 ∙ is_c in cc e) in
-            let t : Tables = h.1 in
             let end_is : end_in h.1 end.values ≡ end = ap (λ o. make_end o end.values) (sym h.3) in
             let text : lines ≡ end_lines m.names (about.Conjecture k) end.values (Some h.1) =
             is.1 ∙ ap (end_lines m.names (about.Conjecture k) end.values) h.3 in (
@@ -436,7 +438,8 @@ module _ (x : ScansAreExact) (numbered_are : TuplesAreNumbered) (m : ModelTree) 
           (λ _ next. and_then (read_words (codes "  before\n") next) (λ _ rest. got path rest))
           (λ _. IsMade (IsOne (λ (_ : Unit {0}) line. line ≡ codes "  before\n")) (λ _ _. path))
           (one_part (λ l. passing (is_least_line m.names l)) LeastOf (least_line_is x m))
-          (λ _ _ _ _. made_part (read_words (codes "  before\n")) (IsOne (λ (_ : Unit {0}) line. line ≡ codes "  before\n"))
+          (λ _ _ _ _. made_part (read_words (codes "  before\n"))
+          (IsOne (λ (_ : Unit {0}) line. line ≡ codes "  before\n"))
           (λ _ _. path) (words_part (codes "  before\n") (words_line (codes "  before\n") refl)))))
 
       -- what is shown
@@ -471,11 +474,6 @@ module _ (x : ScansAreExact) (numbered_are : TuplesAreNumbered) (m : ModelTree) 
       -- the whole block
       block_to : (n : ℕ) (a : PrintedAnswer) (lines : Lines) → BlockFrom n a lines → IsBlockText m group n a lines
       block_to n a lines is =
-          let open_is = is.3 in
-          let run = is.4 in
-          let s : Tables = is.4.0 in
-          let made = is.4.4 in
-          let course : Course = is.4.4.0 in
           let of = is.4.4.1 in (
             length (stage_paths m group.stage),
             shown_of group is.0 is.4.0 is.4.4.0,
@@ -505,15 +503,8 @@ module _ (x : ScansAreExact) (numbered_are : TuplesAreNumbered) (m : ModelTree) 
 
       block_back : (n : ℕ) (a : PrintedAnswer) (lines : Lines) → IsBlockText m group n a lines → BlockFrom n a lines
       block_back n a lines is =
-          let shown : Counterexample = is.1 in
-          let after : Option Tables = is.2 in
-          let block = is.4 in
-          let run = is.4.execution in
-          let path : ℕ = is.1.trace.path in
-          let s : Tables = is.1.structure in
           let is_goal : IsGoal m (goal_at group is.1.trace.path) = subst (IsGoal m) is.4.execution.goal
           is.4.execution.is_goal in
-          let course : Course = make_course is.1.trace.havoc (make_end is.2 is.1.values) in
           let same : fails_of group (length (stage_paths m group.stage)) is.1.trace.path is.1.structure
           (make_course is.1.trace.havoc (make_end is.2 is.1.values)) ≡ a =
           ap (λ k. answer.Fails k (shown_of group is.1.trace.path is.1.structure
@@ -550,7 +541,8 @@ module _ (x : ScansAreExact) (numbered_are : TuplesAreNumbered) (m : ModelTree) 
                 ∷ (sort_lines m.names is.1.structure ++ (table_lines m.names is.1.structure
                 ++ numbers_line (codes "  havoc:") is.1.trace.havoc ∷ end_lines m.names group.about is.1.values is.2)))
                 is.4.execution.count
-                ∙ ap (λ l. path_line is.1.trace.path (length (stage_paths m group.stage)) ∷ is.4.least ∷ codes "  before\n" ∷ l)
+                ∙ ap (λ l. path_line is.1.trace.path (length (stage_paths m group.stage)) ∷ is.4.least
+                ∷ codes "  before\n" ∷ l)
                 (sym (append_assoc (sort_lines m.names is.1.structure) (table_lines m.names is.1.structure)
                 (numbers_line (codes "  havoc:") is.1.trace.havoc ∷ end_lines m.names group.about is.1.values is.2))),
           )

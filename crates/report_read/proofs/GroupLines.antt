@@ -1,5 +1,6 @@
 -- The lines of groups, and whole reports.
-use Rattle.std.proofs.Common.{◌≡◌, ℕ, zero, suc, ◌+◌, ◌<◌, ◌≤◌, Bool, true, false, List, [], ◌∷◌, ◌++◌, length, map, Option}
+use Rattle.std.proofs.Common.{◌≡◌, ℕ, zero, suc, ◌+◌, ◌<◌, ◌≤◌, Bool, true, false, List, [], ◌∷◌, ◌++◌, length, map}
+use Rattle.std.proofs.Common.{Option}
 use Rattle.std.proofs.Common.{Some, None, refl, sym, ap, ◌∙◌, subst, cond, arith, append_assoc, append-nil}
 use Rattle.std.specs.Prelude.{codes, slice_get}
 use Rattle.std.specs.List.{AllByRecursion, flat_map}
@@ -24,7 +25,8 @@ use Rattle.line_scan.specs.Lines.{LinesLeft}
 use Rattle.line_scan.specs.Scanning.{behind}
 use Rattle.line_scan.specs.Laws.{ScansAreExact}
 use Rattle.printed_report.specs.Lines.{IsAxiomsLine}
-use Rattle.printed_report.specs.PrintedReports.{head_line, Says, IsGroup, AreGroups, IsPrinted, BeginsReport, IsUnexpected}
+use Rattle.printed_report.specs.PrintedReports.{head_line, Says, IsGroup, AreGroups, IsPrinted, BeginsReport}
+use Rattle.printed_report.specs.PrintedReports.{IsUnexpected}
 use Rattle.printed_report.specs.PrintedReports.{IsUnread}
 use Rattle.printed_report.specs.declared.printed.Printed.{Printed}
 use Rattle.printed_report.specs.declared.printed.PrintedGroup.{PrintedGroup}
@@ -313,7 +315,6 @@ module _ (x : ScansAreExact) (numbered_are : TuplesAreNumbered) (m : ModelTree) 
   printed_to : (p : Printed) (lines : Lines) → LinesFrom 1 p lines → IsPrinted m p lines
   printed_to p lines is =
       let first = is.3 in
-      let rest = is.4 in
       let groups = is.4.3 in
       let made = is.4.4 in
       let two : 1 + length is.1 ≡ 2 = ap (λ (l : Lines). 1 + length l) first.2 in

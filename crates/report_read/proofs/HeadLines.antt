@@ -132,14 +132,14 @@ module _ (x : ScansAreExact) where
         → path_in m group paths line ≡ Some path
     unfolding path_line
     path_there paths path line is =
-        let rest : List ℕ = codes " of " ++ (decimal paths ++ codes "\n") in
         ap (path_in m group paths)
         (is.text ∙ apart5 (codes "  path ") (decimal path) (codes " of ") (decimal paths) (codes "\n"))
         ∙ ap (λ o. on o (λ (n : ℕ × List ℕ). cond (is_goal_at m group n.0) (path_end n.0 paths n.1) None))
         (x.number_there path (codes " of " ++ (decimal paths ++ codes "\n")) (small_path path is.goal_is) refl)
         ∙ ap (λ t. cond t (path_end path paths (codes " of " ++ (decimal paths ++ codes "\n"))) None)
         (goal_there m group path is.goal_is)
-        ∙ ap (λ o. on o (λ (b : List ℕ). cond (is_end b) (Some path) None)) (x.behind_there (decimal paths) (codes "\n"))
+        ∙ ap (λ o. on o (λ (b : List ℕ). cond (is_end b) (Some path) None))
+        (x.behind_there (decimal paths) (codes "\n"))
         ∙ ap (λ t. cond t (Some path) None) x.end_there
 
     path_sound : (paths : ℕ) (line : List ℕ) (path : ℕ) → path_in m group paths line ≡ Some path
@@ -158,7 +158,8 @@ module _ (x : ScansAreExact) where
         d.gives in
         let k = kept (is_end f.value) b.value.0 path f.gives in
         let here : line ≡ codes "  path " ++ (decimal b.value.0 ++ (codes " of " ++ (decimal paths ++ codes "\n"))) =
-        behind_then x (codes "  path ") line a.value (decimal b.value.0 ++ (codes " of " ++ (decimal paths ++ codes "\n")))
+        behind_then x (codes "  path ") line a.value
+        (decimal b.value.0 ++ (codes " of " ++ (decimal paths ++ codes "\n")))
         a.found
         (number_then x a.value b.value (codes " of " ++ (decimal paths ++ codes "\n")) b.found
         (behind_then x (codes " of ") b.value.1 d.value (decimal paths ++ codes "\n") d.found
@@ -190,8 +191,6 @@ module _ (x : ScansAreExact) where
     head_there_end : (line rest : List ℕ) → line ≡ head_line m group rest → head_in m group line ≡ head_end m group rest
     unfolding head_text
     head_there_end line rest is =
-        let s : List ℕ = stage_text m.names group.stage in
-        let a : List ℕ = about_text m.names group.about in
         ap (head_in m group) (is ∙ apart3 (stage_text m.names group.stage) (about_text m.names group.about) rest)
         ∙ ap (λ o. on o (λ (l : List ℕ). on (behind (about_text m.names group.about) l) (head_end m group)))
         (x.behind_there (stage_text m.names group.stage) (about_text m.names group.about ++ rest))
@@ -263,7 +262,8 @@ module _ (x : ScansAreExact) where
         let k = kept (is_open_path m group a.value) head.Undecided h a.gives in
         let u = undecided_sound a.value k.test in
         let text : bs ≡ undecided_text u.0 u.1 =
-        behind_then x (codes ": undecided path ") bs a.value (decimal u.0 ++ (codes " " ++ (cause_text u.1 ++ codes "\n")))
+        behind_then x (codes ": undecided path ") bs a.value
+        (decimal u.0 ++ (codes " " ++ (cause_text u.1 ++ codes "\n")))
         a.found u.4
         ∙ sym (apart5 (codes ": undecided path ") (decimal u.0) (codes " ") (cause_text u.1) (codes "\n")) in
         subst (λ g. IsHead g line) k.value

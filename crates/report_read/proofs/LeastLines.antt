@@ -103,7 +103,6 @@ module _ (x : ScansAreExact) where
   stop_there : (bound size : ℕ) (c : Cause) (name : List ℕ) → size ≤ bound → bound ≤ most → IsCounted c
       → stops_at bound (stop_text name size c) name ≡ true
   stop_there bound size c name le room can =
-      let rest : List ℕ = codes " " ++ (cause_text c ++ codes "\n") in
       ap (λ o. choose o (λ a. choose (behind (codes " ") a) (is_stop bound) false) false)
       (x.behind_there name (codes " " ++ (decimal size ++ (codes " " ++ (cause_text c ++ codes "\n")))))
       ∙ ap (λ o. choose o (λ (n : ℕ × List ℕ). cond (nat_le n.0 bound)
@@ -124,7 +123,6 @@ module _ (x : ScansAreExact) where
       (choose (behind (codes " ") c.value.1) (λ a. ends (behind_counted a)) false) c.holds in
       let d = chosen (behind (codes " ") c.value.1) (λ a. ends (behind_counted a)) t.1 in
       let h = counted_end_sound x d.value d.holds in
-      let rest : List ℕ = codes " " ++ (cause_text h.cause_is ++ codes "\n") in
       record {
         size = c.value.0;
         small = leb-true c.value.0 bound t.0;

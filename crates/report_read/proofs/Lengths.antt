@@ -93,10 +93,12 @@ variable_cells size bs cells e =
     subst (AreCells 1 size) k.value
     (record {
       count = refl;
-      within = All-push (λ x. x < size) [] a.value.0 (All-nil (λ x. x < size)) (value_below size b.value a.value b.gives);
+      within = All-push (λ x. x < size) [] a.value.0 (All-nil (λ x. x < size))
+          (value_below size b.value a.value b.gives);
     })
 
-images_cells : (sizes ks : List ℕ) (size : ℕ) (name line cells : List ℕ) → values_in sizes ks size name line ≡ Some cells
+images_cells : (sizes ks : List ℕ) (size : ℕ) (name line cells : List ℕ)
+    → values_in sizes ks size name line ≡ Some cells
     → AreCells (tuple_count sizes ks) size cells
 images_cells sizes [] size name line cells e =
     let a = taken (behind_labelled (codes "    variable ") name (codes ":") line) (variable_end size) cells e in

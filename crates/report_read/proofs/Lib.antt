@@ -14,3 +14,6 @@ mod GroupLines
 mod Lengths
 mod Turns
 mod GroupTurns
+mod Following
+mod Plain
+mod PrintedText

@@ -15,7 +15,8 @@ use Rattle.rml_report.specs.declared.report.Axioms.TheVariants as axioms
 use Rattle.line_scan.specs.Scanning.{behind, number_at, is_end, most}
 use Rattle.line_scan.specs.Laws.{ScansAreExact, ends_number}
 use Rattle.printed_report.specs.Lines.{IsCounted, IsAxioms, IsAxiomsLine}
-use Rattle.report_read.specs.LineReading.{choose, on, behind_number, behind_counted, ends, is_open_axioms, is_axioms_line}
+use Rattle.report_read.specs.LineReading.{choose, on, behind_number, behind_counted, ends, is_open_axioms}
+use Rattle.report_read.specs.LineReading.{is_axioms_line}
 use Rattle.report_read.specs.LineReading.{behind_labelled, size_in, size_end, value_at, element_at}
 use Rattle.report_read.specs.LineReading.{elements_end}
 
@@ -69,7 +70,6 @@ module _ (x : ScansAreExact) where
       → IsNumbered word bs rest
   numbered word bs a rest found e =
       let t = taken (number_at a) (λ (n : ℕ × List ℕ). Some n.1) rest e in
-      let n : ℕ × List ℕ = t.value in
       let s : (a ≡ decimal t.value.0 ++ t.value.1) × (t.value.0 ≤ most) =
       x.number_sound a t.value.0 t.value.1 t.found in
       let r : t.value.1 ≡ rest = cc t.gives in
@@ -140,7 +140,8 @@ module _ (x : ScansAreExact) where
 
   -- the line of the axioms
   pub not_words : (w r line words : List ℕ) → behind w line ≡ Some r → behind w words ≡ None → line ≡ words → ⊥
-  not_words w r line words found missing e = let f : behind w line ≡ behind w words = ap (behind w) e in cc (f, found, missing)
+  not_words w r line words found missing e =
+      let f : behind w line ≡ behind w words = ap (behind w) e in cc (f, found, missing)
 
   open_there : (c : Cause) → IsCounted c → is_axioms_line (open_text c) ≡ true
   unfolding open_text
@@ -223,11 +224,13 @@ module _ (x : ScansAreExact) where
     pub most_is : size ≤ 100000
     pub text : line ≡ labelled (codes "    sort ") name (codes " ") ++ (decimal size ++ codes "\n")
 
-  pub size_there : (name : List ℕ) (size : ℕ) (line : List ℕ) → IsSortLine name size line → size_in name line ≡ Some size
+  pub size_there : (name : List ℕ) (size : ℕ) (line : List ℕ) → IsSortLine name size line
+      → size_in name line ≡ Some size
   size_there name size line is =
       let tests : nat_le 1 size && nat_le size 100000 && is_end (codes "\n") ≡ true =
       and_from (nat_le 1 size && nat_le size 100000) (is_end (codes "\n"))
-      (and_from (nat_le 1 size) (nat_le size 100000) (le-leb 1 size is.least) (le-leb size 100000 is.most_is)) x.end_there in
+      (and_from (nat_le 1 size) (nat_le size 100000) (le-leb 1 size is.least) (le-leb size 100000 is.most_is))
+      x.end_there in
       let small : size ≤ most = let m = is.most_is in omega (arith, m) in
       ap (size_in name) is.text
       ∙ ap (λ o. on o size_end) (labelled_there (codes "    sort ") name (codes " ") (decimal size ++ codes "\n"))
@@ -235,7 +238,8 @@ module _ (x : ScansAreExact) where
       (x.number_there size (codes "\n") small refl)
       ∙ ap (λ t. cond t (Some size) None) tests
 
-  pub size_sound : (name : List ℕ) (size : ℕ) (line : List ℕ) → size_in name line ≡ Some size → IsSortLine name size line
+  pub size_sound : (name : List ℕ) (size : ℕ) (line : List ℕ) → size_in name line ≡ Some size
+      → IsSortLine name size line
   size_sound name size line e =
       let a = taken (behind_labelled (codes "    sort ") name (codes " ") line) size_end size e in
       let b = taken (number_at a.value)
@@ -265,7 +269,8 @@ module _ (x : ScansAreExact) where
   pub value_there : (size n : ℕ) (rest : List ℕ) → n < size → size ≤ most → ends_number rest ≡ true
       → value_at size (decimal n ++ rest) ≡ Some (n, rest)
   value_there size n rest lt le over =
-      ap (λ o. on o (λ (m : ℕ × List ℕ). cond (nat_lt m.0 size) (Some m) None)) (x.number_there n rest (omega arith) over)
+      ap (λ o. on o (λ (m : ℕ × List ℕ). cond (nat_lt m.0 size) (Some m) None))
+      (x.number_there n rest (omega arith) over)
       ∙ ap (λ t. cond t (Some (n, rest)) None) (lt-ltb n size lt)
 
   pub record IsValue (size : ℕ) (bs : List ℕ) (n : ℕ × List ℕ) : Type 0 where
@@ -287,7 +292,6 @@ module _ (x : ScansAreExact) where
   elements_there sizes [] done (y ∷ ys) small h = absurd h
   elements_there sizes (k ∷ ks) done [] small h = absurd h
   elements_there sizes (k ∷ ks) done (y ∷ ys) small h =
-      let rest : List ℕ = numbers_text ys ++ codes "\n" in
       ap (λ l. elements_end sizes (k ∷ ks) done (32 ∷ l)) (append_assoc (decimal y) (numbers_text ys) (codes "\n"))
       ∙ ap (λ o. on o (λ (n : ℕ × List ℕ). elements_end sizes ks (done ++ n.0 ∷ []) n.1))
       (value_there (slice_index sizes k) y (numbers_text ys ++ codes "\n") h.0 (small k) (ends_numbers ys))

@@ -14,7 +14,8 @@ use Rattle.line_scan.specs.Laws.{ScansAreExact}
 use Rattle.report_read.specs.Got.{got, one}
 use Rattle.report_read.specs.LineReading.{size_in}
 use Rattle.report_read.specs.Reading.{read_sizes}
-use Rattle.report_read.proofs.Parts.{Lines, IsPart, IsLine, IsOne, IsBoth, IsNothing, part_as, nothing, one_part, both_part}
+use Rattle.report_read.proofs.Parts.{Lines, IsPart, IsLine, IsOne, IsBoth, IsNothing, part_as, nothing, one_part}
+use Rattle.report_read.proofs.Parts.{both_part}
 use Rattle.report_read.proofs.LineLaws.{IsSortLine, size_there, size_sound}
 
 -- a size that may be printed
@@ -41,7 +42,8 @@ mapped_lines names xs [] k h = refl
 mapped_lines names xs (v ∷ vs) k h =
     let z : k ≡ k + 0 = omega arith in
     let first : slice_index xs k ≡ v = ap (slice_index xs) z ∙ h 0 (omega arith) in
-    ap (λ n. sort_line names k n ∷ map (λ j. sort_line names j (slice_index xs j)) (count_from (suc k) (length vs))) first
+    ap (λ n. sort_line names k n
+    ∷ map (λ j. sort_line names j (slice_index xs j)) (count_from (suc k) (length vs))) first
     ∙ ap (λ ls. sort_line names k v ∷ ls)
     (mapped_lines names xs vs (suc k)
     (λ i lt. let s : suc k + i ≡ k + suc i = omega arith in ap (slice_index xs) s ∙ h (suc i) (omega arith)))

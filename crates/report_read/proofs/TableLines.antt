@@ -1,6 +1,7 @@
 -- The lines of relations, functions and variables.
 use Rattle.std.proofs.Common.{◌≡◌, ℕ, zero, suc, ◌+◌, ◌<◌, ◌≤◌, Bool, true, false, List, [], ◌∷◌, ◌++◌, length}
-use Rattle.std.proofs.Common.{Option, Some, None, refl, sym, ap, ◌∙◌, subst, cond, arith, append_assoc, append-nil, get_or}
+use Rattle.std.proofs.Common.{Option, Some, None, refl, sym, ap, ◌∙◌, subst, cond, arith, append_assoc, append-nil}
+use Rattle.std.proofs.Common.{get_or}
 use Rattle.std.specs.Prelude.{codes, decimal, slice_index, replicate}
 use Rattle.std.specs.Str.{bytes_eq}
 use Rattle.std.specs.List.{AllByRecursion}
@@ -20,7 +21,8 @@ use Rattle.report_read.specs.LineReading.{mapped_at, values_end, truth_end, rela
 use Rattle.report_read.specs.LineReading.{values_in}
 use Rattle.report_read.proofs.Pieces.{apart5, behind_then}
 use Rattle.report_read.proofs.Parts.{IsLine}
-use Rattle.report_read.proofs.LineLaws.{taken, kept, are_words, labelled_there, labelled_sound, value_there, value_sound}
+use Rattle.report_read.proofs.LineLaws.{taken, kept, are_words, labelled_there, labelled_sound, value_there}
+use Rattle.report_read.proofs.LineLaws.{value_sound}
 use Rattle.report_read.proofs.Tuples.{truths_text, images_text, Distinct, none_in_front, length-tuples_from, in_range}
 use Rattle.report_read.proofs.Tuples.{distinct, truth_cell, image_at, image_cell, truths_are, images_are}
 
@@ -118,7 +120,6 @@ module _ (x : ScansAreExact) (sizes : List ℕ) (small : (k : ℕ) → slice_ind
   truths_there ks [] (b ∷ bs) done len all one = absurd (omega (arith, len))
   truths_there ks (t ∷ ts) [] done len all one = absurd (omega (arith, len))
   truths_there ks (t ∷ ts) (true ∷ bs) done len all one =
-      let rest : List ℕ = truths_text ts bs ++ codes "\n" in
       let here : List ℕ = truths_text (t ∷ ts) (true ∷ bs) ++ codes "\n" in
       let found : behind (tuple_text t) ((tuple_text t ++ truths_text ts bs) ++ codes "\n")
       ≡ Some (truths_text ts bs ++ codes "\n") =
@@ -179,7 +180,6 @@ module _ (x : ScansAreExact) (sizes : List ℕ) (small : (k : ℕ) → slice_ind
   images_there size le [] (v ∷ vs) done len all = absurd (omega (arith, len))
   images_there size le (t ∷ ts) [] done len all = absurd (omega (arith, len))
   images_there size le (t ∷ ts) (v ∷ vs) done len all =
-      let rest : List ℕ = images_text ts vs ++ codes "\n" in
       let found : mapped_at size t ((((tuple_text t ++ codes "->") ++ decimal v) ++ images_text ts vs) ++ codes "\n")
       ≡ Some (v, images_text ts vs ++ codes "\n") =
       ap (mapped_at size t) (apart5 (tuple_text t) (codes "->") (decimal v) (images_text ts vs) (codes "\n"))
@@ -346,7 +346,6 @@ module _ (x : ScansAreExact) (sizes : List ℕ) (small : (k : ℕ) → slice_ind
       → IsFunctionEnd [] into cells bs
   unfolding place_of
   variable_sound into cells bs e =
-      let size : ℕ = slice_index sizes into in
       let a = taken (element_at (slice_index sizes into) bs)
       (λ (n : ℕ × List ℕ). cond (is_end n.1) (Some (n.0 ∷ [])) None) cells e in
       let b = taken (behind (codes " ") bs) (value_at (slice_index sizes into)) a.value a.found in

@@ -1,5 +1,6 @@
 -- The lines of a structure's tables.
-use Rattle.std.proofs.Common.{◌≡◌, ◌≢◌, ℕ, zero, suc, ◌+◌, ◌<◌, ◌≤◌, Bool, List, [], ◌∷◌, ◌++◌, length, map, All, get_or}
+use Rattle.std.proofs.Common.{◌≡◌, ◌≢◌, ℕ, zero, suc, ◌+◌, ◌<◌, ◌≤◌, Bool, List, [], ◌∷◌, ◌++◌, length, map, All}
+use Rattle.std.proofs.Common.{get_or}
 use Rattle.std.proofs.Common.{refl, sym, ap, ◌∙◌, subst, arith, length-set, ⊎_elim}
 use Rattle.std.proofs.lemmas.Bool.{cases_eq, cases_lt}
 use Rattle.std.specs.Prelude.{slice_index}
@@ -7,7 +8,8 @@ use Rattle.std.specs.List.{AllByRecursion}
 use Rattle.std.proofs.lemmas.List.{get_or-set_same, get_or-set_other, get_or_default, same_lists}
 use Rattle.std.proofs.lemmas.List.Elements.{All-get_or, All-from_recursion, recursion_from_All}
 use Rattle.base.specs.Lists.{count_from}
-use Rattle.fol_sig.specs.Tables.{Tables, RelationTable, FunctionTable, IsFullRelation, IsFullFunction, IsSignature, blank}
+use Rattle.fol_sig.specs.Tables.{Tables, RelationTable, FunctionTable, IsFullRelation, IsFullFunction, IsSignature}
+use Rattle.fol_sig.specs.Tables.{blank}
 use Rattle.fol_sig.specs.Tables.{tuple_count, relation_at, function_at, size_at}
 use Rattle.fol_sig.specs.Symbols.{Symbols, FitsStructure, symbols}
 use Rattle.fol_sig.specs.Tuples.{TuplesAreNumbered}
@@ -25,7 +27,8 @@ use Rattle.report_read.specs.Reading.{HasTables}
 use Rattle.report_read.proofs.Parts.{Lines, IsPart, IsOne, IsBoth, part_as, nothing, one_part, both_part}
 use Rattle.report_read.proofs.TableLines.{truths_line, images_line, relation_line_is, function_line_is, relation_of}
 use Rattle.report_read.proofs.TableLines.{function_of, IsTruths, AreImages, truths_line_is, images_line_is}
-use Rattle.report_read.proofs.Fitting.{no_table, no_function_table, fits_relation_cells, fits_function_cells, fits_blank}
+use Rattle.report_read.proofs.Fitting.{no_table, no_function_table, fits_relation_cells, fits_function_cells}
+use Rattle.report_read.proofs.Fitting.{fits_blank}
 
 map_same : (f g : ℕ → List ℕ) → ((k : ℕ) → f k ≡ g k) → (ks : List ℕ) → map f ks ≡ map g ks
 map_same f g h [] = refl
@@ -96,10 +99,8 @@ module _ (names : Names) where
         fits = λ sig f. f;
       })
   give_relations (suc n) k p s t lines len is =
-      let cells : List Bool = is.0 in
       let here = is.3 in
       let inside : k < length s.relations = omega arith in
-      let s1 = with_relation_cells s k is.0 in
       let g = give_relations n (suc k) (p + length is.1) (with_relation_cells s k is.0) t is.2
       (let l : length (with_relation_cells s k is.0).relations ≡ length s.relations = length-set s.relations k _ in
       omega (arith, l)) is.4 in
@@ -114,7 +115,8 @@ module _ (names : Names) where
         text = is.5 ∙ ap (λ l. l ++ is.2) here.2 ∙ ap (λ l. here.0 ∷ l) g.text
             ∙ ap (λ l. l ∷ relation_lines t (suc k) n)
             (here.1.text
-            ∙ ap (λ z. truths_line (name_at names.relations k) z (relation_of (relation_at s k).sorts is.0)) (sym g.sizes)
+            ∙ ap (λ z. truths_line (name_at names.relations k) z (relation_of (relation_at s k).sorts is.0))
+            (sym g.sizes)
             ∙ ap (truths_line (name_at names.relations k) t.sizes) (sym at));
         fits = λ sig f. g.fits sig
             (fits_relation_cells sig s k is.0 (subst (λ m. k < m) (sym f.relations) inside) here.1.full f);
@@ -248,7 +250,6 @@ module _ (names : Names) where
       (ap (with_relations s) same, refl)
   build_relations (suc n) k p s u h =
       let inside : k < length u.relations = omega (arith, h.place, h.count) in
-      let t : RelationTable = relation_at u k in
       let full = All-get_or (IsFullRelation u.sizes) u.relations k no_table inside h.full in
       let line : List ℕ = truths_line (name_at names.relations k) u.sizes (relation_at u k) in (
         (relation_at u k).cells,
@@ -292,8 +293,10 @@ module _ (names : Names) where
           record {
             full = full.full ∙ ap (λ z. tuple_count z (function_at u k).sorts) h.sizes
                 ∙ ap (tuple_count s.sizes) (sym (h.sorts k));
-            within = subst (λ i. AllByRecursion (λ x. x < slice_index s.sizes i) (function_at u k).cells) (sym (h.into k))
-                (subst (λ z. AllByRecursion (λ x. x < slice_index z (function_at u k).into) (function_at u k).cells) h.sizes
+            within = subst (λ i. AllByRecursion (λ x. x < slice_index s.sizes i) (function_at u k).cells)
+                (sym (h.into k))
+                (subst (λ z. AllByRecursion (λ x. x < slice_index z (function_at u k).into) (function_at u k).cells)
+                h.sizes
                 within);
             text = ap (λ z. images_line (name_at names.functions k) z (function_at u k)) h.sizes
                 ∙ ap (λ ks. images_line (name_at names.functions k) s.sizes
@@ -386,8 +389,8 @@ module _ (x : ScansAreExact) (numbered : TuplesAreNumbered) (m : ModelTree) (ok 
 
   tables_to : (n : ℕ) (u : Tables) (lines : Lines) → TablesFrom n u lines → AreTables m sizes n u lines
   tables_to n u lines is =
-      let t : Tables = is.0 in
-      let g = give_relations m.names (length m.signature.relations) 0 n (blank m.signature sizes) is.0 is.1 relations_all
+      let g = give_relations m.names (length m.signature.relations) 0 n (blank m.signature sizes) is.0 is.1
+      relations_all
       is.3 in
       let h = give_functions m.names (length m.signature.functions) 0 (n + length is.1) is.0 u is.2
       (functions_all is.0 g.functions) is.4 in
@@ -449,14 +452,8 @@ module _ (x : ScansAreExact) (numbered : TuplesAreNumbered) (m : ModelTree) (ok 
 
   tables_back : (n : ℕ) (u : Tables) (lines : Lines) → AreTables m sizes n u lines → TablesFrom n u lines
   tables_back n u lines is =
-      let fits = is.0.fits in
-      let R : ℕ = length m.signature.relations in
-      let F : ℕ = length m.signature.functions in
       let r : length m.signature.relations ≡ length u.relations = is.0.fits.relations in
       let f : length m.signature.functions ≡ length u.functions = is.0.fits.functions in
-      let t : Tables = with_relations m.names (blank m.signature sizes) u.relations in
-      let front : Lines = relation_lines m.names u 0 (length m.signature.relations) in
-      let back : Lines = function_lines m.names u 0 (length m.signature.functions) in
       let made : with_functions m.names (with_relations m.names (blank m.signature sizes) u.relations) u.functions ≡ u =
       ap (λ z. make_tables z u.relations u.functions) (sym is.0.sizes_are) in (
         with_relations m.names (blank m.signature sizes) u.relations,
@@ -499,7 +496,8 @@ module _ (x : ScansAreExact) (numbered : TuplesAreNumbered) (m : ModelTree) (ok 
       (λ t. FunctionsFrom m.names 0 (length m.signature.functions) t)
       (relations_part m.names x numbered (length m.signature.relations) 0 (blank m.signature sizes) small)
       (λ t p front is.
-      let g = give_relations m.names (length m.signature.relations) 0 p (blank m.signature sizes) t front relations_all is
+      let g = give_relations m.names (length m.signature.relations) 0 p (blank m.signature sizes) t front
+      relations_all is
       in functions_part m.names x numbered (length m.signature.functions) 0 t (symbols m.signature)
       (g.fits (symbols m.signature) start_fits) (functions_all t g.functions)
       (subst (λ z. (j : ℕ) → slice_index z j ≤ most) (sym g.sizes) small)))

@@ -1,6 +1,7 @@
 -- The texts of tuples in a line: which tuple stands in front is told by the text, and the tuples of some sorts stand in
 -- the order of their numbers.
-use Rattle.std.proofs.Common.{◌≡◌, ℕ, zero, suc, ◌+◌, ◌<◌, ◌≤◌, Bool, true, false, List, [], ◌∷◌, ◌++◌, length, map, drop}
+use Rattle.std.proofs.Common.{◌≡◌, ℕ, zero, suc, ◌+◌, ◌<◌, ◌≤◌, Bool, true, false, List, [], ◌∷◌, ◌++◌, length, map}
+use Rattle.std.proofs.Common.{drop}
 use Rattle.std.proofs.Common.{Option, Some, None, refl, sym, ap, ◌∙◌, cond, arith, append_assoc, append-nil, get_or}
 use Rattle.std.proofs.Common.{add-one}
 use Rattle.std.specs.Prelude.{codes, decimal, slice_index}

@@ -20,7 +20,8 @@ use Rattle.std.proofs.lemmas.List.Elements.{All-get_or, All-from_recursion}
 use Rattle.std.specs.List.{AllByRecursion}
 use Rattle.rml_report.specs.TableText.{tuple_text}
 use Rattle.line_scan.specs.Scanning.{behind, is_end, name_at}
-use Rattle.report_read.specs.LineReading.{choose, on, tuples_from, tuple_in, truths_end, mapped_at, values_end, element_at}
+use Rattle.report_read.specs.LineReading.{choose, on, tuples_from, tuple_in, truths_end, mapped_at, values_end}
+use Rattle.report_read.specs.LineReading.{element_at}
 use Rattle.report_read.specs.LineReading.{elements_end, values_in, behind_labelled, all_tuples}
 use Rattle.report_read.specs.LineReading.{has_goal_among, size_in}
 use Rattle.report_read.proofs.Fitting.{no_table, no_function_table}
@@ -131,7 +132,8 @@ among_turn a ps i p t is told =
     ∙ ap (λ b. cond b true (has_goal_among a (drop (i + 1) ps))) (sym told)
 
 -- sizes
-pub sizes_turn : (names : Names) (k n size : ℕ) (done new line : List ℕ) (named : List (List ℕ)) (old next : LinesLeft) (o : Option ℕ) → k < n
+pub sizes_turn : (names : Names) (k n size : ℕ) (done new line : List ℕ) (named : List (List ℕ))
+    (old next : LinesLeft) (o : Option ℕ) → k < n
     → named ≡ names.sorts → line ≡ first_of old.lines → o ≡ size_in (name_at named k) line → o ≡ Some size
     → new ≡ done ++ size ∷ [] → next ≡ passed old
     → read_sizes names (k + 1) (n - (k + 1)) new next ≡ read_sizes names k (n - k) done old
@@ -169,7 +171,8 @@ pub relations_turn : (names : Names) (k n : ℕ) (s new : Tables) (cells items :
     → read_relations names (k + 1) (n - (k + 1)) new next ≡ read_relations names k (n - k) s old
 relations_turn names k n s new cells items old next lt read same set_is =
     sym (ap (λ j. read_relations names k j s old) (one_less k n lt)
-    ∙ ap (λ g. and_then g (λ cs more. read_relations names (suc k) (n - (k + 1)) (with_relation_cells s k cs) more)) read
+    ∙ ap (λ g. and_then g (λ cs more. read_relations names (suc k) (n - (k + 1)) (with_relation_cells s k cs) more))
+    read
     ∙ ap (λ j. read_relations names j (n - (k + 1)) (with_relation_cells s k cells) next) (add_one k)
     ∙ ap (λ t. read_relations names (k + 1) (n - (k + 1)) t next)
     (ap (with_relation_cells s k) (sym same) ∙ sym set_is))
@@ -178,14 +181,16 @@ pub relations_stop : (names : Names) (k n : ℕ) (s : Tables) (old l : LinesLeft
     → read_truths names s k old ≡ stuck l → read_relations names k (n - k) s old ≡ stuck l
 relations_stop names k n s old l lt read =
     ap (λ j. read_relations names k j s old) (one_less k n lt)
-    ∙ ap (λ g. and_then g (λ cs more. read_relations names (suc k) (n - (k + 1)) (with_relation_cells s k cs) more)) read
+    ∙ ap (λ g. and_then g (λ cs more. read_relations names (suc k) (n - (k + 1)) (with_relation_cells s k cs) more))
+    read
 
 pub functions_turn : (names : Names) (k n : ℕ) (s new : Tables) (cells items : List ℕ) (old next : LinesLeft) → k < n
     → read_images names s k old ≡ got cells next → items ≡ cells → new ≡ with_function_cells s k items
     → read_functions names (k + 1) (n - (k + 1)) new next ≡ read_functions names k (n - k) s old
 functions_turn names k n s new cells items old next lt read same set_is =
     sym (ap (λ j. read_functions names k j s old) (one_less k n lt)
-    ∙ ap (λ g. and_then g (λ cs more. read_functions names (suc k) (n - (k + 1)) (with_function_cells s k cs) more)) read
+    ∙ ap (λ g. and_then g (λ cs more. read_functions names (suc k) (n - (k + 1)) (with_function_cells s k cs) more))
+    read
     ∙ ap (λ j. read_functions names j (n - (k + 1)) (with_function_cells s k cells) next) (add_one k)
     ∙ ap (λ t. read_functions names (k + 1) (n - (k + 1)) t next)
     (ap (with_function_cells s k) (sym same) ∙ sym set_is))
@@ -194,7 +199,8 @@ pub functions_stop : (names : Names) (k n : ℕ) (s : Tables) (old l : LinesLeft
     → read_images names s k old ≡ stuck l → read_functions names k (n - k) s old ≡ stuck l
 functions_stop names k n s old l lt read =
     ap (λ j. read_functions names k j s old) (one_less k n lt)
-    ∙ ap (λ g. and_then g (λ cs more. read_functions names (suc k) (n - (k + 1)) (with_function_cells s k cs) more)) read
+    ∙ ap (λ g. and_then g (λ cs more. read_functions names (suc k) (n - (k + 1)) (with_function_cells s k cs) more))
+    read
 
 -- sorts of a signature
 pub sorts_in : (n : ℕ) (given ks : List ℕ) → given ≡ ks → AllByRecursion (λ k. k < n) ks → All (λ k. k < n) given

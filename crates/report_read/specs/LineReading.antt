@@ -167,7 +167,8 @@ tuple_in xs bs = choose (behind (tuple_text xs) bs) (λ a. (true, a)) (false, bs
 abbrev pub truths_end : List (List ℕ) → List Bool → List ℕ → Option (List Bool)
 truths_end [] done bs = if is_end bs then Some done else None
 truths_end (xs ∷ tuples) done bs =
-    choose (behind (tuple_text xs) bs) (truths_end tuples (done ++ true ∷ [])) (truths_end tuples (done ++ false ∷ []) bs)
+    choose (behind (tuple_text xs) bs) (truths_end tuples (done ++ true ∷ []))
+    (truths_end tuples (done ++ false ∷ []) bs)
 
 -- the value behind each tuple, behind what was read, and the end
 abbrev pub mapped_at : ℕ → List ℕ → List ℕ → Option (ℕ × List ℕ)

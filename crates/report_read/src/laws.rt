@@ -1,12 +1,17 @@
 // What follows from the definitions alone. Each function is its contract, and does nothing.
 ghost use Rattle.report_read.specs.Laws.{PrintedIsOne, ReadingIsExact};
+ghost use Rattle.report_read.specs.Printing.{ReportsArePrinted};
 
-/// A text is at most one printed report.
+/// A text is at most one printed report. The text of a right report is one, and says what is printed of it.
 pub fn print_laws()
-    ensures { PrintedIsOne }
+    ensures one { PrintedIsOne }
+    ensures rendered { ReportsArePrinted }
 {
     line_scan::scan_laws();
+    line_scan::line_laws();
     fol_sig::tuple_laws();
+    rml_command::update_law();
+    rml_command::path_law();
     rml_command::goal_law();
 }
 

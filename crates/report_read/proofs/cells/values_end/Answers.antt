@@ -4,7 +4,6 @@ use Rattle.report_read.proofs.cells.values_end.Goals as goal
 
 pub loop-number-preserved : goal.loop-number-preserved
 loop-number-preserved c =
-    let t = c.in-Some in
     values_turn _ _ _ _ _ _ _ _ _ _ _ _
     (omega (arith, c.loop-number-test.true, c.in_ok-number-end.ensures.count))
     (c.as_slice.ensures.value ∙ c.tuple_of_number-tuple.ensures.value) c.mapped_at.ensures c.in-Some.is

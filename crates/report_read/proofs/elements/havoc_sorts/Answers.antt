@@ -9,7 +9,6 @@ use Rattle.report_read.proofs.elements.havoc_sorts.Goals as goal
 
 pub returns-clause-known : goal.returns-clause-known
 returns-clause-known c =
-    let sig = symbols c.args.checked.now.signature in
     sorts_in c.args.checked.now.signature.sorts (numbers c.loop-primitive.sorts)
     (havoc_sorts (symbols c.args.checked.now.signature) c.args.path.now)
     (sym (append-nil (numbers c.loop-primitive.sorts))

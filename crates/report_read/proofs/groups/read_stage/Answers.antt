@@ -44,8 +44,6 @@ loop-k-preserved c = record {
 
 pub returns-in_err-groups-2 : goal.returns-in_err-groups-2
 returns-in_err-groups-2 c =
-    let k = c.loop-k.k in
-    let n : ℕ = length c.conjectures.result.now in
     let handed : c.from_residual-in_err-groups-2.result ≡ Err c.in_err-groups-2.field-0.0 = search rules in
     subst (Reads (read_groups c.args.checked.now (stage_groups c.args.checked.now c.args.stage) c.args.before
     c.args.reader.now) c.push_group-in-loop-k.new.reader) (sym handed)

@@ -36,5 +36,6 @@ loop-sort-preserved c =
       );
       positive = subst (All (λ n. 0 < n)) (sym c.in_ok-push.ensures.pushed)
           (All-push (λ n. 0 < n) c.loop-sort.sizes c.in-Some.size c.loop-sort.invariant.positive
-          (size_positive (name_at c.as_slice-names.result.now c.loop-sort.sort) c.first.result.now c.in-Some.size c.size_in.result c.size_in.ensures c.in-Some.is));
+          (size_positive (name_at c.as_slice-names.result.now c.loop-sort.sort) c.first.result.now c.in-Some.size
+          c.size_in.result c.size_in.ensures c.in-Some.is));
     }
