@@ -1,0 +1,4 @@
+mod Plain
+mod Shown
+mod Told
+mod Confirming
