@@ -36,7 +36,7 @@ def literal(pick, model, bound):
         return list(bound)[-1]
 
     sign = pick.choice(["", "~"])
-    if pick.random() < 0.15:
+    if pick.random() < 0.15 and model.sorts:
         sort = pick.choice(model.sorts)
         return f"{sign}({name(sort)} = {name(sort)})"
     relation, sorts = pick.choice(list(model.relations.items()))

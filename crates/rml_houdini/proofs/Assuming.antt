@@ -1,5 +1,5 @@
 -- What a refuting sentence with little assumed says of its goal.
-use Rattle.std.proofs.Common.{◌≡◌, ℕ, Bool, true, false, List, [], ◌∷◌, ◌++◌, map, sym, ap, ◌∙◌, subst}
+use Rattle.std.proofs.Common.{◌≡◌, ℕ, Bool, true, false, List, [], ◌∷◌, ◌++◌, map, refl, sym, ap, ◌∙◌, subst}
 use Rattle.std.specs.Prelude.{slice_index_or}
 use Rattle.std.proofs.lemmas.Bool.{and_parts}
 use Rattle.fol_sig.specs.Tables.{Declared, Tables}
@@ -22,7 +22,7 @@ use Rattle.rml_command.specs.declared.goal.Stage.TheVariants as stage
 use Rattle.rml_wp.specs.declared.premises.Premises.TheVariants.{Affected}
 use Rattle.rml_wp.specs.Preconditions.{conjectures_of, goal_precondition_by, parts_before}
 use Rattle.rml_wp.specs.Laws.{RefutingByIsExact, AffectedRefutingIsSame}
-use Rattle.rml_wp.specs.Added.{AreAdded, RefutingSentencesFit, NoPartsAreAdded}
+use Rattle.rml_wp.specs.Added.{AreAdded, refuting_all_by, RefutingSentencesFit, NoPartsAreAdded}
 use Rattle.ea_decide.specs.GroundForm.{skolem_sentence}
 use Rattle.ea_decide.specs.Decisions.{HasNoModel}
 use Rattle.ea_decide.specs.Passing.{Ceilings}
@@ -66,6 +66,14 @@ part-fits sig true stage.Final axioms held p h = h
 part-fits sig false stage.Init axioms held p h = h.1
 part-fits sig false (stage.Action a) axioms held p h = h.1
 part-fits sig false stage.Final axioms held p h = h.1
+
+-- with the axioms the part is the whole
+part-whole : (b : Bool) (st : Stage) (axioms held : List FormTree) (p : FormTree) → b ≡ true
+    → part b st axioms held p ≡ whole st axioms held p
+part-whole true stage.Init axioms held p is = refl
+part-whole true (stage.Action a) axioms held p is = refl
+part-whole true stage.Final axioms held p is = refl
+part-whole false st axioms held p is = absurd (cc is)
 
 -- the signature that a checked model lends is the model's
 pub signature_of : (given : Declared) (lent m : ModelTree) → given ≡ lent.signature → lent ≡ m → given ≡ m.signature
@@ -124,6 +132,14 @@ module _ (m : ModelTree) (goal : Goal) (a : Assumed) where
         part-fits (symbols m.signature) a.lawful goal.stage m.axioms held (goal_precondition_by Affected m goal)
         (subst (λ (q : FormTree). FitsForm (symbols m.signature) [] q) (none Affected m held goal)
         (fit Affected m held [] goal checked g added).fits)
+
+  -- with the axioms it is a refuting sentence of the goal
+  pub is_refuting : NoPartsAreAdded → a.lawful ≡ true → (p : FormTree) → p ≡ assumed_sentence m a goal
+      → p ≡ refuting_all_by Affected m (conjectures_of m a.held.items) [] goal
+  is_refuting none lawful p is =
+      is
+      ∙ part-whole a.lawful goal.stage m.axioms (conjectures_of m a.held.items) (goal_precondition_by Affected m goal)
+      lawful ∙ sym (none Affected m (conjectures_of m a.held.items) goal)
 
 -- without its constants a model of the sentence is a structure of the signature
 pub met_fits : FittingIsKept → EachIsSkolemised → (sig : Declared) (p : FormTree) (t : Tables)

@@ -1,31 +1,35 @@
 -- What suffices for the goals of a group, path by path, and what is remembered of groups.
 use Rattle.std.proofs.Common.{◌≡◌, ◌==◌, ◌+◌, ◌<◌, ◌≤◌, inl, inr, ℕ, zero, suc, true, false, not, List, [], ◌∷◌, ◌++◌}
-use Rattle.std.proofs.Common.{length, drop, get_or, set, Option, Some, None, refl, sym, subst, arith}
-use Rattle.std.specs.Prelude.{slice_get, All}
+use Rattle.std.proofs.Common.{length, map, drop, get_or, set, Option, Some, None, refl, sym, ap, ◌∙◌, subst, arith}
+use Rattle.std.specs.Prelude.{slice_get, slice_index_or, All}
 use Rattle.std.specs.List.{AllByRecursion, filter}
 use Rattle.std.proofs.lemmas.List.{drop_all, drop_more}
+use Rattle.std.proofs.lemmas.Bool.{and_parts, and_from}
 use Rattle.base.specs.Lists.{SomeOf}
 use Rattle.base.proofs.Lists.{all_more, all_both}
+use Rattle.fol_sig.specs.Tables.{Tables}
+use Rattle.fol_formula.specs.Syntax.{FormTree, top}
 use Rattle.fol_nnf.specs.Laws.{FragmentsAreKept}
 use Rattle.rml_command.specs.Trees.{PrimitiveTree}
 use Rattle.rml_command.specs.Models.{ModelTree}
 use Rattle.rml_command.specs.Fragment.{IsChecked}
+use Rattle.rml_command.specs.Outcomes.{satisfies}
 use Rattle.rml_command.specs.Goals.{Group, goals_among, group_goals, is_for, stage_paths}
 use Rattle.rml_command.specs.declared.goal.Goal.{Goal}
 use Rattle.rml_command.specs.declared.goal.Stage.{Stage}
+use Rattle.rml_command.specs.declared.goal.Stage.TheVariants as stage
+use Rattle.rml_exec.specs.declared.trace.Counterexample.{Counterexample}
 use Rattle.rml_wp.specs.Preconditions.{conjectures_of}
+use Rattle.rml_wp.specs.Laws.{is_allowed_by}
 use Rattle.rml_wp.specs.Added.{ConjecturesAreAdded}
 use Rattle.rml_report.specs.declared.cause.Cause.{Cause}
 use Rattle.ea_decide.specs.Passing.{Ceilings}
 use Rattle.obligation_decide.specs.GoalPassing.{PassesFirstBy}
-use Rattle.obligation_decide.specs.GoalDecisions.{HasNoneBy}
+use Rattle.obligation_decide.specs.GoalDecisions.{HasNoneBy, IsFailingBy}
 use Rattle.rml_houdini.specs.Subsets.{Has, IsWithin}
 use Rattle.rml_houdini.specs.Rounds.{group_at, IsSafe}
 use Rattle.rml_houdini.specs.Progress.{earlier_of}
-use Rattle.rml_houdini.specs.Keeping.{Suffice, Grows, IsKept, IsKeptAt, AreKept, KeptStaysKept, IsTurn}
-use Rattle.rml_houdini.specs.declared.assumed.Assumed.{Assumed}
-use Rattle.rml_houdini.specs.declared.keeping.Turn.{Turn}
-use Rattle.rml_houdini.specs.declared.keeping.Turn.TheVariants as turn
+use Rattle.rml_houdini.specs.Keeping.{Suffice, Grows, AreHeldBefore, IsKept, IsKeptAt, AreKept, KeptStaysKept}
 use Rattle.rml_houdini.specs.declared.known.Kept.{Kept}
 use Rattle.rml_houdini.proofs.Members.{has_push}
 use Rattle.rml_houdini.proofs.Fewer.{fewer_none}
@@ -33,9 +37,6 @@ use Rattle.rml_houdini.proofs.Paths.{passed, listed, no_path}
 use Rattle.rml_houdini.proofs.Sizes.{fewer_pass}
 
 -- what is assumed grows
-pub no_growth : (held ks : List ℕ) → Grows held ks ks
-no_growth held ks = (λ k has. has, λ within. within)
-
 pub grow_on : (held old mid new : List ℕ) → Grows held old mid → Grows held mid new → Grows held old new
 grow_on held old mid new a b = (λ k has. b.0 k (a.0 k has), λ within. b.1 (a.1 within))
 
@@ -86,10 +87,48 @@ pub within_end : (numbers others : List ℕ) (i : ℕ) → length numbers ≤ i
 within_end numbers others i le whole =
     whole (subst (λ (l : List ℕ). IsWithin l others) (sym (drop_all i numbers le)) (λ k has. absurd has))
 
-pub is_turn : (m : ModelTree) (goal : Goal) (a : Assumed) (t : Turn) → (t ≡ turn.Holds → ⊥) → IsTurn m goal a t
-is_turn m goal a turn.Holds other = absurd (other refl)
-is_turn m goal a turn.Again other = tt
-is_turn m goal a turn.Open other = tt
+-- the sentences that a checked model lends
+pub chosen_of : (m lent : ModelTree) (ks : List ℕ) (conjectures : List FormTree) → conjectures ≡ lent.conjectures
+    → lent ≡ m → map (λ k. slice_index_or conjectures k top) ks ≡ conjectures_of m ks
+chosen_of m lent ks conjectures is same =
+    ap (λ (cs : List FormTree). map (λ k. slice_index_or cs k top) ks)
+    (is ∙ ap (λ (z : ModelTree). z.conjectures) same)
+
+-- what is asked of the held conjectures
+pub held_at_init : (m : ModelTree) (st : Stage) (held : List ℕ) (s : Tables) → st ≡ stage.Init
+    → AreHeldBefore m st held s
+held_at_init m st held s is = subst (λ (x : Stage). AreHeldBefore m x held s) (sym is) tt
+
+pub held_behind : (m : ModelTree) (st : Stage) (held : List ℕ) (s : Tables)
+    → satisfies s (conjectures_of m held) ≡ true → AreHeldBefore m st held s
+held_behind m stage.Init held s are = tt
+held_behind m (stage.Action a) held s are = are
+held_behind m stage.Final held s are = are
+
+-- a counterexample in which all held conjectures are true is one where they are held
+allowed-all : (m : ModelTree) (s : Tables) (ks held : List ℕ) (st : Stage)
+    → is_allowed_by m (conjectures_of m ks) st s ≡ true → AreHeldBefore m st held s
+    → is_allowed_by m (conjectures_of m held) st s ≡ true
+allowed-all m s ks held stage.Init h are = h
+allowed-all m s ks held (stage.Action a) h are = and_from _ _ (and_parts _ _ h).0 are
+allowed-all m s ks held stage.Final h are = and_from _ _ (and_parts _ _ h).0 are
+
+pub fails_held : (limits : Ceilings) (m : ModelTree) (ks held : List ℕ) (goal : Goal) (shown : Counterexample)
+    → IsFailingBy limits m (conjectures_of m ks) goal shown → AreHeldBefore m goal.stage held shown.structure
+    → IsFailingBy limits m (conjectures_of m held) goal shown
+fails_held limits m ks held goal shown h are = record {
+  same = h.same;
+  path = h.path;
+  refutes = record {
+    path = h.refutes.path;
+    is_path = h.refutes.is_path;
+    structure = h.refutes.structure;
+    allowed = allowed-all m shown.structure ks held goal.stage h.refutes.allowed are;
+    count = h.refutes.count;
+    fails = h.refutes.fails;
+  };
+  few = h.few;
+}
 
 -- some goal is left open
 open-now : (first : Option (Goal × Cause)) (g : Goal) (c : Cause) → earlier_of first g c ≡ None → ⊥

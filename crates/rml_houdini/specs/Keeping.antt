@@ -1,12 +1,15 @@
 -- What is known of goals by some of the held conjectures. Private contracts alone cite this.
-use Rattle.std.specs.Prelude.{◌==◌, ℕ, not, List, Option, Some, None}
+use Rattle.std.specs.Prelude.{◌≡◌, ◌==◌, ℕ, true, not, List, Option, Some, None}
 use Rattle.std.specs.List.{AllByRecursion, filter}
+use Rattle.fol_sig.specs.Tables.{Tables}
 use Rattle.fol_sig.specs.Symbols.{FitsStructure, symbols}
 use Rattle.rml_command.specs.Models.{ModelTree}
 use Rattle.rml_command.specs.Fragment.{IsChecked}
+use Rattle.rml_command.specs.Outcomes.{satisfies}
 use Rattle.rml_command.specs.Goals.{group_goals}
 use Rattle.rml_command.specs.declared.goal.Goal.{Goal}
 use Rattle.rml_command.specs.declared.goal.Stage.{Stage}
+use Rattle.rml_command.specs.declared.goal.Stage.TheVariants as stage
 use Rattle.rml_wp.specs.Preconditions.{conjectures_of}
 use Rattle.ea_decide.specs.Passing.{Ceilings}
 use Rattle.obligation_decide.specs.GoalPassing.{PassesFirstBy}
@@ -30,16 +33,26 @@ Suffice m ks goals = AllByRecursion (HasNoneBy m (conjectures_of m ks)) goals
 abbrev pub Grows : List ℕ → List ℕ → List ℕ → Type 0
 Grows held old new = IsWithin old new × (IsWithin old held → IsWithin new held)
 
--- what a try with these ends with: the goal holds by them, or this structure satisfies them
-abbrev pub IsTried : ModelTree → Goal → Assumed → Tried → Type 0
-IsTried m goal a tried.Holds = HasNoneBy m (conjectures_of m a.held.items) goal
-IsTried m goal a (tried.Met s) = FitsStructure (symbols m.signature) s
-IsTried m goal a tried.Open = Unit {0}
+-- What a try with this assumed ends with: the goal holds; or this structure satisfies what is assumed; or this is a
+-- counterexample where these conjectures hold.
+abbrev pub IsTried : Ceilings → ModelTree → Goal → Assumed → Tried → Type 0
+IsTried limits m goal a tried.Holds = HasNoneBy m (conjectures_of m a.held.items) goal
+IsTried limits m goal a (tried.Met s) = FitsStructure (symbols m.signature) s
+IsTried limits m goal a (tried.Breaks shown) = IsFailingBy limits m (conjectures_of m a.held.items) goal shown
+IsTried limits m goal a tried.Open = Unit {0}
 
-abbrev pub IsTurn : ModelTree → Goal → Assumed → Turn → Type 0
-IsTurn m goal a turn.Holds = HasNoneBy m (conjectures_of m a.held.items) goal
-IsTurn m goal a turn.Again = Unit {0}
-IsTurn m goal a turn.Open = Unit {0}
+-- what a turn ends with: the goal holds by what is assumed, or fails where these are held
+abbrev pub IsTurn : Ceilings → ModelTree → List ℕ → Goal → Assumed → Turn → Type 0
+IsTurn limits m held goal a turn.Holds = HasNoneBy m (conjectures_of m a.held.items) goal
+IsTurn limits m held goal a (turn.Fails shown) = IsFailingBy limits m (conjectures_of m held) goal shown
+IsTurn limits m held goal a turn.Again = Unit {0}
+IsTurn limits m held goal a turn.Open = Unit {0}
+
+-- before the stage these conjectures are true; before init nothing is asked of them
+abbrev pub AreHeldBefore : ModelTree → Stage → List ℕ → Tables → Type 0
+AreHeldBefore m stage.Init held s = Unit {0}
+AreHeldBefore m (stage.Action a) held s = satisfies s (conjectures_of m held) ≡ true
+AreHeldBefore m stage.Final held s = satisfies s (conjectures_of m held) ≡ true
 
 -- what is answered of a goal where these conjectures are held, and by which it holds
 abbrev pub IsSettledBy : Ceilings → ModelTree → List ℕ → Goal → Assumed → Settled → Type 0

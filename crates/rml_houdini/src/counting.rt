@@ -34,7 +34,9 @@ pub fn first_limit(
 {
     match precondition(alloc, checked, goal) {
         Ok(precondition) => {
-            let limit = limit_of(alloc, checked, goal, &precondition, held, limits)?;
+            let limit = limit_of(alloc, checked, goal, &precondition, held, limits);
+            drop(precondition);
+            let limit = limit?;
             Ok(limit)
         }
         Err(Refused::NoMemory) => Err(AllocError),

@@ -1,17 +1,19 @@
 // What suffices for a goal is found by its counterexamples: where a structure satisfies all that is assumed, something
 // that it breaks is assumed too, until no structure is left (counterexample-guided refinement; Clarke, Grumberg, Jha,
 // Lu and Veith, JACM 2003). So most goals are decided with few conjectures, and none again while these are held.
-ghost use Rattle.std.specs.Prelude.{◌≡◌, ◌<◌, length, true, [], All, IfOk, OnOk, IfSome};
+ghost use Rattle.std.specs.Prelude.{◌≡◌, ◌<◌, length, true, All, IfOk, OnOk, IfSome};
 ghost use Rattle.fol_sig.specs.Symbols.{FitsStructure, symbols};
 ghost use Rattle.rml_command.specs.Goals.{IsGoal};
+ghost use Rattle.rml_command.specs.Outcomes.{satisfies};
 ghost use Rattle.rml_exec.specs.Steps.{CanJudge};
 ghost use Rattle.rml_wp.specs.declared.premises.Premises.TheVariants.{Affected};
 ghost use Rattle.rml_wp.specs.Preconditions.{conjectures_of, goal_precondition_by};
-ghost use Rattle.obligation_decide.specs.GoalDecisions.{HasNoneBy};
+ghost use Rattle.ea_decide.specs.Passing.{ceilings};
+ghost use Rattle.obligation_decide.specs.GoalDecisions.{IsFailingBy};
 ghost use Rattle.rml_houdini.specs.Subsets.{Has, IsWithin};
-ghost use Rattle.rml_houdini.specs.Keeping.{Grows, IsTurn};
+ghost use Rattle.rml_houdini.specs.Keeping.{Grows, IsTurn, AreHeldBefore};
 
-use crate::assumed::Assumed;
+use crate::assumed::{Assumed, sentences_of};
 use crate::trying::{Tried, try_with};
 use base::{Mem, Refused};
 use fol_eval::{Env, holds};
@@ -19,21 +21,25 @@ use fol_formula::{Ae, Formula, Sentence};
 use fol_sig::Structure;
 use lrat_log::Limits;
 use rml_command::{Checked, Goal, Stage};
+use rml_exec::Counterexample;
 use rml_wp::{Premises, precondition_by};
 use std::alloc::{AllocError, Global};
 
 /// What a turn ends with.
-#[derive(Clone, Copy, Debug)]
+#[derive(Drop)]
 pub enum Turn {
     /// The goal has no counterexample where this is assumed.
     Holds,
+    /// It has this one where all of these are held.
+    Fails(Counterexample),
     /// More is assumed.
     Again,
-    /// A limit is passed, or a structure satisfies all that is held.
+    /// A limit is passed.
     Open,
 }
 
-/// Whether a goal holds by some of the held conjectures, which are found beginning with what is assumed.
+/// Whether a goal holds by some of the held conjectures, which are found beginning with what is assumed, or fails where
+/// all are held. Where a limit is passed on the way, nothing is said.
 pub fn keep(
     alloc: Global,
     checked: &Checked,
@@ -41,21 +47,22 @@ pub fn keep(
     held: &[u32],
     assumed: &mut Assumed,
     limits: &Limits,
-) -> Mem<bool>
+) -> Mem<Turn>
     requires goal { IsGoal checked.now goal.now }
     requires held { All (λ k. k < length checked.now.conjectures) held.now }
     requires within { IsWithin assumed.old.held.items held.now }
     ensures grows { OnOk result (Grows held.now assumed.old.held.items assumed.new.held.items) }
-    ensures holds { IfOk result
-        (λ yes. yes ≡ true → HasNoneBy checked.now (conjectures_of checked.now assumed.new.held.items) goal.now) }
+    ensures turn { IfOk result (IsTurn (ceilings limits.now) checked.now held.now goal.now assumed.new) }
 {
     match precondition_by(alloc, checked, Premises::Affected, goal) {
         Ok(precondition) => {
-            let holds = keep_from(alloc, checked, goal, &precondition, held, assumed, limits)?;
-            Ok(holds)
+            let turn = keep_from(alloc, checked, goal, &precondition, held, assumed, limits);
+            drop(precondition);
+            let turn = turn?;
+            Ok(turn)
         }
         Err(Refused::NoMemory) => Err(AllocError),
-        Err(Refused::For(_)) => Ok(false),
+        Err(Refused::For(_)) => Ok(Turn::Open),
     }
 }
 
@@ -68,23 +75,21 @@ fn keep_from(
     held: &[u32],
     assumed: &mut Assumed,
     limits: &Limits,
-) -> Mem<bool>
+) -> Mem<Turn>
     requires goal { IsGoal checked.now goal.now }
     requires precondition { precondition.now ≡ goal_precondition_by Affected checked.now goal.now }
     requires held { All (λ k. k < length checked.now.conjectures) held.now }
     requires within { IsWithin assumed.old.held.items held.now }
     ensures grows { OnOk result (Grows held.now assumed.old.held.items assumed.new.held.items) }
-    ensures holds { IfOk result
-        (λ yes. yes ≡ true → HasNoneBy checked.now (conjectures_of checked.now assumed.new.held.items) goal.now) }
+    ensures turn { IfOk result (IsTurn (ceilings limits.now) checked.now held.now goal.now assumed.new) }
 {
     for _ in 0..held.len() + 2 {
         match take_turn(alloc, checked, goal, precondition, held, assumed, limits)? {
-            Turn::Holds => return Ok(true),
             Turn::Again => {}
-            Turn::Open => return Ok(false),
+            last => return Ok(last),
         }
     }
-    Ok(false)
+    Ok(Turn::Open)
 }
 
 // One try, and what it shows to be needed.
@@ -102,52 +107,107 @@ fn take_turn(
     requires held { All (λ k. k < length checked.now.conjectures) held.now }
     requires within { IsWithin assumed.old.held.items held.now }
     ensures grows { OnOk result (Grows held.now assumed.old.held.items assumed.new.held.items) }
-    ensures turn { IfOk result (IsTurn checked.now goal.now assumed.new) }
+    ensures turn { IfOk result (IsTurn (ceilings limits.now) checked.now held.now goal.now assumed.new) }
 {
     match try_with(alloc, checked, goal, precondition, assumed, limits)? {
         Tried::Holds => Ok(Turn::Holds),
         Tried::Open => Ok(Turn::Open),
         Tried::Met(structure) => {
-            let turn = assume_broken(checked, goal.stage, held, &structure, assumed);
+            let more = assume_broken(checked, goal.stage, held, &structure, assumed);
             drop(structure);
-            let turn = turn?;
+            more?;
+            Ok(Turn::Again)
+        }
+        Tried::Breaks(shown) => {
+            let turn = judge(alloc, checked, goal, held, shown, assumed, limits)?;
             Ok(turn)
         }
     }
 }
 
-// Assumes what a structure breaks: the axioms, or one of the held conjectures, which before init do not hold.
+// Assumes a held conjecture that a structure breaks; or the axioms, where it breaks them or nothing else.
 fn assume_broken(
     checked: &Checked,
     stage: Stage,
     held: &[u32],
     structure: &Structure,
     assumed: &mut Assumed,
-) -> Mem<Turn>
+) -> Mem<()>
     requires structure { FitsStructure (symbols checked.now.signature) structure.now }
     requires held { All (λ k. k < length checked.now.conjectures) held.now }
-    ensures grows { OnOk result (Grows held.now assumed.old.held.items assumed.new.held.items) }
-    ensures turn { IfOk result (λ turn. turn ≡ Turn.Holds → ⊥) }
+    ensures { OnOk result (Grows held.now assumed.old.held.items assumed.new.held.items) }
 {
-    if !assumed.lawful && !are_true(checked.model().axioms(), structure) {
-        assumed.lawful = true;
-        return Ok(Turn::Again);
+    if are_true(checked.model().axioms(), structure) {
+        if let Some(conjecture) = broken_before(checked, stage, held, structure) {
+            assumed.held.push(conjecture)?;
+            return Ok(());
+        }
     }
-    if stage == Stage::Init {
-        return Ok(Turn::Open);
-    }
-    match first_broken(checked, held, structure) {
-        None => Ok(Turn::Open),
+    assumed.lawful = true;
+    Ok(())
+}
+
+// Assumes a held conjecture that a counterexample breaks; where it breaks none, it is one where all are held.
+fn judge(
+    alloc: Global,
+    checked: &Checked,
+    goal: &Goal,
+    held: &[u32],
+    shown: Counterexample,
+    assumed: &mut Assumed,
+    limits: &Limits,
+) -> Mem<Turn>
+    requires held { All (λ k. k < length checked.now.conjectures) held.now }
+    requires fails { IsFailingBy (ceilings limits.now) checked.now
+        (conjectures_of checked.now assumed.old.held.items) goal.now shown }
+    ensures grows { OnOk result (Grows held.now assumed.old.held.items assumed.new.held.items) }
+    ensures turn { IfOk result (IsTurn (ceilings limits.now) checked.now held.now goal.now assumed.new) }
+{
+    match broken_before(checked, goal.stage, held, &shown.structure) {
         Some(conjecture) => {
+            drop(shown);
             assumed.held.push(conjecture)?;
             Ok(Turn::Again)
+        }
+        None => match are_held_before(alloc, checked, goal.stage, held, &shown.structure) {
+            Ok(true) => Ok(Turn::Fails(shown)),
+            Ok(false) => {
+                drop(shown);
+                Ok(Turn::Open)
+            }
+            Err(wanting) => {
+                drop(shown);
+                Err(wanting)
+            }
+        },
+    }
+}
+
+// Whether all held conjectures are true, which before init need not be.
+fn are_held_before(
+    alloc: Global,
+    checked: &Checked,
+    stage: Stage,
+    held: &[u32],
+    structure: &Structure,
+) -> Mem<bool>
+    requires structure { FitsStructure (symbols checked.now.signature) structure.now }
+    requires held { All (λ k. k < length checked.now.conjectures) held.now }
+    ensures { IfOk result (λ yes. yes ≡ true → AreHeldBefore checked.now stage held.now structure.now) }
+{
+    rml_wp::sentence_law();
+    match stage {
+        Stage::Init => Ok(true),
+        _ => {
+            let chosen = sentences_of(alloc, checked.model().conjectures(), held)?;
+            Ok(are_true(&chosen, structure))
         }
     }
 }
 
-// It guides the search, and no more rests on it.
 fn are_true(sentences: &[Sentence], structure: &Structure) -> bool
     requires { CanJudge sentences.now structure.now }
+    ensures { result ≡ satisfies structure.now sentences.now }
 {
     for sentence in sentences {
         if !holds(structure, sentence.formula(), &Env::Empty) {
@@ -155,6 +215,24 @@ fn are_true(sentences: &[Sentence], structure: &Structure) -> bool
         }
     }
     true
+}
+
+// A held conjecture that the structure breaks; before init none is needed. What is found guides the search, and is
+// looked at again.
+fn broken_before(
+    checked: &Checked,
+    stage: Stage,
+    held: &[u32],
+    structure: &Structure,
+) -> Option<u32>
+    requires structure { FitsStructure (symbols checked.now.signature) structure.now }
+    requires held { All (λ k. k < length checked.now.conjectures) held.now }
+    ensures { IfSome result (λ k. Has held.now k) }
+{
+    match stage {
+        Stage::Init => None,
+        _ => first_broken(checked, held, structure),
+    }
 }
 
 // A held conjecture that the structure breaks. One with fewer variables comes first: it has fewer instances.

@@ -1,4 +1,5 @@
-// A goal is decided where some conjectures are held: by few of them, where these suffice, and otherwise by all.
+// A goal is decided where some conjectures are held: by few of them, where no limit is passed, and otherwise by its
+// whole refuting sentence.
 ghost use Rattle.std.specs.Prelude.{◌≡◌, ◌<◌, length, None, All, IfOk, OnOk};
 ghost use Rattle.rml_command.specs.Goals.{IsGoal};
 ghost use Rattle.rml_wp.specs.Preconditions.{conjectures_of};
@@ -9,7 +10,7 @@ ghost use Rattle.rml_houdini.specs.Keeping.{Grows, IsSettledBy};
 
 use crate::assumed::Assumed;
 use crate::counting::first_limit;
-use crate::keeping::keep;
+use crate::keeping::{Turn, keep};
 use base::Mem;
 use lrat_log::Limits;
 use obligation_decide::{Decision, decide_with};
@@ -27,7 +28,7 @@ pub enum Settled {
 }
 
 /// Decides a goal where these conjectures are held, beginning with what is assumed; where it holds, what is assumed
-/// then suffices. The limits are those of its whole refuting sentence; the counterexample is one by that sentence.
+/// then suffices. Which limit it passes is told by its whole refuting sentence.
 pub fn settle(
     alloc: Global,
     checked: &Checked,
@@ -70,14 +71,17 @@ fn settle_within(
     ensures settled { IfOk result
         (IsSettledBy (ceilings limits.now) checked.now held.now goal.now assumed.new) }
 {
-    if keep(alloc, checked, goal, held, assumed, limits)? {
-        return Ok(Settled::Holds);
+    match keep(alloc, checked, goal, held, assumed, limits)? {
+        Turn::Holds => Ok(Settled::Holds),
+        Turn::Fails(shown) => Ok(Settled::Fails(shown)),
+        Turn::Again | Turn::Open => {
+            let settled = settle_wholly(alloc, checked, goal, held, assumed, limits)?;
+            Ok(settled)
+        }
     }
-    let settled = settle_wholly(alloc, checked, goal, held, assumed, limits)?;
-    Ok(settled)
 }
 
-// By all that is held.
+// By its whole refuting sentence.
 fn settle_wholly(
     alloc: Global,
     checked: &Checked,
@@ -94,7 +98,8 @@ fn settle_wholly(
         (IsSettledBy (ceilings limits.now) checked.now held.now goal.now assumed.new) }
 {
     match decide_with(alloc, checked, goal, held, limits)? {
-        Decision::Holds(_) => {
+        Decision::Holds(proof) => {
+            drop(proof);
             assume_all(assumed, held)?;
             Ok(Settled::Holds)
         }

@@ -3,15 +3,21 @@ ghost use Rattle.std.specs.Prelude.{◌≡◌, ◌<◌, length, All, IfOk};
 ghost use Rattle.rml_command.specs.Goals.{IsGoal};
 ghost use Rattle.rml_wp.specs.declared.premises.Premises.TheVariants.{Affected};
 ghost use Rattle.rml_wp.specs.Preconditions.{goal_precondition_by};
+ghost use Rattle.ea_decide.specs.Passing.{ceilings};
+ghost use Rattle.pruned_decide.specs.Decisions.{IsDecidedSmall};
+ghost use Rattle.rml_houdini.specs.Assuming.{assumed_sentence};
 ghost use Rattle.rml_houdini.specs.Keeping.{IsTried};
 
 use crate::assumed::{Assumed, assumed_sentence};
 use base::{Mem, Refused};
 use ea_decide::Decided;
-use fol_formula::Ae;
+use fol_formula::{Ae, Ea};
 use fol_sig::Structure;
 use lrat_log::Limits;
+use obligation_decide::read_counterexample;
 use rml_command::{Checked, Goal};
+use rml_exec::Counterexample;
+use rml_wp::Premises;
 use std::alloc::{AllocError, Global};
 
 /// What a try ends with.
@@ -19,8 +25,10 @@ use std::alloc::{AllocError, Global};
 pub enum Tried {
     /// The goal has no counterexample where this is assumed.
     Holds,
-    /// This structure satisfies what is assumed.
+    /// This structure satisfies what is assumed, but for the axioms, which are not.
     Met(Structure),
+    /// The goal has this counterexample where this is assumed.
+    Breaks(Counterexample),
     /// A limit is passed.
     Open,
 }
@@ -38,23 +46,71 @@ pub fn try_with(
     requires goal { IsGoal checked.now goal.now }
     requires precondition { precondition.now ≡ goal_precondition_by Affected checked.now goal.now }
     requires held { All (λ k. k < length checked.now.conjectures) assumed.now.held.items }
-    ensures { IfOk result (IsTried checked.now goal.now assumed.now) }
+    ensures { IfOk result (IsTried (ceilings limits.now) checked.now goal.now assumed.now) }
+{
+    let sentence = assumed_sentence(alloc, checked, goal, precondition, assumed)?;
+    let tried = try_sentence(alloc, checked, goal, assumed, &sentence, limits);
+    drop(sentence);
+    let tried = tried?;
+    Ok(tried)
+}
+
+// By that sentence.
+fn try_sentence(
+    alloc: Global,
+    checked: &Checked,
+    goal: &Goal,
+    assumed: &Assumed,
+    sentence: &Ea,
+    limits: &Limits,
+) -> Mem<Tried>
+    requires goal { IsGoal checked.now goal.now }
+    requires sentence { sentence.now ≡ assumed_sentence checked.now assumed.now goal.now }
+    ensures { IfOk result (IsTried (ceilings limits.now) checked.now goal.now assumed.now) }
 {
     rml_wp::refuting_law();
     rml_wp::premises_law();
     rml_wp::sentence_law();
-    skolem::exactness();
-    fol_nnf::exactness();
-    let sentence = assumed_sentence(alloc, checked, goal, precondition, assumed)?;
     let signature = checked.model().signature();
-    match pruned_decide::decide(alloc, signature, checked.strata(), &sentence, limits) {
-        Ok(Decided::Refuted(_)) => Ok(Tried::Holds),
+    match pruned_decide::decide(alloc, signature, checked.strata(), sentence, limits) {
+        Ok(Decided::Refuted(proof)) => {
+            drop(proof);
+            Ok(Tried::Holds)
+        }
         Ok(Decided::Satisfied(model)) => {
-            let mut structure = model;
-            structure.restrict(signature);
-            Ok(Tried::Met(structure))
+            let tried = shown_by(alloc, checked, goal, assumed, sentence, model, limits)?;
+            Ok(tried)
         }
         Err(Refused::NoMemory) => Err(AllocError),
         Ok(Decided::Over(_)) | Err(Refused::For(_)) => Ok(Tried::Open),
     }
+}
+
+// What a model of that sentence, with constants in the place of the existentials, shows.
+fn shown_by(
+    alloc: Global,
+    checked: &Checked,
+    goal: &Goal,
+    assumed: &Assumed,
+    sentence: &Ea,
+    model: Structure,
+    limits: &Limits,
+) -> Mem<Tried>
+    requires goal { IsGoal checked.now goal.now }
+    requires sentence { sentence.now ≡ assumed_sentence checked.now assumed.now goal.now }
+    requires model { IsDecidedSmall (ceilings limits.now) checked.now.signature sentence.now (Decided.Satisfied model) }
+    ensures { IfOk result (IsTried (ceilings limits.now) checked.now goal.now assumed.now) }
+{
+    rml_wp::sentence_law();
+    skolem::exactness();
+    fol_nnf::exactness();
+    ea_decide::elements_law();
+    let signature = checked.model().signature();
+    if assumed.lawful {
+        let shown = read_counterexample(alloc, checked, Premises::Affected, goal, sentence, model)?;
+        return Ok(Tried::Breaks(shown));
+    }
+    let mut structure = model;
+    structure.restrict(signature);
+    Ok(Tried::Met(structure))
 }

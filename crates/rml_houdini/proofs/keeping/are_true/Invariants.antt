@@ -1,6 +1,10 @@
-use Rattle.std.proofs.Common.{drop}
+use Rattle.std.proofs.Common.{◌≡◌, drop}
+use Rattle.rml_command.specs.Outcomes.{satisfies}
 use Rattle.rml_exec.specs.Steps.{CanJudge}
 use Rattle.rml_houdini.proofs.keeping.are_true.Given as goal
 
 abbrev pub invariant-loop-sentence : goal.invariant-loop-sentence
-invariant-loop-sentence l = CanJudge (drop l.sentence-index l.sentences) l.structure
+invariant-loop-sentence l = record {
+  ready : CanJudge (drop l.sentence-index l.sentences) l.structure;
+  same : satisfies l.structure (drop l.sentence-index l.sentences) ≡ satisfies l.structure l.sentences;
+}
