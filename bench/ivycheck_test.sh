@@ -281,6 +281,7 @@ expect 'help is an unknown command' is_usage --help
 expect 'no file' is_usage check
 expect 'two files' is_usage check model model
 expect 'one file for lrat' is_usage lrat model
+expect 'one file for replay' is_usage replay model
 expect 'emit without its last word' is_usage emit model 1
 expect 'emit with a word too many' is_usage emit model 1 cnf lrat
 expect 'a sample without its number' is_usage sample
@@ -318,6 +319,8 @@ run --first-look check -- -y
 expect 'behind -- a word is a file' wrote "<check> <--> <$room/work/-y>"
 run --first-look check -
 expect 'a lone - is a file' wrote "<check> <$room/work/->"
+run --first-look replay model report
+expect 'of replay too' wrote "<replay> <$room/work/model> <$room/work/report>"
 run --first-look lrat /dev/null ''
 expect 'a path from the root stays, and so does an empty word' wrote '<lrat> </dev/null> <>'
 run --first-look sample 400
