@@ -1,6 +1,6 @@
 #!/usr/bin/env python3
-"""Holds `check`, `houdini` and `bmc` to brute force: random small models, and every structure of up to three elements a
-sort.
+"""Holds `check`, `houdini`, `bmc` and `replay` to brute force: random small models, and every structure of up to three
+elements a sort.
 
     bench/models.py [COUNT [SEED]]      IVYCHECK is the program (the one that ./ivycheck runs); 1000 models from seed 1
 
@@ -21,6 +21,9 @@ ones.
 Of what `bmc` says of the runs with at most two actions it asks that no run through structures it made (of sizes that
 have at most 1,000) aborts or breaks a conjecture at a length that is called safe, and that each shown run, followed
 part by part, is one of the model and does what it is said to do.
+
+Each report of `check` must be confirmed by `replay`, with as many executions as groups fail; `bench/replays.py` asks the
+same of reports that were changed.
 
 The last line says how many groups held, failed and were left open, how many of the failing ones had their sizes among
 those that were made, how many conjectures were dropped, how many lengths were safe and broken, and how many models
@@ -507,11 +510,14 @@ def found_differences(model, told, tallies):
                 yield f"kept are {kept}, and path {number} of {stage} breaks {name}"
 
 
-def answer(command, text, *options):
-    with tempfile.NamedTemporaryFile("w", suffix=".rml") as it:
+def answer(command, text, *options, report=None):
+    with tempfile.NamedTemporaryFile("w", suffix=".rml") as it, tempfile.NamedTemporaryFile("w") as other:
         it.write(text)
         it.flush()
-        ran = subprocess.run([program(), command, it.name, *options], capture_output=True, text=True)
+        other.write(report or "")
+        other.flush()
+        files = [it.name] if report is None else [it.name, other.name]
+        ran = subprocess.run([program(), command, *files, *options], capture_output=True, text=True)
     if ran.returncode not in (0, 1, 3):
         raise ValueError(f"status {ran.returncode}: {(ran.stdout + ran.stderr).strip()}")
     return ran.stdout
@@ -522,7 +528,11 @@ def judged(seed):
     text, tallies = Maker(seed).text(), Counter()
     try:
         model = rml.read(text)
-        told = list(differences(model, answer("check", text), tallies))
+        report = answer("check", text)
+        told = list(differences(model, report, tallies))
+        replayed = answer("replay", text, report=report)
+        if replayed != f"executions {report.count(': fails')}\nverdict: confirmed\n":
+            told.append(f"replay: {replayed}")
         told += found_differences(model, answer("houdini", text), tallies)
         told += bounded_differences(model, answer("bmc", text, "--steps", str(STEPS)), tallies)
     except (KeyError, IndexError, ValueError, StopIteration, AttributeError) as fault:
