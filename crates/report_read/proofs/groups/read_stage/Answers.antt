@@ -1,4 +1,4 @@
-use Rattle.std.proofs.Common.{◌≡◌, ℕ, ◌-◌, ◌+◌, List, [], ◌∷◌, length, map, rules, sym, ap, ◌∙◌, arith, subst}
+use Rattle.std.proofs.Common.{◌≡◌, ℕ, ◌-◌, ◌+◌, List, [], ◌∷◌, length, map, rules, refl, sym, ap, ◌∙◌, arith, subst}
 use Rattle.std.specs.Prelude.{Err}
 use Rattle.base.specs.Lists.{count_from}
 use Rattle.fol_formula.specs.Syntax.{FormTree}
@@ -54,3 +54,13 @@ returns-in_err-groups-2 c =
     (ap (λ gs. read_groups c.args.checked.now gs c.loop-k.groups c.loop-k.reader)
     (sym (map_step (form c.args.stage) c.loop-k.k (length c.conjectures.result.now) c.loop-k-test.true))
     ∙ c.loop-k.invariant.reads) c.in_err-groups-2.ensures)
+
+pub returns-in_err-groups : goal.returns-in_err-groups
+returns-in_err-groups c =
+    let handed : c.from_residual.result ≡ Err c.in_err-groups.field-0.0 = search rules in
+    subst (Reads (read_groups c.args.checked.now (stage_groups c.args.checked.now c.args.stage) c.args.before
+    c.args.reader.now) c.push_group.new.reader) (sym handed)
+    (groups_err c.args.checked.now (abort c.args.stage ∷ [])
+    (map (form c.args.stage) (count_from 0 (length c.args.checked.now.conjectures)))
+    (stage_groups c.args.checked.now c.args.stage) c.args.before c.args.before c.args.reader.now c.args.reader.now
+    c.push_group.new.reader c.in_err-groups.field-0.0 refl c.in_err-groups.ensures)
