@@ -1,6 +1,6 @@
 -- The sizes and the numbers in what `check` prints are not larger than a printed report may have them.
-use Rattle.std.proofs.Common.{◌≡◌, ℕ, ◌+◌, ◌-◌, ◌<◌, ◌≤◌, ◌^◌, List, [], ◌∷◌, length, map, get_or, sum, All, Option, Some, None}
-use Rattle.std.proofs.Common.{false, refl, sym, ap, ◌∙◌, subst, arith}
+use Rattle.std.proofs.Common.{◌≡◌, ℕ, ◌+◌, ◌-◌, ◌<◌, ◌≤◌, ◌^◌, List, [], ◌∷◌, length, map, get_or, sum, All}
+use Rattle.std.proofs.Common.{Option, Some, None, false, refl, sym, ap, ◌∙◌, subst, arith}
 use Rattle.std.proofs.lemmas.List.{get_or_append_left, get_or-append-add, get_or-map}
 use Rattle.std.proofs.lemmas.List.Sums.{get_or-le-sum_by}
 use Rattle.base.proofs.Lists.{all_both}
@@ -67,8 +67,9 @@ module _ (limits : Ceilings) (terms : limits.terms ≤ 100000) (few : limits.con
   is_bound s fits small tuples (at.Sort k) size has below =
       let sorts = fits.sorts in
       let names = named.sorts in
-      let there = get_or_append_left s.sizes (map (true_tuples s.sizes) s.relations) 0 k.0 (omega (arith, has, sorts)) in
-      let one = get_or-le-sum_by (λ n. n) s.sizes k.0 0 (omega (arith, has, sorts)) in
+      let lt : k.0 < length s.sizes = omega (arith, has, sorts) in
+      let there = get_or_append_left s.sizes (map (true_tuples s.sizes) s.relations) 0 k.0 lt in
+      let one = get_or-le-sum_by (λ n. n) s.sizes k.0 0 lt in
       (omega (arith, has, names), omega (arith, below, there, one, small, terms))
   is_bound s fits small tuples (at.Rel r) size has below =
       let sorts = fits.sorts in

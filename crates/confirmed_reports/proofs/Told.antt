@@ -1,5 +1,6 @@
 -- The verdict of a report, and how many groups fail, are those of what is printed of it.
-use Rattle.std.proofs.Common.{◌≡◌, ℕ, ◌+◌, Bool, true, false, not, cond, List, [], ◌∷◌, length, refl, sym, ap, ◌∙◌, arith}
+use Rattle.std.proofs.Common.{◌≡◌, ℕ, ◌+◌, Bool, true, false, not, cond, List, [], ◌∷◌, length, refl, sym, ap}
+use Rattle.std.proofs.Common.{◌∙◌, arith}
 use Rattle.std.specs.Prelude.{◌&&◌, ◌||◌}
 use Rattle.std.specs.List.{AllByRecursion, list_all, list_any}
 use Rattle.std.proofs.lemmas.Bool.{ne_eqb}
@@ -37,7 +38,8 @@ module _ (m : ModelTree) where
       → do_all_hold (printed_groups m n gs) ≡ list_all (λ g. reports.says_holds g.answer) gs
   hold_as n [] = refl
   hold_as n (g ∷ gs) =
-      ap (λ t. cond t (do_all_hold (printed_groups m (n + length (group_lines m g)) gs)) false) (says_as g.about g.answer)
+      ap (λ t. cond t (do_all_hold (printed_groups m (n + length (group_lines m g)) gs)) false)
+      (says_as g.about g.answer)
       ∙ ap (λ t. cond (reports.says_holds g.answer) t false) (hold_as (n + length (group_lines m g)) gs)
       ∙ both (reports.says_holds g.answer) (list_all (λ g. reports.says_holds g.answer) gs)
 
