@@ -1,6 +1,5 @@
 -- The text of a right report is confirmed.
-use Rattle.std.proofs.Common.{◌≡◌, ℕ, ◌≤◌, ◌<◌, ◌^◌, List, length, sym, ap, ◌∙◌, subst, arith}
-use Rattle.std.specs.List.{AllByRecursion}
+use Rattle.std.proofs.Common.{◌≡◌, ℕ, ◌<◌, ◌^◌, List, length, sym, ap, ◌∙◌, subst, arith}
 use Rattle.rml_command.specs.Models.{ModelTree}
 use Rattle.rml_command.specs.Fragment.{IsChecked}
 use Rattle.rml_report.specs.ReportText.{report_text}
@@ -9,15 +8,13 @@ use Rattle.rml_report.specs.declared.report.Report.{Report}
 use Rattle.line_scan.specs.Lines.{lines_of}
 use Rattle.line_scan.specs.Laws.{LinesAreCut}
 use Rattle.printed_report.specs.PrintedReports.{IsPrintedReport, IsRead}
-use Rattle.printed_report.specs.declared.printed.Printed.{Printed}
-use Rattle.report_read.specs.Printing.{printed, CanBeRead, ReportsArePrinted}
+use Rattle.report_read.specs.Printing.{printed, ReportsArePrinted}
 use Rattle.report_replay.specs.Judgements.{judgement}
 use Rattle.report_replay.specs.Laws.{IsConfirmed, RightIsConfirmed}
-use Rattle.report_replay.specs.declared.judged.Judged.{Judged}
 use Rattle.report_replay.specs.declared.judged.Judged.TheVariants.{Confirmed}
-use Rattle.command_parts.specs.ModelTexts.{IsTheModel, IsTheFault}
+use Rattle.command_parts.specs.ModelTexts.{IsTheModel}
 use Rattle.model_names.specs.ModelNames.{NamesAreWords}
-use Rattle.replay_command.specs.Replay.{IsFound, IsReplay, IsReplayAnswer}
+use Rattle.replay_command.specs.Replay.{IsFound}
 use Rattle.replay_command.specs.declared.replay.ReplayAnswer.{ReplayAnswer}
 use Rattle.replay_command.specs.declared.replay.ReplayAnswer.TheVariants.{Fault, Unread, Replayed}
 use Rattle.confirmed_reports.specs.Confirmed.{failing_groups, HasNumbers, ReportsAreConfirmed}

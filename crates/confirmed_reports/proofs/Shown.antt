@@ -1,7 +1,7 @@
 -- What a right report shows of a group is what is printed of it.
-use Rattle.std.proofs.Common.{◌≡◌, ℕ, List, Option, Some, refl, sym, ap, ◌∙◌, subst}
+use Rattle.std.proofs.Common.{◌≡◌, ℕ, List, Option, refl, sym, ap, ◌∙◌, subst}
 use Rattle.fol_sig.specs.Tables.{Tables}
-use Rattle.rml_command.specs.Outcomes.{Outcome, ended, follow_path}
+use Rattle.rml_command.specs.Outcomes.{Outcome, follow_path}
 use Rattle.rml_command.specs.Models.{ModelTree}
 use Rattle.rml_command.specs.Goals.{FailsGoal, IsCounterexample}
 use Rattle.rml_command.specs.declared.goal.About.{About}
@@ -9,7 +9,7 @@ use Rattle.rml_command.specs.declared.goal.About.TheVariants as about
 use Rattle.rml_command.specs.declared.goal.Goal.{Goal}
 use Rattle.rml_exec.specs.declared.trace.Counterexample.{Counterexample}
 use Rattle.rml_report.specs.ReportText.{followed, outcome_of}
-use Rattle.rml_report.specs.Reports.{head_of, IsShown, IsAnswer, IsRight}
+use Rattle.rml_report.specs.Reports.{head_of, IsAnswer, IsRight}
 use Rattle.rml_report.specs.declared.report.Answer.{Answer}
 use Rattle.rml_report.specs.declared.report.Answer.TheVariants as reported
 use Rattle.rml_report.specs.declared.report.Group.{Group}

@@ -1,6 +1,7 @@
 -- The verdict of a report, and how many groups fail, are those of what is printed of it.
-use Rattle.std.proofs.Common.{◌≡◌, ℕ, ◌+◌, Bool, true, false, not, cond, List, [], ◌∷◌, length, refl, sym, ap, ◌∙◌, arith}
-use Rattle.std.specs.Prelude.{◌&&◌, ◌||◌, ◌==◌}
+use Rattle.std.proofs.Common.{◌≡◌, ℕ, ◌+◌, Bool, true, false, not, cond, List, [], ◌∷◌, length, refl, sym, ap}
+use Rattle.std.proofs.Common.{◌∙◌, arith}
+use Rattle.std.specs.Prelude.{◌&&◌, ◌||◌}
 use Rattle.std.specs.List.{AllByRecursion, list_all, list_any}
 use Rattle.std.proofs.lemmas.Bool.{ne_eqb}
 use Rattle.rml_command.specs.Models.{ModelTree}
@@ -10,9 +11,7 @@ use Rattle.rml_report.specs.Reports.{IsRight}
 use Rattle.rml_report.specs.declared.report.Answer.{Answer}
 use Rattle.rml_report.specs.declared.report.Answer.TheVariants as reported
 use Rattle.rml_report.specs.declared.report.Group.{Group}
-use Rattle.rml_report.specs.declared.report.Verdict.{Verdict}
 use Rattle.rml_report.specs.declared.report.Verdict.TheVariants as verdict
-use Rattle.printed_report.specs.declared.printed.PrintedGroup.{PrintedGroup}
 use Rattle.report_read.specs.Printing.{printed_answer, printed_groups, group_lines}
 use Rattle.report_replay.specs.Judgements as replay
 use Rattle.report_replay.specs.Judgements.{executions, do_all_hold, is_zero}
@@ -39,7 +38,8 @@ module _ (m : ModelTree) where
       → do_all_hold (printed_groups m n gs) ≡ list_all (λ g. reports.says_holds g.answer) gs
   hold_as n [] = refl
   hold_as n (g ∷ gs) =
-      ap (λ t. cond t (do_all_hold (printed_groups m (n + length (group_lines m g)) gs)) false) (says_as g.about g.answer)
+      ap (λ t. cond t (do_all_hold (printed_groups m (n + length (group_lines m g)) gs)) false)
+      (says_as g.about g.answer)
       ∙ ap (λ t. cond (reports.says_holds g.answer) t false) (hold_as (n + length (group_lines m g)) gs)
       ∙ both (reports.says_holds g.answer) (list_all (λ g. reports.says_holds g.answer) gs)
 

@@ -12,7 +12,12 @@ use Rattle.rml_report.specs.declared.report.Report.{Report}
 use Rattle.printed_report.specs.Lines.{IsAxioms}
 use Rattle.report_read.specs.Printing.{CanPrint}
 use Rattle.report_replay.specs.declared.judged.Judged.TheVariants.{Confirmed}
+use Rattle.command_line.specs.Asking.{IsInRange}
+use Rattle.command_line.specs.declared.request.Asked.{Asked}
+use Rattle.command_parts.specs.Limits.{ceilings_of}
 use Rattle.command_parts.specs.ModelTexts.{IsTheModel}
+use Rattle.model_commands.specs.Check.{IsCheckAnswer}
+use Rattle.model_commands.specs.declared.check.CheckAnswer.TheVariants.{Checked}
 use Rattle.replay_command.specs.Replay.{IsReplayAnswer}
 use Rattle.replay_command.specs.declared.replay.ReplayAnswer.{ReplayAnswer}
 use Rattle.replay_command.specs.declared.replay.ReplayAnswer.TheVariants.{Replayed}
@@ -38,3 +43,10 @@ abbrev pub ReportsAreConfirmed : Type 0
 ReportsAreConfirmed = (text : List ℕ) (m : ModelTree) (r : Report) (a : ReplayAnswer) → IsTheModel text m → IsChecked m
     → Reports m r → HasNumbers m r → length (report_text m r) < 2 ^ 63 → IsReplayAnswer text (report_text m r) a
     → a ≡ Replayed (Confirmed (failing_groups r.groups))
+
+-- So it is of the text of each report that `check` answers under limits that may be asked for: its sizes are no larger
+-- than these allow, and its numbers have 64 bits.
+abbrev pub CheckedIsConfirmed : Type 0
+CheckedIsConfirmed = (asked : Asked) (text : List ℕ) (m : ModelTree) (r : Report) (a : ReplayAnswer) → IsInRange asked
+    → IsCheckAnswer (ceilings_of asked) text (Checked m r) → IsChecked m → length (report_text m r) < 2 ^ 63
+    → IsReplayAnswer text (report_text m r) a → a ≡ Replayed (Confirmed (failing_groups r.groups))

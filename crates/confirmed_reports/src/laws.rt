@@ -1,5 +1,5 @@
-// What follows from the definitions alone. The function is its contract, and does nothing.
-ghost use Rattle.confirmed_reports.specs.Confirmed.{ReportsAreConfirmed};
+// What follows from the definitions alone. Each function is its contract, and does nothing.
+ghost use Rattle.confirmed_reports.specs.Confirmed.{ReportsAreConfirmed, CheckedIsConfirmed};
 
 /// Of the text that a right report of a text's model has, whatever `replay` answers is that it is confirmed, with as
 /// many executions as groups fail.
@@ -10,4 +10,12 @@ pub fn confirmed_law()
     report_read::print_laws();
     report_replay::judgement_law();
     line_scan::line_laws();
+}
+
+/// Of the text of a report that `check` answers, under limits that may be asked for, whatever `replay` answers is that
+/// it is confirmed, with as many executions as groups fail.
+pub fn checked_law()
+    ensures { CheckedIsConfirmed }
+{
+    confirmed_law();
 }

@@ -4,4 +4,4 @@
 
 mod laws;
 
-pub use laws::confirmed_law;
+pub use laws::{checked_law, confirmed_law};
