@@ -4,7 +4,7 @@
     bench/long_report.py [MEGABYTES]    256 megabytes, the most that is read; IVYCHECK is the program
 
 Prints the report's bytes, the seconds, and the memory as a multiple of the bytes. The status is 1 where the report is
-not confirmed, where a minute is not enough, or where more than three times its bytes of memory are taken.
+not confirmed, where a minute is not enough, or where more than twice its bytes of memory are taken.
 """
 import os
 import resource
@@ -60,7 +60,7 @@ def main():
     memory = resource.getrusage(resource.RUSAGE_CHILDREN).ru_maxrss * 1024
     told = (ran.stdout + ran.stderr).strip().replace("\n", ", ")
     print(f"{count} bytes, {size} elements: {told}; {seconds:.2f} s, memory {memory / count:.2f} times the bytes")
-    return 0 if ran.returncode == 0 and seconds < 60 and memory < 3 * count + 2 ** 24 else 1
+    return 0 if ran.returncode == 0 and seconds < 60 and memory < 2 * count + 2 ** 24 else 1
 
 
 if __name__ == "__main__":
