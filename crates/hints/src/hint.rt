@@ -1,0 +1,142 @@
+// The hints, and the tables in which they are looked up.
+ghost use Rattle.std.specs.Prelude.{◌≡◌};
+ghost use Rattle.hints.specs.Hints.{words_of};
+
+/// What is written in the place of what newcomers write.
+#[derive(Clone, Copy, Debug, PartialEq, Eq)]
+pub enum Hint {
+    /// Unequal is written `~=`.
+    NotEqual,
+    /// `not` is written `~`.
+    Not,
+    /// `and` is written `&`.
+    And,
+    /// `or` is written `|`.
+    Or,
+    /// Implication is written `->`.
+    Implies,
+    /// Equivalence is written `<->`.
+    Equivalent,
+    /// Equality is written `=`.
+    Equal,
+    /// There is no order but a relation that is declared.
+    Order,
+    /// A comment begins with `#`.
+    Comment,
+    /// `else` takes a block: `else { if .. { .. } }`.
+    ElseIf,
+    /// Between two commands stands a `;`.
+    Semicolon,
+    /// A name has its sort: `forall X:s, Y:s. ..`.
+    Sorts,
+    /// A quantifier among other formulas stands in parentheses: `(forall X:s. ..)`.
+    Parentheses,
+    /// An invariant is declared as `conjecture NAME : ..`.
+    Conjecture,
+    /// A type is declared as `sort NAME`.
+    Sort,
+    /// An individual is declared as `variable NAME : s`.
+    Variable,
+    /// What is required is written `assume ..`.
+    Assume,
+    /// What is ensured is written `assert ..`.
+    Assert,
+    /// An update is written `x := ..`.
+    Becomes,
+    /// To set x to any element is written `x := *`.
+    Havoc,
+    /// An action has no parameters: declare `variable x : s`, and begin with `x := *`.
+    Parameters,
+    /// There is one format: `rml 1`.
+    Format,
+}
+
+impl Hint {
+    /// The words of the hint.
+    pub fn text(self) -> &'static str
+        ensures { result.now ≡ words_of self }
+    {
+        match self {
+            Hint::NotEqual => "unequal is written `~=`",
+            Hint::Not => "`not` is written `~`",
+            Hint::And => "`and` is written `&`",
+            Hint::Or => "`or` is written `|`",
+            Hint::Implies => "implication is written `->`",
+            Hint::Equivalent => "equivalence is written `<->`",
+            Hint::Equal => "equality is written `=`",
+            Hint::Order => "there is no order but a relation that is declared",
+            Hint::Comment => "a comment begins with `#`",
+            Hint::ElseIf => "`else` takes a block: `else { if .. { .. } }`",
+            Hint::Semicolon => "between two commands stands a `;`",
+            Hint::Sorts => "a name has its sort: `forall X:s, Y:s. ..`",
+            Hint::Parentheses =>
+                "a quantifier among other formulas stands in parentheses: `(forall X:s. ..)`",
+            Hint::Conjecture => "an invariant is declared as `conjecture NAME : ..`",
+            Hint::Sort => "a type is declared as `sort NAME`",
+            Hint::Variable => "an individual is declared as `variable NAME : s`",
+            Hint::Assume => "what is required is written `assume ..`",
+            Hint::Assert => "what is ensured is written `assert ..`",
+            Hint::Becomes => "an update is written `x := ..`",
+            Hint::Havoc => "to set x to any element is written `x := *`",
+            Hint::Parameters =>
+                "an action has no parameters: declare `variable x : s`, and begin with `x := *`",
+            Hint::Format => "there is one format: `rml 1`",
+        }
+    }
+}
+
+// What stands at a bad byte.
+pub const BYTE_ROWS: [(&str, Hint); 8] = [
+    ("!=", Hint::NotEqual),
+    ("!", Hint::Not),
+    ("/\\", Hint::And),
+    ("\\/", Hint::Or),
+    ("//", Hint::Comment),
+    ("<=>", Hint::Equivalent),
+    ("<", Hint::Order),
+    (">", Hint::Order),
+];
+
+// What stands at a bad byte and the one in front of it.
+pub const PAIR_ROWS: [(&str, Hint); 1] = [("=>", Hint::Implies)];
+
+// What stands round an unexpected token: the token before the one in front, the one in front, and the one at the fault;
+// an empty one is any, or none.
+pub const TOKEN_ROWS: [(&str, &str, &str, Hint); 36] = [
+    ("", "else", "if", Hint::ElseIf),
+    ("", "=", "=", Hint::Equal),
+    ("", "&", "&", Hint::And),
+    ("", "|", "|", Hint::Or),
+    ("forall", "", ",", Hint::Sorts),
+    ("exists", "", ",", Hint::Sorts),
+    ("forall", "", ".", Hint::Sorts),
+    ("exists", "", ".", Hint::Sorts),
+    (",", "", ".", Hint::Sorts),
+    ("", "~", "forall", Hint::Parentheses),
+    ("", "&", "forall", Hint::Parentheses),
+    ("", "|", "forall", Hint::Parentheses),
+    ("", "->", "forall", Hint::Parentheses),
+    ("", "<->", "forall", Hint::Parentheses),
+    ("", "=", "forall", Hint::Parentheses),
+    ("", "~=", "forall", Hint::Parentheses),
+    ("", "~", "exists", Hint::Parentheses),
+    ("", "&", "exists", Hint::Parentheses),
+    ("", "|", "exists", Hint::Parentheses),
+    ("", "->", "exists", Hint::Parentheses),
+    ("", "<->", "exists", Hint::Parentheses),
+    ("", "=", "exists", Hint::Parentheses),
+    ("", "~=", "exists", Hint::Parentheses),
+    ("", "", "and", Hint::And),
+    ("", "not", "", Hint::Not),
+    ("", "", "invariant", Hint::Conjecture),
+    ("", "", "type", Hint::Sort),
+    ("", "", "individual", Hint::Variable),
+    ("", "require", "", Hint::Assume),
+    ("", "ensure", "", Hint::Assert),
+    ("{", "", "=", Hint::Becomes),
+    (";", "", "=", Hint::Becomes),
+    ("", "", "safety", Hint::Conjecture),
+    ("", "havoc", "", Hint::Havoc),
+    ("action", "", "(", Hint::Parameters),
+    ("", "rml", "", Hint::Format),
+];
