@@ -1,0 +1,8 @@
+use Rattle.std.proofs.Common.{◌≡◌, ◌++◌}
+use Rattle.fol_sig.specs.Tuples.{join_below}
+use Rattle.dot_graph.specs.NodeText.{node_line}
+use Rattle.dot_graph.proofs.nodes.push_nodes.Given as goal
+
+abbrev pub invariant-loop-element : goal.invariant-loop-element
+invariant-loop-element l = l.out.items
+    ≡ l.initial.out.items ++ join_below l.element (node_line l.letter l.model.names l.now l.other l.sort.0)

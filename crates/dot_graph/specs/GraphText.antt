@@ -1,0 +1,43 @@
+-- A picture of a state, one of a step, and one of a counterexample.
+use Rattle.std.specs.Prelude.{ℕ, List, ◌++◌, Option, Some, None, codes}
+use Rattle.fol_sig.specs.Tables.{Tables}
+use Rattle.rml_command.specs.Outcomes.{Outcome, ended, aborted}
+use Rattle.rml_command.specs.Models.{ModelTree}
+use Rattle.rml_command.specs.declared.names.Names.{Names}
+use Rattle.rml_exec.specs.declared.trace.Counterexample.{Counterexample}
+use Rattle.rml_report.specs.ReportText.{outcome_of}
+use Rattle.dot_graph.specs.NodeText.{frames_text}
+use Rattle.dot_graph.specs.EdgeText.{edges_text}
+
+unfoldable pub side_head : List ℕ → List ℕ → List ℕ
+side_head letter title =
+    codes "  subgraph cluster_" ++ letter ++ codes " {\n" ++ codes "    label=<" ++ title ++ codes ">;\n"
+
+-- a point that is not seen: a frame with nothing in it would not be drawn
+unfoldable pub side_point : List ℕ → List ℕ
+side_point letter = codes "    " ++ letter ++ codes " [shape=point, style=invis];\n"
+
+-- a structure, with what differs from the other one in red
+unfoldable pub side_text : List ℕ → List ℕ → Names → Tables → Tables → List ℕ
+side_text letter title names s t =
+    side_head letter title ++ side_point letter ++ frames_text letter names s t ++ edges_text letter names s t
+    ++ codes "  }\n"
+
+-- the structure before beside the one after
+unfoldable pub step_graph : Names → Tables → Tables → List ℕ
+step_graph names s t =
+    codes "digraph step {\n" ++ side_text (codes "b") (codes "before") names s t
+    ++ side_text (codes "a") (codes "after") names t s ++ codes "}\n"
+
+-- one structure, in which nothing is red
+unfoldable pub state_graph : Names → Tables → List ℕ
+state_graph names s = codes "digraph state {\n" ++ side_text (codes "s") (codes "state") names s s ++ codes "}\n"
+
+-- A counterexample as a step. One that aborts has no end, and is the state in which it begins.
+abbrev pub outcome_graph : Names → Tables → Option Outcome → List ℕ
+outcome_graph names s None = state_graph names s
+outcome_graph names s (Some aborted) = state_graph names s
+outcome_graph names s (Some (ended t)) = step_graph names s t
+
+abbrev pub counterexample_graph : ModelTree → Counterexample → List ℕ
+counterexample_graph m shown = outcome_graph m.names shown.structure (outcome_of m shown)

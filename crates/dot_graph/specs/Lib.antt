@@ -1,0 +1,3 @@
+pub mod NodeText
+pub mod EdgeText
+pub mod GraphText

@@ -1,0 +1,295 @@
+// What is so of tuples of elements.
+ghost use Rattle.std.specs.Prelude.{◌≡◌, ◌++◌, length, OnOk, IfOk};
+ghost use Rattle.fol_sig.specs.Tables.{numbers};
+ghost use Rattle.fol_sig.specs.Symbols.{FitsStructure, symbols};
+ghost use Rattle.fol_sig.specs.Tuples.{join_below};
+ghost use Rattle.told_report.specs.SymbolText.{symbol_name, HasSymbol, IsCell};
+ghost use Rattle.told_report.specs.ChangeText.{AreAlike};
+ghost use Rattle.dot_graph.specs.EdgeText.{symbol_id, hub_id, cell_text, symbol_text, relation_text, function_text};
+ghost use Rattle.dot_graph.specs.EdgeText.{tuple_text, edges_text};
+
+use crate::lines::{push_digits, push_tuple};
+use base::{Mem, push_number, push_text};
+use fol_sig::{FunId, RelId, Sort, Structure, tuple_of_number};
+use rml_command::{Model, Names};
+use rml_report::push_name;
+use std::alloc::Global;
+use told_report::{Symbol, arguments, sizes, tuples};
+
+#[tactic(auto, using(std::proofs::Common::append_assoc))]
+fn push_symbol_id(out: &mut Vec<u8>, symbol: Symbol) -> Mem<()>
+    ensures { OnOk result (out.new.items ≡ out.old.items ++ symbol_id symbol) }
+{
+    match symbol {
+        Symbol::Relation(rel) => {
+            push_text(out, "r")?;
+            push_number(out, rel.0 as u64)?;
+        }
+        Symbol::Function(fun) => {
+            push_text(out, "f")?;
+            push_number(out, fun.0 as u64)?;
+        }
+    }
+    Ok(())
+}
+
+// The small node of a tuple of a symbol.
+#[tactic(auto, using(std::proofs::Common::append_assoc), unfolding(crate::specs::EdgeText::hub_id))]
+fn hub_id(alloc: Global, letter: &str, symbol: Symbol, tuple: &[u32]) -> Mem<Vec<u8>>
+    ensures { IfOk result (λ id. id.items ≡ hub_id letter.now symbol tuple.now) }
+{
+    let mut id = Vec::new(alloc);
+    push_text(&mut id, letter)?;
+    push_symbol_id(&mut id, symbol)?;
+    push_digits(&mut id, tuple)?;
+    Ok(id)
+}
+
+fn symbol_name(alloc: Global, names: &Names, symbol: Symbol) -> Mem<Vec<u8>>
+    ensures { IfOk result (λ name. name.items ≡ symbol_name names.now symbol) }
+{
+    let mut name = Vec::new(alloc);
+    match symbol {
+        Symbol::Relation(rel) => push_name(&mut name, names.relations.as_slice(), rel.0)?,
+        Symbol::Function(fun) => push_name(&mut name, names.functions.as_slice(), fun.0)?,
+    }
+    Ok(name)
+}
+
+// A tuple of a symbol, by the symbol's name.
+fn push_named(
+    alloc: Global,
+    out: &mut Vec<u8>,
+    letter: &str,
+    names: &Names,
+    symbol: Symbol,
+    at: &[u32],
+    sorts: &[Sort],
+    tuple: &[u32],
+    changed: bool,
+) -> Mem<()>
+    ensures { OnOk result (out.new.items ≡ out.old.items
+        ++ tuple_text letter.now (hub_id letter.now symbol at.now) (symbol_name names.now symbol)
+        (numbers sorts.now) tuple.now changed) }
+{
+    let id = hub_id(alloc, letter, symbol, at)?;
+    let name = symbol_name(alloc, names, symbol)?;
+    push_tuple(alloc, out, letter, &id, &name, sorts, tuple, changed)?;
+    Ok(())
+}
+
+// The arguments of a function, and the value behind them.
+fn push_mapped(
+    alloc: Global,
+    out: &mut Vec<u8>,
+    letter: &str,
+    names: &Names,
+    now: &Structure,
+    other: &Structure,
+    fun: FunId,
+    tuple: &[u32],
+) -> Mem<()>
+    requires now { IsCell now.now (Symbol.Function fun) tuple.now }
+    requires other { IsCell other.now (Symbol.Function fun) tuple.now }
+    ensures { OnOk result (out.new.items ≡ out.old.items
+        ++ cell_text letter.now names.now now.now other.now (Symbol.Function fun) tuple.now) }
+{
+    let value = now.fun(fun, tuple);
+    let changed = value != other.fun(fun, tuple);
+    let mut sorts = Vec::new(alloc);
+    sorts.extend_from_slice(now.function_sorts(fun))?;
+    sorts.push(now.function_into(fun))?;
+    let mut row = Vec::new(alloc);
+    row.extend_from_slice(tuple)?;
+    row.push(value)?;
+    push_named(
+        alloc,
+        out,
+        letter,
+        names,
+        Symbol::Function(fun),
+        tuple,
+        &sorts,
+        &row,
+        changed,
+    )?;
+    Ok(())
+}
+
+fn push_true(
+    alloc: Global,
+    out: &mut Vec<u8>,
+    letter: &str,
+    names: &Names,
+    now: &Structure,
+    other: &Structure,
+    rel: RelId,
+    tuple: &[u32],
+) -> Mem<()>
+    requires now { IsCell now.now (Symbol.Relation rel) tuple.now }
+    requires other { IsCell other.now (Symbol.Relation rel) tuple.now }
+    ensures { OnOk result (out.new.items ≡ out.old.items
+        ++ cell_text letter.now names.now now.now other.now (Symbol.Relation rel) tuple.now) }
+{
+    if !now.rel(rel, tuple) {
+        return Ok(());
+    }
+    let changed = !other.rel(rel, tuple);
+    let sorts = now.relation_sorts(rel);
+    push_named(
+        alloc,
+        out,
+        letter,
+        names,
+        Symbol::Relation(rel),
+        tuple,
+        sorts,
+        tuple,
+        changed,
+    )?;
+    Ok(())
+}
+
+fn push_cell(
+    alloc: Global,
+    out: &mut Vec<u8>,
+    letter: &str,
+    names: &Names,
+    now: &Structure,
+    other: &Structure,
+    symbol: Symbol,
+    tuple: &[u32],
+) -> Mem<()>
+    requires now { IsCell now.now symbol tuple.now }
+    requires other { IsCell other.now symbol tuple.now }
+    ensures { OnOk result (out.new.items ≡ out.old.items
+        ++ cell_text letter.now names.now now.now other.now symbol tuple.now) }
+{
+    match symbol {
+        Symbol::Relation(rel) => push_true(alloc, out, letter, names, now, other, rel, tuple),
+        Symbol::Function(fun) => push_mapped(alloc, out, letter, names, now, other, fun, tuple),
+    }
+}
+
+// Each tuple of a symbol.
+fn push_symbol(
+    alloc: Global,
+    out: &mut Vec<u8>,
+    letter: &str,
+    names: &Names,
+    sizes: &[u32],
+    now: &Structure,
+    other: &Structure,
+    symbol: Symbol,
+) -> Mem<()>
+    requires alike { AreAlike now.now other.now }
+    requires sizes { sizes.now ≡ now.now.sizes }
+    requires known { HasSymbol now.now symbol }
+    ensures { OnOk result (out.new.items ≡ out.old.items
+        ++ symbol_text letter.now names.now now.now other.now symbol) }
+{
+    let sorts = arguments(now, symbol);
+    for number in 0..tuples(sizes, sorts)? {
+        let tuple = tuple_of_number(alloc, sizes, sorts, number);
+        push_cell(
+            alloc,
+            out,
+            letter,
+            names,
+            now,
+            other,
+            symbol,
+            tuple.as_slice(),
+        )?;
+    }
+    Ok(())
+}
+
+#[tactic(auto, using(std::proofs::Common::append_assoc))]
+fn push_relations(
+    alloc: Global,
+    out: &mut Vec<u8>,
+    letter: &str,
+    names: &Names,
+    sizes: &[u32],
+    count: u32,
+    now: &Structure,
+    other: &Structure,
+) -> Mem<()>
+    requires alike { AreAlike now.now other.now }
+    requires sizes { sizes.now ≡ now.now.sizes }
+    requires count { count ≡ length now.now.relations }
+    ensures { OnOk result (out.new.items ≡ out.old.items
+        ++ join_below count (relation_text letter.now names.now now.now other.now)) }
+{
+    for rel in 0..count {
+        let symbol = Symbol::Relation(RelId(rel));
+        push_symbol(alloc, out, letter, names, sizes, now, other, symbol)?;
+    }
+    Ok(())
+}
+
+#[tactic(auto, using(std::proofs::Common::append_assoc))]
+fn push_functions(
+    alloc: Global,
+    out: &mut Vec<u8>,
+    letter: &str,
+    names: &Names,
+    sizes: &[u32],
+    count: u32,
+    now: &Structure,
+    other: &Structure,
+) -> Mem<()>
+    requires alike { AreAlike now.now other.now }
+    requires sizes { sizes.now ≡ now.now.sizes }
+    requires count { count ≡ length now.now.functions }
+    ensures { OnOk result (out.new.items ≡ out.old.items
+        ++ join_below count (function_text letter.now names.now now.now other.now)) }
+{
+    for fun in 0..count {
+        let symbol = Symbol::Function(FunId(fun));
+        push_symbol(alloc, out, letter, names, sizes, now, other, symbol)?;
+    }
+    Ok(())
+}
+
+/// Adds what is drawn of the tuples of all symbols.
+#[tactic(auto, using(std::proofs::Common::append_assoc), unfolding(crate::specs::EdgeText::edges_text))]
+pub fn push_edges(
+    alloc: Global,
+    out: &mut Vec<u8>,
+    letter: &str,
+    model: &Model,
+    now: &Structure,
+    other: &Structure,
+) -> Mem<()>
+    requires structure { FitsStructure (symbols model.now.signature) now.now }
+    requires alike { AreAlike now.now other.now }
+    ensures { OnOk result (out.new.items ≡ out.old.items
+        ++ edges_text letter.now model.now.names now.now other.now) }
+{
+    let signature = model.signature();
+    let names = model.names();
+    let sizes = sizes(alloc, model, now)?;
+    push_relations(
+        alloc,
+        out,
+        letter,
+        names,
+        &sizes,
+        signature.relation_count(),
+        now,
+        other,
+    )?;
+    push_functions(
+        alloc,
+        out,
+        letter,
+        names,
+        &sizes,
+        signature.function_count(),
+        now,
+        other,
+    )?;
+    Ok(())
+}

@@ -1,0 +1,20 @@
+use Rattle.std.proofs.Common.{◌≡◌, ℕ, List, ◌++◌, ap, ◌∙◌, subst}
+use Rattle.fol_sig.specs.Tables.{numbers}
+use Rattle.fol_sig.specs.Tuples.{tuple_at}
+use Rattle.told_report.specs.SymbolText.{arguments_of}
+use Rattle.told_report.specs.ChangeText.{change_text}
+use Rattle.told_report.proofs.Pieces.{one_more}
+use Rattle.told_report.proofs.changes.push_symbol_changes.Goals as goal
+
+pub loop-number-preserved : goal.loop-number-preserved
+loop-number-preserved c =
+    let change : List ℕ → List ℕ = change_text c.args.names.now c.args.before.now c.args.after.now c.args.symbol in
+    let ks : List ℕ = arguments_of c.args.before.now c.args.symbol in
+    let tuple : c.as_slice.result.now ≡ tuple_at c.args.before.now.sizes ks c.loop-number.number =
+    c.as_slice.ensures.value ∙ c.tuple_of_number-tuple.ensures.value
+    ∙ ap (λ s. tuple_at s (numbers c.arguments-sorts.result.now) c.loop-number.number) c.requires.sizes
+    ∙ ap (λ js. tuple_at c.args.before.now.sizes js c.loop-number.number) c.arguments-sorts.ensures in
+    one_more c.loop-number.number (λ n. change (tuple_at c.args.before.now.sizes ks n)) c.loop-number.out.items _ _
+    c.loop-number.invariant
+    (subst (λ (xs : List ℕ). c.push_change.new.out.items ≡ c.loop-number.out.items ++ change xs) tuple
+    c.in_ok-push_change.ensures)

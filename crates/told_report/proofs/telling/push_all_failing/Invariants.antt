@@ -1,0 +1,15 @@
+use Rattle.std.proofs.Common.{◌≡◌, ◌++◌, length}
+use Rattle.std.specs.List.{AllByRecursion, flat_map}
+use Rattle.rml_report.specs.Reports.{CanRender}
+use Rattle.told_report.specs.ToldText.{group_failing}
+use Rattle.told_report.proofs.telling.push_all_failing.Given as goal
+
+abbrev pub invariant-loop-rest : goal.invariant-loop-rest
+invariant-loop-rest l = record {
+  can : AllByRecursion (CanRender l.checked) l.rest;
+  text : l.out.items ++ flat_map (group_failing l.checked) l.rest ≡ l.fn.out.items
+      ++ flat_map (group_failing l.checked) l.groups;
+}
+
+abbrev pub decreases-loop-rest : goal.decreases-loop-rest
+decreases-loop-rest l = length l.rest

@@ -1,0 +1,68 @@
+-- An execution: what is true before it, which elements it takes, what it changes, and what is false after it.
+use Rattle.std.specs.Prelude.{ℕ, List, [], ◌∷◌, ◌++◌, Option, Some, None, codes, slice_get}
+use Rattle.fol_sig.specs.Tables.{Tables, function_at}
+use Rattle.fol_formula.specs.Syntax.{FormTree}
+use Rattle.rml_command.specs.Trees.{PrimitiveTree, assume, set_rel, set_fun, havoc, abort}
+use Rattle.rml_command.specs.Outcomes.{Outcome, ended, aborted}
+use Rattle.rml_command.specs.Models.{ModelTree}
+use Rattle.rml_command.specs.Goals.{goal_path, leading_sorts}
+use Rattle.rml_command.specs.declared.names.Names.{Names}
+use Rattle.rml_command.specs.declared.goal.About.{About}
+use Rattle.rml_command.specs.declared.goal.About.TheVariants as about
+use Rattle.rml_exec.specs.declared.trace.Counterexample.{Counterexample}
+use Rattle.rml_report.specs.Words.{name_at, labelled}
+use Rattle.rml_report.specs.ReportText.{outcome_of}
+use Rattle.told_report.specs.ElementText.{element_text, elements_text, line_text}
+use Rattle.told_report.specs.BeforeText.{before_text}
+use Rattle.told_report.specs.ChangeText.{changes_text}
+
+-- a comma, and m := node1
+unfoldable pub havoc_text : Names → ℕ → ℕ → ℕ → List ℕ
+havoc_text names v k x = labelled (codes ", ") (name_at names.functions v) (codes " := ") ++ element_text names k x
+
+-- the havocs of a path, in order, with the elements that they take
+abbrev pub havocs_text : Names → Tables → List PrimitiveTree → List ℕ → List ℕ
+havocs_text names s [] xs = []
+havocs_text names s (assume p ∷ qs) xs = havocs_text names s qs xs
+havocs_text names s (set_rel r by ∷ qs) xs = havocs_text names s qs xs
+havocs_text names s (set_fun f by ∷ qs) xs = havocs_text names s qs xs
+havocs_text names s (havoc v ∷ qs) [] = []
+havocs_text names s (havoc v ∷ qs) (x ∷ xs) = havoc_text names v (function_at s v).into x ++ havocs_text names s qs xs
+havocs_text names s (abort ∷ qs) xs = havocs_text names s qs xs
+
+-- no line where there is no havoc
+abbrev pub takes_along : Names → Counterexample → Option (List PrimitiveTree) → List ℕ
+takes_along names shown None = []
+takes_along names shown (Some path) =
+    line_text (codes "  takes: ") (havocs_text names shown.structure path shown.trace.havoc)
+
+abbrev pub takes_text : ModelTree → Counterexample → List ℕ
+takes_text m shown = takes_along m.names shown (goal_path m shown.goal)
+
+-- what the path has changed where it ends
+abbrev pub changes_to : Names → Tables → Option Outcome → List ℕ
+changes_to names s None = []
+changes_to names s (Some aborted) = []
+changes_to names s (Some (ended t)) = changes_text names s t
+
+-- the values of the conjecture's leading quantifiers
+unfoldable pub values_text : Names → Option FormTree → List ℕ → List ℕ
+values_text names None values = []
+values_text names (Some c) values = elements_text names (codes " of ") (leading_sorts c) values
+
+unfoldable pub claim_text : Names → ℕ → List ℕ
+claim_text names k = labelled (codes "  after this ") (name_at names.conjectures k) (codes " is false")
+
+-- after this linked_down is false of client0, server0
+unfoldable pub false_text : ModelTree → ℕ → List ℕ → List ℕ
+false_text m k values = claim_text m.names k ++ values_text m.names (slice_get m.conjectures k) values ++ codes "\n"
+
+unfoldable pub end_text : ModelTree → ℕ → Counterexample → List ℕ
+end_text m k shown = changes_to m.names shown.structure (outcome_of m shown) ++ false_text m k shown.values
+
+abbrev pub outcome_text : ModelTree → About → Counterexample → List ℕ
+outcome_text m about.Abort shown = codes "  after this it aborts\n"
+outcome_text m (about.Conjecture k) shown = end_text m k shown
+
+unfoldable pub execution_text : ModelTree → About → Counterexample → List ℕ
+execution_text m a shown = before_text m.names shown.structure ++ takes_text m shown ++ outcome_text m a shown

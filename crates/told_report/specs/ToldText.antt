@@ -1,0 +1,113 @@
+-- A report as it is told: the verdict, the axioms where they are in doubt, what fails, what is left open, and how much
+-- holds.
+use Rattle.std.specs.Prelude.{ℕ, ◌+◌, List, [], ◌∷◌, ◌++◌, length, codes}
+use Rattle.std.specs.List.{flat_map}
+use Rattle.std.specs.Fmt.{decimal}
+use Rattle.rml_command.specs.Models.{ModelTree}
+use Rattle.rml_command.specs.declared.names.Names.{Names}
+use Rattle.rml_command.specs.declared.goal.Stage.{Stage}
+use Rattle.rml_command.specs.declared.goal.About.{About}
+use Rattle.rml_command.specs.declared.goal.About.TheVariants as about
+use Rattle.rml_exec.specs.declared.trace.Counterexample.{Counterexample}
+use Rattle.rml_report.specs.Words.{name_at}
+use Rattle.rml_report.specs.ReportText.{stage_text, head_text}
+use Rattle.rml_report.specs.declared.cause.Cause.{Cause}
+use Rattle.rml_report.specs.declared.cause.Cause.TheVariants as cause
+use Rattle.rml_report.specs.declared.cause.Least.{Least}
+use Rattle.rml_report.specs.declared.cause.Least.TheVariants as least
+use Rattle.rml_report.specs.declared.report.Axioms.{Axioms}
+use Rattle.rml_report.specs.declared.report.Axioms.TheVariants as axioms
+use Rattle.rml_report.specs.declared.report.Verdict.{Verdict}
+use Rattle.rml_report.specs.declared.report.Verdict.TheVariants as verdict
+use Rattle.rml_report.specs.declared.report.Answer.{Answer}
+use Rattle.rml_report.specs.declared.report.Answer.TheVariants as answer
+use Rattle.rml_report.specs.declared.report.Group.{Group}
+use Rattle.rml_report.specs.declared.report.Report.{Report}
+use Rattle.told_report.specs.ExecutionText.{execution_text}
+
+-- why something is left open, and the option to raise, with the most that it can be
+unfoldable pub cause_words : Cause → List ℕ
+cause_words cause.Formula = codes "the formula is too large"
+cause_words (cause.Terms n) = decimal n ++ codes " ground terms; raise --terms, up to 100000"
+cause_words (cause.Ground n) = codes "ground size " ++ decimal n ++ codes "; raise --ground, up to 50000000"
+cause_words (cause.Conflicts n) = decimal n ++ codes " conflicts were too few; raise --conflicts, up to 100000000"
+
+-- what a block does that it must not
+abbrev pub fault_text : Names → About → List ℕ
+fault_text names about.Abort = codes " aborts"
+fault_text names (about.Conjecture k) = codes " breaks " ++ name_at names.conjectures k
+
+-- action connect breaks linked_down
+unfoldable pub broken_text : Names → Stage → About → List ℕ
+broken_text names s a = codes "\n" ++ stage_text names s ++ fault_text names a
+
+-- (path 1 of 2)
+unfoldable pub path_text : ℕ → ℕ → List ℕ
+path_text path paths = codes " (path " ++ decimal path ++ codes " of " ++ decimal paths ++ codes ")\n"
+
+unfoldable pub doubt_text : Cause → List ℕ
+doubt_text c = codes "  there may be a smaller one: " ++ cause_words c ++ codes "\n"
+
+-- nothing where the counterexample is least
+abbrev pub least_text : Least → List ℕ
+least_text least.Yes = []
+least_text (least.Stopped bound size c) = doubt_text c
+
+unfoldable pub failure_text : ModelTree → Stage → About → ℕ → Least → Counterexample → List ℕ
+failure_text m s a paths l shown =
+    broken_text m.names s a ++ path_text shown.trace.path paths ++ least_text l ++ execution_text m a shown
+
+-- a group that fails, behind an empty line
+abbrev pub failing_text : ModelTree → Stage → About → Answer → List ℕ
+failing_text m s a answer.Holds = []
+failing_text m s a (answer.Fails paths l shown) = failure_text m s a paths l shown
+failing_text m s a (answer.Undecided path c) = []
+
+abbrev pub group_failing : ModelTree → Group → List ℕ
+group_failing m g = failing_text m g.stage g.about g.answer
+
+unfoldable pub undecided_text : Names → Stage → About → ℕ → Cause → List ℕ
+undecided_text names s a path c =
+    head_text names s a ++ codes " is left open at path " ++ decimal path ++ codes ": " ++ cause_words c ++ codes "\n"
+
+-- a group that is left open
+abbrev pub open_text : Names → Stage → About → Answer → List ℕ
+open_text names s a answer.Holds = []
+open_text names s a (answer.Fails paths l shown) = []
+open_text names s a (answer.Undecided path c) = undecided_text names s a path c
+
+abbrev pub group_open : Names → Group → List ℕ
+group_open names g = open_text names g.stage g.about g.answer
+
+abbrev pub held_by : Answer → ℕ
+held_by answer.Holds = 1
+held_by (answer.Fails paths l shown) = 0
+held_by (answer.Undecided path c) = 0
+
+-- how many groups hold
+abbrev pub held : List Group → ℕ
+held [] = 0
+held (g ∷ gs) = held_by g.answer + held gs
+
+-- 12 of 14 groups hold
+unfoldable pub count_line : List Group → List ℕ
+count_line gs = decimal (held gs) ++ codes " of " ++ decimal (length gs) ++ codes " groups hold\n"
+
+abbrev pub verdict_line : Verdict → List ℕ
+verdict_line verdict.Inductive = codes "inductive\n"
+verdict_line verdict.NotInductive = codes "not inductive\n"
+verdict_line verdict.Undecided = codes "undecided\n"
+
+unfoldable pub axioms_open : Cause → List ℕ
+axioms_open c = codes "whether some structure satisfies the axioms is left open: " ++ cause_words c ++ codes "\n"
+
+-- nothing where the axioms are consistent
+abbrev pub axioms_line : Axioms → List ℕ
+axioms_line axioms.Consistent = []
+axioms_line axioms.Inconsistent = codes "no structure satisfies the axioms, so everything holds\n"
+axioms_line (axioms.Undecided c) = axioms_open c
+
+unfoldable pub told_text : ModelTree → Report → List ℕ
+told_text m r =
+    verdict_line r.verdict ++ axioms_line r.axioms ++ flat_map (group_failing m) r.groups ++ codes "\n"
+    ++ flat_map (group_open m.names) r.groups ++ count_line r.groups

@@ -1,0 +1,134 @@
+// A report as it is told.
+ghost use Rattle.std.specs.Prelude.{◌≡◌, ◌≤◌, ◌++◌, length, OnOk, IfOk};
+ghost use Rattle.std.specs.List.{AllByRecursion, flat_map};
+ghost use Rattle.rml_report.specs.Reports.{CanRender};
+ghost use Rattle.told_report.specs.ToldText.{group_failing, group_open, held_by, held, count_line, verdict_line};
+ghost use Rattle.told_report.specs.ToldText.{axioms_open, axioms_line, told_text};
+
+use crate::groups::{push_cause_words, push_failing, push_open};
+use base::{Mem, push_number, push_text};
+use rml_command::{Checked, Names};
+use rml_report::{Answer, Axioms, Cause, Group, Report, Verdict};
+use std::alloc::Global;
+
+fn push_verdict(out: &mut Vec<u8>, verdict: Verdict) -> Mem<()>
+    ensures { OnOk result (out.new.items ≡ out.old.items ++ verdict_line verdict) }
+{
+    match verdict {
+        Verdict::Inductive => push_text(out, "inductive\n"),
+        Verdict::NotInductive => push_text(out, "not inductive\n"),
+        Verdict::Undecided => push_text(out, "undecided\n"),
+    }
+}
+
+#[tactic(auto, using(std::proofs::Common::append_assoc), unfolding(crate::specs::ToldText::axioms_open))]
+fn push_axioms_open(out: &mut Vec<u8>, cause: &Cause) -> Mem<()>
+    ensures { OnOk result (out.new.items ≡ out.old.items ++ axioms_open cause.now) }
+{
+    push_text(
+        out,
+        "whether some structure satisfies the axioms is left open: ",
+    )?;
+    push_cause_words(out, cause)?;
+    push_text(out, "\n")?;
+    Ok(())
+}
+
+fn push_axioms(out: &mut Vec<u8>, axioms: &Axioms) -> Mem<()>
+    ensures { OnOk result (out.new.items ≡ out.old.items ++ axioms_line axioms.now) }
+{
+    match axioms {
+        Axioms::Consistent => Ok(()),
+        Axioms::Inconsistent => {
+            push_text(
+                out,
+                "no structure satisfies the axioms, so everything holds\n",
+            )
+        }
+        Axioms::Undecided(cause) => push_axioms_open(out, cause),
+    }
+}
+
+#[tactic(auto, using(std::proofs::Common::append_assoc))]
+fn push_all_failing(
+    alloc: Global,
+    out: &mut Vec<u8>,
+    checked: &Checked,
+    groups: &[Group],
+) -> Mem<()>
+    requires { AllByRecursion (CanRender checked.now) groups.now }
+    ensures { OnOk result (out.new.items ≡ out.old.items ++ flat_map (group_failing checked.now) groups.now) }
+{
+    let mut rest = groups;
+    while let [group, after @ ..] = rest {
+        push_failing(alloc, out, checked, group)?;
+        rest = after;
+    }
+    Ok(())
+}
+
+#[tactic(auto, using(std::proofs::Common::append_assoc))]
+fn push_all_open(out: &mut Vec<u8>, names: &Names, groups: &[Group]) -> Mem<()>
+    ensures { OnOk result (out.new.items ≡ out.old.items ++ flat_map (group_open names.now) groups.now) }
+{
+    let mut rest = groups;
+    while let [group, after @ ..] = rest {
+        push_open(out, names, group)?;
+        rest = after;
+    }
+    Ok(())
+}
+
+fn held_by(answer: &Answer) -> u64
+    ensures value { result ≡ held_by answer.now }
+    ensures small { result ≤ 1 }
+{
+    match answer {
+        Answer::Holds => 1,
+        Answer::Fails { .. } | Answer::Undecided { .. } => 0,
+    }
+}
+
+// How many groups hold.
+fn held(groups: &[Group]) -> u64
+    ensures { result ≡ held groups.now }
+{
+    // That their number is one of 64 bits is known where it is looked at.
+    let _count = groups.len();
+    let mut rest = groups;
+    let mut count: u64 = 0;
+    while let [group, after @ ..] = rest {
+        count += held_by(&group.answer);
+        rest = after;
+    }
+    count
+}
+
+#[tactic(auto, using(std::proofs::Common::append_assoc), unfolding(crate::specs::ToldText::count_line))]
+fn push_count(out: &mut Vec<u8>, groups: &[Group]) -> Mem<()>
+    ensures { OnOk result (out.new.items ≡ out.old.items ++ count_line groups.now) }
+{
+    push_number(out, held(groups))?;
+    push_text(out, " of ")?;
+    push_number(out, groups.len() as u64)?;
+    push_text(out, " groups hold\n")?;
+    Ok(())
+}
+
+/// The text of a report for a person: the verdict, the axioms where they are in doubt, each group that fails with its
+/// counterexample, the groups that are left open, and how many hold.
+#[tactic(auto, using(std::proofs::Common::append_assoc), unfolding(crate::specs::ToldText::told_text))]
+pub fn tell(alloc: Global, checked: &Checked, report: &Report) -> Mem<Vec<u8>>
+    requires { AllByRecursion (CanRender checked.now) report.now.groups }
+    ensures { IfOk result (λ text. text.items ≡ told_text checked.now report.now) }
+{
+    let groups = report.groups.as_slice();
+    let mut out = Vec::new(alloc);
+    push_verdict(&mut out, report.verdict)?;
+    push_axioms(&mut out, &report.axioms)?;
+    push_all_failing(alloc, &mut out, checked, groups)?;
+    push_text(&mut out, "\n")?;
+    push_all_open(&mut out, checked.model().names(), groups)?;
+    push_count(&mut out, groups)?;
+    Ok(out)
+}
