@@ -443,6 +443,8 @@ else
         expect "spread: the axioms of $name" first_is "$(head -n 1 "$room/report")"
         expect "spread: the status of $name" ended "$wanted"
     done
+    bench ../editors/test.py
+    expect 'editors: colours are of the words and signs of the language' ended 0
     bench models.py 50
     expect 'models: none of fifty differs' ended 0
     # `lie` has the program's reports pass through a filter: `models.py` has to see what it changes.
