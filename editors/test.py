@@ -1,11 +1,11 @@
 #!/usr/bin/env python3
-"""Holds the colours of both editors to the language's words, on every file of examples/.
+"""Holds the colours of both editors to the language's words, on every file of examples/; and tries the completion.
 
     editors/test.py     the status is 1 where something differs; without vim its part is skipped
 
 Of each file the words and signs outside comments are coloured as the grammar of VS Code has it; each must have the
 class of its kind, and names and brackets none. Vim is asked the same of every place, and what `:IvyCheck` does with a
-fault and with none.
+fault and with none. bash is asked what it completes.
 """
 import json
 import pathlib
@@ -89,6 +89,34 @@ def vim(paths, room):
     return sum(a != b for a, b in zip(told, expected)) + abs(len(told) - len(expected))
 
 
+COMPLETED = {
+    "": "check emit lrat houdini bmc replay sample --which --prove --first-look --sum",
+    "b": "bmc",
+    "--prove c": "check",
+    "check fl": "flag.rml",
+    "check flag.rml --t": "--terms",
+    "check flag.rml --terms ": "",
+    "bmc flag.rml --s": "--steps",
+    "emit flag.rml 3 ": "cnf lrat",
+    "emit flag.rml ": "",
+    "replay flag.rml fl": "flag.rml",
+    "sample ": "",
+}
+
+
+def bash():
+    """How many beginnings of a command line bash completes otherwise."""
+    wrong = 0
+    for begun, expected in COMPLETED.items():
+        words = ["ivycheck", *begun.split(" ")]
+        script = f"""shopt -s progcomp; . {HERE}/completion/ivycheck.bash
+            COMP_WORDS=("$@"); COMP_CWORD=$(($# - 1)); _ivycheck; echo "${{COMPREPLY[*]}}" """
+        told = subprocess.run(["bash", "-c", script, "bash", *words], capture_output=True, text=True,
+                              cwd=HERE.parent / "examples").stdout
+        wrong += told != expected + "\n"
+    return wrong
+
+
 def has_vim():
     """Whether there is a Vim that can run scripts, which the tiny one cannot."""
     if not shutil.which("vim"):
@@ -101,6 +129,9 @@ def main():
     paths = sorted((HERE.parent / "examples").glob("*.rml"))
     wrong = sum(code(path) for path in paths)
     print(f"VS Code: {wrong} differ")
+    differ = bash()
+    print(f"bash: {differ} differ")
+    wrong += differ
     if has_vim():
         with tempfile.TemporaryDirectory() as room:
             differ = vim(paths, pathlib.Path(room))
