@@ -22,8 +22,8 @@ Of what `bmc` says of the runs with at most two actions it asks that no run thro
 have at most 1,000) aborts or breaks a conjecture at a length that is called safe, and that each shown run, followed
 part by part, is one of the model and does what it is said to do.
 
-Each report of `check` must be confirmed by `replay`, with as many executions as groups fail; `bench/replays.py` asks the
-same of reports that were changed.
+Each report of `check` must be confirmed by `replay`, with as many executions as groups fail; `bench/replays.py` asks
+the same of reports that were changed.
 
 The last line says how many groups held, failed and were left open, how many of the failing ones had their sizes among
 those that were made, how many conjectures were dropped, how many lengths were safe and broken, and how many models

@@ -169,7 +169,8 @@ class Report:
     def relation(self, world, r, sorts):
         line = self.next()
         if not sorts:
-            return {(): {"true": True, "false": False}[self.one_of(behind(line, f"    relation {r}: "), "true", "false")]}
+            told = self.one_of(behind(line, f"    relation {r}: "), "true", "false")
+            return {(): told == "true"}
         told = [self.tuple(word) for word in self.words(behind(line, f"    relation {r}:"))]
         if told != sorted(set(told)) or not set(told) <= set(world.tuples(r)):
             raise Unexpected
