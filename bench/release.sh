@@ -1,14 +1,15 @@
 #!/bin/sh
-# The released program, release/ivycheck, and its sums.
-#   bench/release.sh [PROGRAM]            makes them from the program that `rt ci` built in this checkout, or from PROGRAM
-#   bench/release.sh --check [PROGRAM]    fails where they are not of these sources and of this kit, or where the released
+# The released programs, release/ivycheck and release/ivyview, and their sums.
+#   bench/release.sh [CRATES]             makes them from the programs that `rt ci` built in this checkout, or in CRATES,
+#                                         the folder crates/ of another one
+#   bench/release.sh --check [CRATES]     fails where they are not of these sources and of this kit, or where a released
 #                                         program is not to the byte the one that `rt ci` built in this checkout
 # So a change of the sources brings its release with it: `rt ci`, then this, then `.ci/run`, which checks it.
 root=$(cd "$(dirname "$0")/.." && pwd) || exit 1
 release=$root/release
 check=
 [ "$1" != --check ] || { check=yes && shift; }
-program=${1:-$root/crates/ivycheck/out/ivycheck}
+crates=${1:-$root/crates}
 
 give_up() {
     echo "release.sh: $*" >&2
@@ -19,23 +20,43 @@ sum_of() {
     sha256sum <"$1" | cut -c 1-64
 }
 
-[ -f "$program" ] || give_up "there is no program $program: run rt ci first"
-version=$(rt version) || give_up "there is no working command rt on the PATH"
-sums=$(printf 'sources: %s\nkit: %s\nprogram: %s' "$("$root/ivycheck" --sum)" "$version" "$(sum_of "$program")")
-if [ -n "$check" ]; then
-    for file in ivycheck SUMS README.md; do
+# The file with the sums of a program.
+sums_of() {
+    [ "$1" = ivycheck ] && echo SUMS || echo "SUMS-$1"
+}
+
+# A program that is released has to be of the sources, the kit and the bytes that its sums name.
+check_one() {
+    for file in "$1" "$file_of_sums" README.md; do
         [ -f "$release/$file" ] || give_up "release/$file is not there"
     done
-    [ -x "$release/ivycheck" ] || give_up "release/ivycheck has no right to be run"
-    cmp "$program" "$release/ivycheck" || give_up "release/ivycheck is not the program that was built: bench/release.sh"
-    [ "$(cat "$release/SUMS")" = "$sums" ] || {
-        echo "$sums" | diff - "$release/SUMS" >&2
-        give_up "release/SUMS is not of these sources, this kit and this program: bench/release.sh"
+    [ -x "$release/$1" ] || give_up "release/$1 has no right to be run"
+    cmp "$program" "$release/$1" || give_up "release/$1 is not the program that was built: bench/release.sh"
+    [ "$(cat "$release/$file_of_sums")" = "$sums" ] || {
+        echo "$sums" | diff - "$release/$file_of_sums" >&2
+        give_up "release/$file_of_sums is not of these sources, this kit and this program: bench/release.sh"
     }
-    echo "release/ is of these sources, and the very program that was built"
-    exit
-fi
-[ "$("$program" check /dev/null | tail -n 1)" = 'verdict: inductive' ] || give_up "$program does not answer as it should"
-mkdir -p "$release" && cp "$program" "$release/new" && chmod 755 "$release/new" || give_up "cannot write to $release"
-mv "$release/new" "$release/ivycheck" && echo "$sums" >"$release/SUMS" || give_up "cannot write to $release"
-echo "$sums"
+}
+
+release_one() {
+    "$program" check /dev/null | grep -qx 'verdict: inductive\|inductive' ||
+        give_up "$program does not answer as it should"
+    mkdir -p "$release" && cp "$program" "$release/new" && chmod 755 "$release/new" || give_up "cannot write to $release"
+    mv "$release/new" "$release/$1" && echo "$sums" >"$release/$file_of_sums" || give_up "cannot write to $release"
+    echo "$sums"
+}
+
+version=$(rt version) || give_up "there is no working command rt on the PATH"
+for name in ivycheck ivyview; do
+    grep -q "^$name:" "$root/crates.txt" || continue
+    program=$crates/$name/out/$name
+    [ -f "$program" ] || give_up "there is no program $program: run rt ci first"
+    file_of_sums=$(sums_of "$name")
+    sums=$(printf 'sources: %s\nkit: %s\nprogram: %s' "$("$root/$name" --sum)" "$version" "$(sum_of "$program")")
+    if [ -n "$check" ]; then
+        check_one "$name"
+    else
+        release_one "$name"
+    fi
+done
+[ -z "$check" ] || echo "release/ is of these sources, and the very programs that were built"

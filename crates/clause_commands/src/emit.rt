@@ -18,6 +18,7 @@ use goal_clauses::{GoalClauses, clauses_of_goal, decide_goal};
 use goal_number::{GoalAt, goal_at};
 use lrat_log::{Limits, Line, write_lines};
 use obligation_decide::Decision;
+use progress::Progress;
 use rml_command::{Checked, Goal};
 use rml_lex::Fault;
 use rml_report::Cause;
@@ -158,7 +159,13 @@ impl Command for Emit {
 
     ghost due = { λ c first second a. emit_due c.emission.goal first a };
 
-    fn judge(&self, alloc: Global, first: &[u8], second: &[u8]) -> Mem<EmitAnswer> {
+    fn judge<P: Progress>(
+        &self,
+        alloc: Global,
+        first: &[u8],
+        second: &[u8],
+        progress: &mut P,
+    ) -> Mem<EmitAnswer> {
         judge_emission(alloc, first, self.emission)
     }
 

@@ -13,6 +13,7 @@ use command_parts::{ReportCode, complaint, fault_line, refusal_line, verdict};
 use commands::{Command, Said};
 use lrat_check::{Refusal, check_owned};
 use lrat_log::{Log, LogFault, read_log};
+use progress::Progress;
 use std::alloc::{AllocError, Global};
 
 /// The command.
@@ -86,7 +87,13 @@ impl Command for Lrat {
 
     ghost due = { λ c first second a. lrat_due first second a };
 
-    fn judge(&self, alloc: Global, first: &[u8], second: &[u8]) -> Mem<LratAnswer> {
+    fn judge<P: Progress>(
+        &self,
+        alloc: Global,
+        first: &[u8],
+        second: &[u8],
+        progress: &mut P,
+    ) -> Mem<LratAnswer> {
         judge_refutation(alloc, first, second)
     }
 

@@ -10,4 +10,4 @@ mod request;
 mod sample;
 mod words;
 
-pub use request::{Asked, Bound, Emission, Request, What, default_asked, read_words};
+pub use request::{Asked, Bound, Emission, Request, What, check, default_asked, read_words};

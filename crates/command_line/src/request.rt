@@ -158,8 +158,9 @@ fn check_of<'a>(matches: &Option<ArgMatches<'a>>) -> Option<Request<'a>>
     }
 }
 
+/// What the words ask for where they are a `check`, whatever their first word is, or nothing where `clap` refuses them.
 #[tactic(auto, unfolding(crate::specs::Lines::check_line))]
-fn check<'a>(alloc: Global, words: &'a [String]) -> Mem<Option<Request<'a>>>
+pub fn check<'a>(alloc: Global, words: &'a [String]) -> Mem<Option<Request<'a>>>
     ensures line { IfOk result
         (λ r. option_map request_line r ≡ check_line (map (λ w. string_bytes w) words.entry.now)) }
     ensures ranges { IfOk result (λ r. IfSome r HasRanges) }

@@ -5,6 +5,7 @@ ghost use Rattle.commands.specs.Ends.{EndsNone, EndsOne, EndsTwo};
 
 use crate::said::Said;
 use base::Mem;
+use progress::Progress;
 use rml_bytes::{Files, LoadError};
 use std::alloc::Global;
 
@@ -25,7 +26,14 @@ pub trait Command {
     /// What is due.
     ghost due: { Self → List ℕ → List ℕ → Self.Answer → Due };
 
-    fn judge(&self, alloc: Global, first: &[u8], second: &[u8]) -> Mem<Self::Answer>
+    /// The answer. How far it has come is told to `progress`.
+    fn judge<P: Progress>(
+        &self,
+        alloc: Global,
+        first: &[u8],
+        second: &[u8],
+        progress: &mut P,
+    ) -> Mem<Self::Answer>
         ensures { IfOk result (λ a. is_answer self.now first.now second.now a) };
 
     fn say(&self, alloc: Global, first: &[u8], second: &[u8], answer: &Self::Answer) -> Mem<Said>
@@ -34,37 +42,43 @@ pub trait Command {
 }
 
 // The answer to the texts, with its own text.
-fn answer<C: Command>(
+fn answer<C: Command, P: Progress>(
     command: &C,
     alloc: Global,
     first: &[u8],
     second: &[u8],
+    progress: &mut P,
 ) -> Mem<Done<C::Answer>>
     ensures { IfOk result (λ d. C.is_answer command.now first.now second.now d.answer
         × (d.said ≡ C.due command.now first.now second.now d.answer)) }
 {
-    let answer = command.judge(alloc, first, second)?;
+    let answer = command.judge(alloc, first, second, progress)?;
     let said = command.say(alloc, first, second, &answer)?;
     Ok(Done { answer, said })
 }
 
 /// Answers without a file.
-pub fn no_file<C: Command>(command: &C, alloc: Global) -> Result<Done<C::Answer>, LoadError>
+pub fn no_file<C: Command, P: Progress>(
+    command: &C,
+    alloc: Global,
+    progress: &mut P,
+) -> Result<Done<C::Answer>, LoadError>
     ensures { EndsNone 0 0 [] [] (λ first second d. C.is_answer command.now first second d.answer
         × (d.said ≡ C.due command.now first second d.answer)) result }
 {
-    let done = answer(command, alloc, &[], &[])?;
+    let done = answer(command, alloc, &[], &[], progress)?;
     Ok(done)
 }
 
 /// Loads a file, and answers its text.
-pub fn one_file<C: Command, F: Files>(
+pub fn one_file<C: Command, F: Files, P: Progress>(
     command: &C,
     alloc: Global,
     files: &mut F,
     name: &str,
     most: u64,
     into: &mut Vec<u8>,
+    progress: &mut P,
 ) -> Result<Done<C::Answer>, LoadError>
     requires { into.old.items ≡ [] }
     ensures same { (n : List ℕ) → F.told files.new n ≡ F.told files.old n }
@@ -73,12 +87,12 @@ pub fn one_file<C: Command, F: Files>(
         × (d.said ≡ C.due command.now first second d.answer)) result }
 {
     files.load(name, most, into)?;
-    let done = answer(command, alloc, into, &[])?;
+    let done = answer(command, alloc, into, &[], progress)?;
     Ok(done)
 }
 
 /// Loads both files, and answers their texts.
-pub fn two_files<C: Command, F: Files>(
+pub fn two_files<C: Command, F: Files, P: Progress>(
     command: &C,
     alloc: Global,
     files: &mut F,
@@ -88,6 +102,7 @@ pub fn two_files<C: Command, F: Files>(
     other: &str,
     limit: u64,
     others: &mut Vec<u8>,
+    progress: &mut P,
 ) -> Result<Done<C::Answer>, LoadError>
     requires first { into.old.items ≡ [] }
     requires second { others.old.items ≡ [] }
@@ -99,6 +114,6 @@ pub fn two_files<C: Command, F: Files>(
 {
     files.load(name, most, into)?;
     files.load(other, limit, others)?;
-    let done = answer(command, alloc, into, others)?;
+    let done = answer(command, alloc, into, others, progress)?;
     Ok(done)
 }

@@ -12,7 +12,9 @@ use crate::usage::Usage;
 use clause_commands::{Emit, Lrat};
 use command_line::{Asked, Bound, Emission, Request, read_words};
 use commands::{Done, no_file, one_file, two_files};
+use lean_decide::Counted;
 use model_commands::{Bmc, Check, Houdini, Sample};
+use progress::Silent;
 use replay_command::Replay;
 use rml_bytes::{Files, LoadError};
 use std::alloc::Global;
@@ -37,7 +39,8 @@ fn perform_check<F: Files>(
     ensures does { Does (Some (check file.now asked)) (F.told files.old) (F.faults files.old) (F.faults files.new)
         first.new.items [] (outcome_in result) }
 {
-    match one_file(&Check { asked }, alloc, files, file, MODEL_LIMIT, first) {
+    let counted = Counted::Whole;
+    match one_file(&Check { asked, counted }, alloc, files, file, MODEL_LIMIT, first, &mut Silent) {
         Ok(done) => Ok(Done {
             answer: Answer::Check(done.answer),
             said: done.said,
@@ -64,7 +67,7 @@ fn perform_lrat<F: Files>(
         first.new.items second.new.items (outcome_in result) }
 {
     match two_files(
-        &Lrat, alloc, files, formula, LONG_LIMIT, first, log, LONG_LIMIT, second,
+        &Lrat, alloc, files, formula, LONG_LIMIT, first, log, LONG_LIMIT, second, &mut Silent,
     ) {
         Ok(done) => Ok(Done {
             answer: Answer::Lrat(done.answer),
@@ -101,6 +104,7 @@ fn perform_replay<F: Files>(
         report,
         LONG_LIMIT,
         second,
+        &mut Silent,
     ) {
         Ok(done) => Ok(Done {
             answer: Answer::Replay(done.answer),
@@ -126,7 +130,7 @@ fn perform_emit<F: Files>(
     ensures does { Does (Some (emit file.now emission)) (F.told files.old) (F.faults files.old) (F.faults files.new)
         first.new.items [] (outcome_in result) }
 {
-    match one_file(&Emit { emission }, alloc, files, file, MODEL_LIMIT, first) {
+    match one_file(&Emit { emission }, alloc, files, file, MODEL_LIMIT, first, &mut Silent) {
         Ok(done) => Ok(Done {
             answer: Answer::Emit(done.answer),
             said: done.said,
@@ -150,7 +154,8 @@ fn perform_houdini<F: Files>(
     ensures does { Does (Some (houdini file.now asked)) (F.told files.old) (F.faults files.old) (F.faults files.new)
         first.new.items [] (outcome_in result) }
 {
-    match one_file(&Houdini { asked }, alloc, files, file, MODEL_LIMIT, first) {
+    let counted = Counted::Whole;
+    match one_file(&Houdini { asked, counted }, alloc, files, file, MODEL_LIMIT, first, &mut Silent) {
         Ok(done) => Ok(Done {
             answer: Answer::Houdini(done.answer),
             said: done.said,
@@ -175,7 +180,8 @@ fn perform_bmc<F: Files>(
     ensures does { Does (Some (bmc file.now bound)) (F.told files.old) (F.faults files.old) (F.faults files.new)
         first.new.items [] (outcome_in result) }
 {
-    match one_file(&Bmc { bound }, alloc, files, file, MODEL_LIMIT, first) {
+    let counted = Counted::Whole;
+    match one_file(&Bmc { bound, counted }, alloc, files, file, MODEL_LIMIT, first, &mut Silent) {
         Ok(done) => Ok(Done {
             answer: Answer::Bmc(done.answer),
             said: done.said,
@@ -190,7 +196,7 @@ fn perform_sample(alloc: Global, number: u64) -> Result<Done<Answer>, LoadError>
     ensures due { due_in result ≡ due_of (Some (sample number)) [] [] (outcome_in result) }
     ensures ends { EndsNone 0 0 [] [] (λ text other a. OfSample (IsSampleAnswer number) a) (outcome_in result) }
 {
-    match no_file(&Sample { number }, alloc) {
+    match no_file(&Sample { number }, alloc, &mut Silent) {
         Ok(done) => Ok(Done {
             answer: Answer::Sample(done.answer),
             said: done.said,
@@ -234,7 +240,7 @@ fn usage(alloc: Global) -> Result<Done<Answer>, LoadError>
     ensures due { due_in result ≡ due_of None [] [] (outcome_in result) }
     ensures ends { EndsNone 0 0 [] [] (λ text other a. IsUsage a) (outcome_in result) }
 {
-    match no_file(&Usage, alloc) {
+    match no_file(&Usage, alloc, &mut Silent) {
         Ok(done) => Ok(Done {
             answer: Answer::Usage,
             said: done.said,

@@ -4,6 +4,7 @@ ghost use Rattle.ivy_run.specs.Usage.{usage_due};
 use base::Mem;
 use command_parts::complaint;
 use commands::{Command, Said};
+use progress::Progress;
 use std::alloc::Global;
 
 /// No command.
@@ -17,7 +18,13 @@ impl Command for Usage {
 
     ghost due = { λ c first second a. usage_due };
 
-    fn judge(&self, alloc: Global, first: &[u8], second: &[u8]) -> Mem<()> {
+    fn judge<P: Progress>(
+        &self,
+        alloc: Global,
+        first: &[u8],
+        second: &[u8],
+        progress: &mut P,
+    ) -> Mem<()> {
         Ok(())
     }
 

@@ -8,7 +8,9 @@ use Rattle.rml_report.specs.declared.report.Report.{Report}
 use Rattle.rml_report.specs.declared.report.Verdict.{Verdict}
 use Rattle.rml_report.specs.declared.report.Verdict.TheVariants as verdict
 use Rattle.ea_decide.specs.Passing.{Ceilings}
-use Rattle.verdicts.specs.Answers.{IsReport}
+use Rattle.lean_decide.specs.declared.settling.Counted.{Counted}
+use Rattle.lean_decide.specs.declared.settling.Counted.TheVariants.{Whole}
+use Rattle.verdicts.specs.Answers.{IsReportBy}
 use Rattle.commands.specs.Due.{Due}
 use Rattle.command_parts.specs.ModelTexts.{IsTheModel, IsTheFault}
 use Rattle.command_parts.specs.Saying.{on_out}
@@ -17,17 +19,25 @@ use Rattle.model_commands.specs.declared.check.CheckAnswer.{CheckAnswer}
 use Rattle.model_commands.specs.declared.check.CheckAnswer.TheVariants.{Checked, Fault}
 
 -- The report has all groups of the model, and each of its lines says what is so. Where it says `inductive`, no run of
--- the model aborts or breaks a conjecture. It is made of right answers to all goals under the limits: a group that
--- fails is shown by its first failing path, and one of which no path fails by its first path that was left open, if any
--- was.
-pub record IsCheckedModel (limits : Ceilings) (model : ModelTree) (report : Report) : Type 0 where
+-- the model aborts or breaks a conjecture. It is made of right answers to all goals under the limits, on the counts of
+-- whole sentences or of lean ones: a group that fails is shown by its first failing path, and one of which no path fails
+-- by its first path that was left open, if any was.
+pub record IsCheckedBy (counted : Counted) (limits : Ceilings) (model : ModelTree) (report : Report) : Type 0 where
   pub reports : Reports model report
   pub safe : report.verdict ≡ verdict.Inductive → Safe model
-  pub now : IsReport limits model report
+  pub now : IsReportBy counted limits model report
+
+abbrev pub IsCheckAnswerBy : Counted → Ceilings → List ℕ → CheckAnswer → Type 0
+IsCheckAnswerBy counted limits text (Checked model report) =
+    IsTheModel text model × IsCheckedBy counted limits model report
+IsCheckAnswerBy counted limits text (Fault fault) = IsTheFault text fault
+
+-- by the counts of whole sentences
+abbrev pub IsCheckedModel : Ceilings → ModelTree → Report → Type 0
+IsCheckedModel limits model report = IsCheckedBy Whole limits model report
 
 abbrev pub IsCheckAnswer : Ceilings → List ℕ → CheckAnswer → Type 0
-IsCheckAnswer limits text (Checked model report) = IsTheModel text model × IsCheckedModel limits model report
-IsCheckAnswer limits text (Fault fault) = IsTheFault text fault
+IsCheckAnswer limits text answer = IsCheckAnswerBy Whole limits text answer
 
 abbrev pub verdict_status : Verdict → ℕ
 verdict_status verdict.Inductive = 0

@@ -2,23 +2,26 @@
 ghost use Rattle.std.specs.Prelude.{◌≡◌, IfOk};
 ghost use Rattle.command_line.specs.Asking.{IsInRange};
 ghost use Rattle.command_parts.specs.Limits.{ceilings_of};
-ghost use Rattle.model_commands.specs.Check.{IsCheckAnswer, IsCheckedModel, check_due, verdict_status};
+ghost use Rattle.model_commands.specs.Check.{IsCheckAnswerBy, IsCheckedBy, check_due, verdict_status};
 ghost use Rattle.command_parts.specs.ModelTexts.{IsTheModel};
 
 use base::{Mem, Refused};
 use command_line::Asked;
 use command_parts::{limits_of, read_model, say_model_fault, shown};
 use commands::{Command, Said};
+use lean_decide::Counted;
+use progress::Progress;
 use rml_command::Checked;
 use rml_lex::Fault;
 use rml_report::{Report, Verdict, render};
 use std::alloc::{AllocError, Global};
-use verdicts::report;
+use verdicts::report_by;
 
-/// The command, with what it may spend on each goal and on the axioms.
+/// The command, with what it may spend on each goal and on the axioms, and on which counts.
 #[derive(Drop)]
 pub struct Check {
     pub asked: Asked,
+    pub counted: Counted,
     ghost in_range: { IsInRange asked },
 }
 
@@ -32,27 +35,39 @@ pub enum CheckAnswer {
 }
 
 /// The report on a model.
-pub fn report_on(alloc: Global, model: &Checked, asked: Asked) -> Mem<Report>
+pub fn report_on<P: Progress>(
+    alloc: Global,
+    model: &Checked,
+    asked: Asked,
+    counted: Counted,
+    progress: &mut P,
+) -> Mem<Report>
     requires { IsInRange asked }
-    ensures { IfOk result (IsCheckedModel (ceilings_of asked) model.now) }
+    ensures { IfOk result (IsCheckedBy counted (ceilings_of asked) model.now) }
 {
     verdicts::report_law();
     rml_report::report_law();
     // That the model is in the fragment is known where it is looked at.
     let _model = model.model();
     let limits = limits_of(asked);
-    let report = report(alloc, model, &limits)?;
+    let report = report_by(alloc, model, counted, &limits, progress)?;
     Ok(report)
 }
 
 // The answer to the text of a model.
-fn judge_model(alloc: Global, text: &[u8], asked: Asked) -> Mem<CheckAnswer>
+fn judge_model<P: Progress>(
+    alloc: Global,
+    text: &[u8],
+    asked: Asked,
+    counted: Counted,
+    progress: &mut P,
+) -> Mem<CheckAnswer>
     requires { IsInRange asked }
-    ensures { IfOk result (IsCheckAnswer (ceilings_of asked) text.now) }
+    ensures { IfOk result (IsCheckAnswerBy counted (ceilings_of asked) text.now) }
 {
     match read_model(alloc, text) {
         Ok(model) => {
-            match report_on(alloc, &model, asked) {
+            match report_on(alloc, &model, asked, counted, progress) {
                 Ok(report) => Ok(CheckAnswer::Checked { model, report }),
                 Err(wanting) => {
                     drop(model);
@@ -79,12 +94,18 @@ pub fn status_of(verdict: Verdict) -> u8
 impl Command for Check {
     type Answer = CheckAnswer;
 
-    ghost is_answer = { λ c first second a. IsCheckAnswer (ceilings_of c.asked) first a };
+    ghost is_answer = { λ c first second a. IsCheckAnswerBy c.counted (ceilings_of c.asked) first a };
 
     ghost due = { λ c first second a. check_due first a };
 
-    fn judge(&self, alloc: Global, first: &[u8], second: &[u8]) -> Mem<CheckAnswer> {
-        judge_model(alloc, first, self.asked)
+    fn judge<P: Progress>(
+        &self,
+        alloc: Global,
+        first: &[u8],
+        second: &[u8],
+        progress: &mut P,
+    ) -> Mem<CheckAnswer> {
+        judge_model(alloc, first, self.asked, self.counted, progress)
     }
 
     fn say(&self, alloc: Global, first: &[u8], second: &[u8], answer: &CheckAnswer) -> Mem<Said> {

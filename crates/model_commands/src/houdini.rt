@@ -3,21 +3,24 @@ ghost use Rattle.std.specs.Prelude.{◌≡◌, IfOk};
 ghost use Rattle.command_line.specs.Asking.{IsInRange};
 ghost use Rattle.rml_houdini.specs.Greatest.{IsFound};
 ghost use Rattle.command_parts.specs.Limits.{ceilings_of};
-ghost use Rattle.model_commands.specs.Houdini.{IsHoudiniAnswer, houdini_due, houdini_status};
+ghost use Rattle.model_commands.specs.Houdini.{IsHoudiniAnswerBy, houdini_due, houdini_status};
 
 use base::{Mem, Refused};
 use command_line::Asked;
 use command_parts::{limits_of, read_model, say_model_fault, shown};
 use commands::{Command, Said};
+use lean_decide::Counted;
+use progress::Progress;
 use rml_command::Checked;
 use rml_houdini::{greatest, render};
 use rml_lex::Fault;
 use std::alloc::{AllocError, Global};
 
-/// The command, with what it may spend on each goal.
+/// The command, with what it may spend on each goal, and on which counts.
 #[derive(Drop)]
 pub struct Houdini {
     pub asked: Asked,
+    pub counted: Counted,
     ghost in_range: { IsInRange asked },
 }
 
@@ -34,22 +37,34 @@ pub enum HoudiniAnswer {
 }
 
 // What is found under the limits that were asked for.
-fn greatest_of(alloc: Global, model: &Checked, asked: Asked) -> Mem<rml_houdini::Houdini>
+fn greatest_of<P: Progress>(
+    alloc: Global,
+    model: &Checked,
+    asked: Asked,
+    counted: Counted,
+    progress: &mut P,
+) -> Mem<rml_houdini::Houdini>
     requires { IsInRange asked }
-    ensures { IfOk result (IsFound (ceilings_of asked) model.now) }
+    ensures { IfOk result (IsFound counted (ceilings_of asked) model.now) }
 {
     let limits = limits_of(asked);
-    let houdini = greatest(alloc, model, &limits)?;
+    let houdini = greatest(alloc, model, counted, &limits, progress)?;
     Ok(houdini)
 }
 
 // The answer to the text of a model.
-fn judge_conjectures(alloc: Global, text: &[u8], asked: Asked) -> Mem<HoudiniAnswer>
+fn judge_conjectures<P: Progress>(
+    alloc: Global,
+    text: &[u8],
+    asked: Asked,
+    counted: Counted,
+    progress: &mut P,
+) -> Mem<HoudiniAnswer>
     requires { IsInRange asked }
-    ensures { IfOk result (IsHoudiniAnswer (ceilings_of asked) text.now) }
+    ensures { IfOk result (IsHoudiniAnswerBy counted (ceilings_of asked) text.now) }
 {
     match read_model(alloc, text) {
-        Ok(model) => match greatest_of(alloc, &model, asked) {
+        Ok(model) => match greatest_of(alloc, &model, asked, counted, progress) {
             Ok(houdini) => Ok(HoudiniAnswer::Found { model, houdini }),
             Err(wanting) => {
                 drop(model);
@@ -77,12 +92,18 @@ fn status_of(houdini: &rml_houdini::Houdini) -> u8
 impl Command for Houdini {
     type Answer = HoudiniAnswer;
 
-    ghost is_answer = { λ c first second a. IsHoudiniAnswer (ceilings_of c.asked) first a };
+    ghost is_answer = { λ c first second a. IsHoudiniAnswerBy c.counted (ceilings_of c.asked) first a };
 
     ghost due = { λ c first second a. houdini_due first a };
 
-    fn judge(&self, alloc: Global, first: &[u8], second: &[u8]) -> Mem<HoudiniAnswer> {
-        judge_conjectures(alloc, first, self.asked)
+    fn judge<P: Progress>(
+        &self,
+        alloc: Global,
+        first: &[u8],
+        second: &[u8],
+        progress: &mut P,
+    ) -> Mem<HoudiniAnswer> {
+        judge_conjectures(alloc, first, self.asked, self.counted, progress)
     }
 
     fn say(&self, alloc: Global, first: &[u8], second: &[u8], answer: &HoudiniAnswer) -> Mem<Said> {

@@ -12,6 +12,8 @@ use command_line::default_asked;
 use command_parts::{read_model, say_model_fault, shown};
 use commands::{Command, Said};
 use goal_number::goal_count;
+use lean_decide::Counted;
+use progress::Progress;
 use rml_command::Checked;
 use rml_lex::Fault;
 use rml_report::{Report, Verdict};
@@ -42,14 +44,19 @@ pub enum SampleAnswer {
 }
 
 // The report on the model of the text.
-fn judge_text(alloc: Global, number: u64, text: &[u8]) -> Mem<SampleAnswer>
+fn judge_text<P: Progress>(
+    alloc: Global,
+    number: u64,
+    text: &[u8],
+    progress: &mut P,
+) -> Mem<SampleAnswer>
     requires { text.now ≡ sample_text number }
     ensures { IfOk result (IsSampleAnswer number) }
 {
     let bytes = text.len() as u64;
     match read_model(alloc, text) {
         Ok(model) => {
-            let sampled = measured(alloc, number, &model, bytes);
+            let sampled = measured(alloc, number, &model, bytes, progress);
             drop(model);
             Ok(SampleAnswer::Sampled(sampled?))
         }
@@ -59,12 +66,18 @@ fn judge_text(alloc: Global, number: u64, text: &[u8]) -> Mem<SampleAnswer>
 }
 
 // The report on the model, and its numbers.
-fn measured(alloc: Global, number: u64, model: &Checked, bytes: u64) -> Mem<Sampled>
+fn measured<P: Progress>(
+    alloc: Global,
+    number: u64,
+    model: &Checked,
+    bytes: u64,
+    progress: &mut P,
+) -> Mem<Sampled>
     requires model { IsTheModel (sample_text number) model.now }
     requires bytes { bytes ≡ length (sample_text number) }
     ensures { IfOk result (IsSampled number) }
 {
-    let report = report_on(alloc, model, default_asked())?;
+    let report = report_on(alloc, model, default_asked(), Counted::Whole, progress)?;
     let goals = goal_count(model);
     Ok(Sampled {
         bytes,
@@ -73,12 +86,12 @@ fn measured(alloc: Global, number: u64, model: &Checked, bytes: u64) -> Mem<Samp
     })
 }
 
-fn judge_sample(alloc: Global, number: u64) -> Mem<SampleAnswer>
+fn judge_sample<P: Progress>(alloc: Global, number: u64, progress: &mut P) -> Mem<SampleAnswer>
     requires { number ≤ 40 }
     ensures { IfOk result (IsSampleAnswer number) }
 {
     let text = sample_text(alloc, number)?;
-    let answer = judge_text(alloc, number, &text)?;
+    let answer = judge_text(alloc, number, &text, progress)?;
     Ok(answer)
 }
 
@@ -134,8 +147,14 @@ impl Command for Sample {
 
     ghost due = { λ c first second a. sample_due c.number a };
 
-    fn judge(&self, alloc: Global, first: &[u8], second: &[u8]) -> Mem<SampleAnswer> {
-        judge_sample(alloc, self.number)
+    fn judge<P: Progress>(
+        &self,
+        alloc: Global,
+        first: &[u8],
+        second: &[u8],
+        progress: &mut P,
+    ) -> Mem<SampleAnswer> {
+        judge_sample(alloc, self.number, progress)
     }
 
     fn say(&self, alloc: Global, first: &[u8], second: &[u8], answer: &SampleAnswer) -> Mem<Said> {

@@ -17,6 +17,9 @@ pub enum Work {
 pub trait Progress {
     /// So many of all are done.
     fn tell(&mut self, work: Work, done: u64, all: u64);
+
+    /// Nothing more will be told: what is shown of it may go.
+    fn end(&mut self);
 }
 
 /// What hears it, and does nothing.
@@ -25,4 +28,6 @@ pub struct Silent;
 
 impl Progress for Silent {
     fn tell(&mut self, work: Work, done: u64, all: u64) {}
+
+    fn end(&mut self) {}
 }

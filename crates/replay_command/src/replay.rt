@@ -10,6 +10,7 @@ use base::{Mem, Refused, push_number, push_text};
 use command_parts::{complaint, read_model, say_model_fault, shown};
 use commands::{Command, Said};
 use printed_report::{Printed, Unread};
+use progress::Progress;
 use report_read::read_report;
 use report_replay::{Judged, judge, judgement_law};
 use rml_command::Checked;
@@ -121,7 +122,13 @@ impl Command for Replay {
 
     ghost due = { λ c first second a. replay_due first a };
 
-    fn judge(&self, alloc: Global, first: &[u8], second: &[u8]) -> Mem<ReplayAnswer> {
+    fn judge<P: Progress>(
+        &self,
+        alloc: Global,
+        first: &[u8],
+        second: &[u8],
+        progress: &mut P,
+    ) -> Mem<ReplayAnswer> {
         judge_texts(alloc, first, second)
     }
 

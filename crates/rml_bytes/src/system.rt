@@ -93,6 +93,53 @@ impl<R: rt::Files + Drop> Files for DiskFiles<R> {
     }
 }
 
+/// The name of the file that is standard input.
+const INPUT: &str = "-";
+
+/// The files of the system, where the name `-` is that of a reader, as of standard input. They tell nothing.
+#[derive(Drop)]
+pub struct InputFiles<R: rt::Files + Drop, I: Read + Drop> {
+    disk: DiskFiles<R>,
+    input: I,
+}
+
+impl<R: rt::Files + Drop, I: Read + Drop> Model for InputFiles<R, I> {
+    ghost use Rattle.std.specs.Prelude.{ℕ};
+
+    ghost Value = { ℕ };
+
+    ghost view = { λ f. f.disk };
+}
+
+impl<R: rt::Files + Drop, I: Read + Drop> InputFiles<R, I> {
+    /// The files of a system and a reader, of which none has failed so far.
+    pub fn new(system: R, input: I) -> Self
+        ensures { result ≡ 0 }
+    {
+        InputFiles {
+            disk: DiskFiles::new(system),
+            input,
+        }
+    }
+}
+
+impl<R: rt::Files + Drop, I: Read + Drop> Files for InputFiles<R, I> {
+    ghost told = { λ _ _. untold };
+
+    ghost faults = { λ f. f };
+
+    fn load(&mut self, name: &str, limit: u64, into: &mut Vec<u8>) -> Result<(), LoadError> {
+        if name != INPUT {
+            return self.disk.load(name, limit, into);
+        }
+        let result = read_whole(&mut self.input, limit, into);
+        if result == Err(LoadError::Failed) {
+            self.disk.faults = self.disk.faults.saturating_add(1);
+        }
+        result
+    }
+}
+
 /// Standard output or standard error, or any other writer.
 #[derive(Drop)]
 pub struct StdSink<W: Write + Drop> {

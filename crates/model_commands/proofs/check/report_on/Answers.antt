@@ -2,7 +2,7 @@
 use Rattle.std.proofs.Common.{subst}
 use Rattle.rml_report.specs.Reports.{Reports}
 use Rattle.ea_decide.specs.Passing.{Ceilings}
-use Rattle.verdicts.specs.Answers.{IsReport}
+use Rattle.verdicts.specs.Answers.{IsReportBy}
 use Rattle.command_parts.specs.Limits.{ceilings_of}
 use Rattle.model_commands.proofs.check.report_on.Goals as goal
 
@@ -11,9 +11,10 @@ returns c =
     let m = c.args.model.now in
     let report = c.in_ok-report.report in
     let limits = ceilings_of c.args.asked in
-    let made : IsReport limits m report =
-    subst (λ (l : Ceilings). IsReport l m report) c.limits_of-limits.ensures c.in_ok-report.ensures in
-    let right : Reports m report = c.report_law.ensures.right limits m report made in
+    let counted = c.args.counted in
+    let made : IsReportBy counted limits m report =
+    subst (λ (l : Ceilings). IsReportBy counted l m report) c.limits_of-limits.ensures c.in_ok-report.ensures in
+    let right : Reports m report = c.report_law.ensures.each counted limits m report made in
     record {
       reports = right;
       safe = c.report_law-2.ensures m report c.model-model.ensures.checked.model.fits right;

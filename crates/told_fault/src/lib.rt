@@ -1,0 +1,12 @@
+//! A fault of a model's text, told as compilers tell one: its line with a caret, what may stand there, and what is
+//! written in the place of what newcomers write.
+//!
+//! What is told beside a fault follows from the text alone: its bytes are no tokens, or its tokens no file, or it has a
+//! tree, which the faults of names and sorts leave as it is. So the text is read once more, and only where it is told.
+#![tactic(auto)]
+
+mod reading;
+mod telling;
+
+pub use reading::{Reading, read};
+pub use telling::fault_text;
