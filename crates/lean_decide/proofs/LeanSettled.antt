@@ -1,5 +1,5 @@
--- A decision by the lean sentence settles the goal by the lean counts.
-use Rattle.std.proofs.Common.{◌≡◌, ◌∙◌, Bool, false, true, Option, Some, None, refl, sym, subst}
+-- A decision by the lean sentence settles the goal by the lean counts; and what is counted of that is what it passes.
+use Rattle.std.proofs.Common.{◌≡◌, ◌∙◌, ℕ, Bool, false, true, Option, Some, None, refl, sym, subst}
 use Rattle.std.specs.Prelude.{MatchBool}
 use Rattle.lrat_check.specs.Checked.{Checked}
 use Rattle.rml_command.specs.Models.{ModelTree}
@@ -14,13 +14,15 @@ use Rattle.ea_decide.specs.declared.decided.Passed.{Passed}
 use Rattle.ea_decide.specs.declared.decided.Passed.TheVariants as passed
 use Rattle.ea_decide.specs.Passing.{Ceilings, Passes}
 use Rattle.ea_decide.specs.Decisions.{IsOver}
-use Rattle.pruned_decide.specs.Decisions.{lean_signature, lean_sentence}
+use Rattle.ea_decide.specs.declared.decided.Measured.TheVariants.{Within, Over}
+use Rattle.pruned_decide.specs.Decisions.{lean_signature, lean_sentence, IsMeasuredSmall}
 use Rattle.obligation_decide.specs.GoalPassing.{cause_of, first_cause}
 use Rattle.obligation_decide.specs.GoalDecisions.{IsFailing}
 use Rattle.obligation_decide.specs.declared.decision.Decision.{Decision}
 use Rattle.obligation_decide.specs.declared.decision.Decision.TheVariants.{Holds, Fails, Undecided}
 use Rattle.lean_decide.specs.Lean.{affected_refuting, IsDecidedBy, IsLeanDecision, too_large, decided}
 use Rattle.lean_decide.specs.Settled.{LeanPassesFirst, IsLeanLeftOpen}
+use Rattle.lean_decide.proofs.SameLimits.{never_conflicts}
 
 module _ (limits : Ceilings) (m : ModelTree) (goal : Goal) where
   abbrev LeanPasses : Option Passed → Type 0
@@ -37,7 +39,7 @@ module _ (limits : Ceilings) (m : ModelTree) (goal : Goal) where
       → LeanPassesFirst limits m goal (first_cause p)
   by_count p within h = subst (λ (b : Bool). BySize (first_cause p) b) (sym within) (p, h, refl)
 
-  by_formula : goal_passes_limit_by Affected m goal ≡ true → LeanPassesFirst limits m goal (Some cause.Formula)
+  pub by_formula : goal_passes_limit_by Affected m goal ≡ true → LeanPassesFirst limits m goal (Some cause.Formula)
   by_formula passes = subst (λ (b : Bool). BySize (Some cause.Formula) b) (sym passes) refl
 
   by_passed : (p : Passed) → goal_passes_limit_by Affected m goal ≡ false
@@ -47,6 +49,27 @@ module _ (limits : Ceilings) (m : ModelTree) (goal : Goal) where
   by_passed (passed.Conflicts n) within h = (by_count None within h.0, h.1, h.2)
   by_passed (passed.Terms n) within h = by_count (Some (passed.Terms n)) within h
   by_passed (passed.GroundSize n) within h = by_count (Some (passed.GroundSize n)) within h
+
+  -- a limit that is passed by its size leaves it open
+  passed_first : (p : Passed) → goal_passes_limit_by Affected m goal ≡ false → LeanPasses (Some p)
+      → IsLeanLeftOpen limits m goal (cause_of p)
+  passed_first (passed.Conflicts n) within h =
+      absurd (never_conflicts limits (lean_signature m.signature (affected_refuting m goal))
+      (lean_sentence m.signature (affected_refuting m goal)) n h)
+  passed_first (passed.Terms n) within h = by_count (Some (passed.Terms n)) within h
+  passed_first (passed.GroundSize n) within h = by_count (Some (passed.GroundSize n)) within h
+
+  pub lean_within : (size : ℕ) → goal_passes_limit_by Affected m goal ≡ false
+      → IsMeasuredSmall limits m.signature (affected_refuting m goal) (Within size)
+      → LeanPassesFirst limits m goal None
+  lean_within size within h = by_count None within h.0
+
+  pub lean_over : (p : Passed) (c : Cause) → c ≡ cause_of p → goal_passes_limit_by Affected m goal ≡ false
+      → IsMeasuredSmall limits m.signature (affected_refuting m goal) (Over p)
+      → LeanPassesFirst limits m goal (Some c) × IsLeanLeftOpen limits m goal c
+  lean_over p c is within h =
+      subst (λ (x : Cause). LeanPassesFirst limits m goal (Some x) × IsLeanLeftOpen limits m goal x) (sym is)
+      (by_count (Some p) within h, passed_first p within h)
 
   decided_as : (d e : Decision) → d ≡ e → IsDecidedBy limits m goal (affected_refuting m goal) d
       → IsDecidedBy limits m goal (affected_refuting m goal) e

@@ -7,7 +7,9 @@ use Rattle.fol_formula.specs.Syntax.{FormTree}
 use Rattle.pruning.specs.Pruned.{Flags, occurring_in, pruned_signature, renaming, Widens}
 use Rattle.pruning.specs.Renaming.{renamed_form}
 use Rattle.ea_decide.specs.Passing.{Ceilings}
+use Rattle.ea_decide.specs.Measuring.{IsMeasured}
 use Rattle.ea_decide.specs.Decisions.{IsDecided}
+use Rattle.ea_decide.specs.declared.decided.Measured.{Measured}
 use Rattle.ea_decide.specs.declared.decided.Decided.{Decided}
 use Rattle.ea_decide.specs.declared.decided.Decided.TheVariants.{Refuted, Satisfied, Over}
 
@@ -22,4 +24,10 @@ IsDecidedWidened limits whole kept small p (Over passed) = IsDecided limits smal
 abbrev pub IsDecidedPruned : Ceilings → Declared → FormTree → Decided → Type 0
 IsDecidedPruned limits whole p d =
     IsDecidedWidened limits whole (occurring_in whole p) (pruned_signature (occurring_in whole p) whole)
+    (renamed_form (renaming (occurring_in whole p)) p) d
+
+-- what is counted of the sentence in that signature
+abbrev pub IsMeasuredPruned : Ceilings → Declared → FormTree → Measured → Type 0
+IsMeasuredPruned limits whole p d =
+    IsMeasured limits (pruned_signature (occurring_in whole p) whole)
     (renamed_form (renaming (occurring_in whole p)) p) d

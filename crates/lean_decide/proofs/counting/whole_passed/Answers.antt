@@ -1,6 +1,6 @@
 use Rattle.ea_decide.specs.Passing.{ceilings}
 use Rattle.lean_decide.proofs.SameLimits.{over_by, within_by}
-use Rattle.lean_decide.proofs.settling.first_passed.Goals as goal
+use Rattle.lean_decide.proofs.counting.whole_passed.Goals as goal
 
 pub returns-in-Over : goal.returns-in-Over
 returns-in-Over c =

@@ -1,0 +1,77 @@
+// Which limit a goal passes by its size. Its refuting sentence is counted, whole or lean, and nothing is decided.
+ghost use Rattle.std.specs.Prelude.{◌≡◌, false, IfOk};
+ghost use Rattle.rml_command.specs.Goals.{IsGoal};
+ghost use Rattle.rml_wp.specs.declared.premises.Premises.TheVariants.{Affected};
+ghost use Rattle.rml_wp.specs.Preconditions.{goal_passes_limit_by};
+ghost use Rattle.ea_decide.specs.Passing.{ceilings};
+ghost use Rattle.lean_decide.specs.Lean.{affected_refuting};
+ghost use Rattle.lean_decide.specs.Settled.{IsPassing};
+ghost use Rattle.lean_decide.specs.declared.settling.Counted.TheVariants.{Whole, Lean};
+
+use base::{Mem, Refused};
+use fol_formula::Ea;
+use lrat_log::Limits;
+use obligation_decide::{Measured, cause_of, measure_where};
+use rml_command::{Checked, Goal};
+use rml_report::Cause;
+use rml_wp::{Premises, refuting_by};
+use std::alloc::{AllocError, Global};
+
+/// By the counts of its whole refuting sentence.
+pub fn whole_passed(
+    alloc: Global,
+    checked: &Checked,
+    goal: &Goal,
+    limits: &Limits,
+) -> Mem<Option<Cause>>
+    requires goal { IsGoal checked.now goal.now }
+    ensures { IfOk result (IsPassing Whole (ceilings limits.now) checked.now goal.now) }
+{
+    rml_wp::sentence_law();
+    match measure_where(alloc, checked, goal, &[], limits)? {
+        Measured::Over(cause) => Ok(Some(cause)),
+        Measured::Within(_) => Ok(None),
+    }
+}
+
+/// By those of its lean one. More than 2,147,483,648 constants are answered as want of memory.
+pub fn lean_passed(
+    alloc: Global,
+    checked: &Checked,
+    goal: &Goal,
+    limits: &Limits,
+) -> Mem<Option<Cause>>
+    requires goal { IsGoal checked.now goal.now }
+    ensures { IfOk result (IsPassing Lean (ceilings limits.now) checked.now goal.now) }
+{
+    match refuting_by(alloc, checked, Premises::Affected, goal) {
+        Ok(sentence) => {
+            let passed = sentence_passed(alloc, checked, goal, &sentence, limits)?;
+            Ok(passed)
+        }
+        Err(Refused::NoMemory) => Err(AllocError),
+        Err(Refused::For(_)) => Ok(Some(Cause::Formula)),
+    }
+}
+
+// The same, given its refuting sentence with the affected axioms alone as premises.
+fn sentence_passed(
+    alloc: Global,
+    checked: &Checked,
+    goal: &Goal,
+    sentence: &Ea,
+    limits: &Limits,
+) -> Mem<Option<Cause>>
+    requires goal { IsGoal checked.now goal.now }
+    requires sentence { sentence.now ≡ affected_refuting checked.now goal.now }
+    requires within { goal_passes_limit_by Affected checked.now goal.now ≡ false }
+    ensures { IfOk result (IsPassing Lean (ceilings limits.now) checked.now goal.now) }
+{
+    rml_wp::sentence_law();
+    let signature = checked.model().signature();
+    match pruned_decide::measure(alloc, signature, checked.strata(), sentence, limits) {
+        Ok(ea_decide::Measured::Within(_)) => Ok(None),
+        Ok(ea_decide::Measured::Over(passed)) => Ok(Some(cause_of(passed))),
+        Err(Refused::NoMemory) | Err(Refused::For(_)) => Err(AllocError),
+    }
+}
