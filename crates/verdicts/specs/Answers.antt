@@ -45,8 +45,10 @@ abbrev pub AreAnswers : Counted → Ceilings → ModelTree → List Goal → Lis
 AreAnswers counted limits m [] [] = Unit {0}
 AreAnswers counted limits m [] (a ∷ more) = ⊥
 AreAnswers counted limits m (goal ∷ rest) [] = ⊥
-AreAnswers counted limits m (goal ∷ rest) (safe ∷ more) = IsGoalAnswer counted limits m goal safe × AreAnswers counted limits m rest more
-AreAnswers counted limits m (goal ∷ rest) (failing f ∷ more) = IsGoalAnswer counted limits m goal (failing f) × (more ≡ [])
+AreAnswers counted limits m (goal ∷ rest) (safe ∷ more) =
+    IsGoalAnswer counted limits m goal safe × AreAnswers counted limits m rest more
+AreAnswers counted limits m (goal ∷ rest) (failing f ∷ more) =
+    IsGoalAnswer counted limits m goal (failing f) × (more ≡ [])
 AreAnswers counted limits m (goal ∷ rest) (left_open c ∷ more) =
     IsGoalAnswer counted limits m goal (left_open c) × AreAnswers counted limits m rest more
 
@@ -76,13 +78,15 @@ abbrev pub printed : ℕ → List Goal → List GoalAnswer → Answer
 printed paths goals answers = fails_or paths (first_failing answers) (open_or_holds goals answers)
 
 -- Right answers to these goals make this answer.
-pub record IsAnswerTo (counted : Counted) (limits : Ceilings) (m : ModelTree) (paths : ℕ) (goals : List Goal) (a : Answer) : Type 0 where
+pub record IsAnswerTo (counted : Counted) (limits : Ceilings) (m : ModelTree) (paths : ℕ) (goals : List Goal)
+    (a : Answer) : Type 0 where
   pub answers : List GoalAnswer
   pub right : AreAnswers counted limits m goals answers
   pub is : a ≡ printed paths goals answers
 
 abbrev pub IsGroupAnswer : Counted → Ceilings → ModelTree → goals.Group → Answer → Type 0
-IsGroupAnswer counted limits m group a = IsAnswerTo counted limits m (length (stage_paths m group.stage)) (group_goals m group) a
+IsGroupAnswer counted limits m group a =
+    IsAnswerTo counted limits m (length (stage_paths m group.stage)) (group_goals m group) a
 
 abbrev pub IsGroupNow : Counted → Ceilings → ModelTree → Group → Type 0
 IsGroupNow counted limits m g = IsGroupAnswer counted limits m (head_of g) g.answer

@@ -11,18 +11,28 @@ use crate::deciding::decide_group;
 use base::{Mem, Row};
 use lean_decide::{Counted, settle_axioms};
 use lrat_log::Limits;
+use progress::{Progress, Work};
 use rml_command::{About, Checked, Stage};
 use rml_report::{Answer, Group, Report, Verdict};
 use std::alloc::Global;
 
+// How many groups a model has: for abort and for each conjecture one of init and of each action, and one of final.
+fn group_count(checked: &Checked) -> u64 {
+    let model = checked.model();
+    let blocks = (model.actions().len() as u64).saturating_add(1);
+    let targets = (model.conjectures().len() as u64).saturating_add(1);
+    blocks.saturating_mul(targets).saturating_add(1)
+}
+
 // Adds the groups of init or an action, in order.
-fn add_stage(
+fn add_stage<P: Progress>(
     alloc: Global,
     checked: &Checked,
     counted: Counted,
     limits: &Limits,
     stage: Stage,
     groups: &mut Vec<Group>,
+    progress: &mut P,
 ) -> Mem<()>
     requires stage { IsBeforeFinal checked.now stage }
     ensures heads { OnOk result (map head_of groups.new.items
@@ -30,28 +40,40 @@ fn add_stage(
     ensures now { OnOk result (AllByRecursion (IsGroupNow counted (ceilings limits.now) checked.now) groups.old.items
         → AllByRecursion (IsGroupNow counted (ceilings limits.now) checked.now) groups.new.items) }
 {
+    let all = group_count(checked);
     let abort = decide_group(alloc, checked, counted, limits, stage, About::Abort)?;
     groups.push(abort)?;
+    progress.tell(Work::Groups, groups.len() as u64, all);
     let count = checked.model().conjectures().len() as u32;
     for k in 0..count {
         let about = About::Conjecture(k);
         groups.push(decide_group(alloc, checked, counted, limits, stage, about)?)?;
+        progress.tell(Work::Groups, groups.len() as u64, all);
     }
     Ok(())
 }
 
 // All groups in order.
-fn all_groups(
+fn all_groups<P: Progress>(
     alloc: Global,
     checked: &Checked,
     counted: Counted,
     limits: &Limits,
+    progress: &mut P,
 ) -> Mem<Vec<Group>>
     ensures now { IfOk result (λ gs. AllByRecursion (IsGroupNow counted (ceilings limits.now) checked.now) gs.items) }
     ensures heads { IfOk result (λ gs. map head_of gs.items ≡ groups_of checked.now) }
 {
     let mut groups = Vec::new(alloc);
-    add_stage(alloc, checked, counted, limits, Stage::Init, &mut groups)?;
+    add_stage(
+        alloc,
+        checked,
+        counted,
+        limits,
+        Stage::Init,
+        &mut groups,
+        progress,
+    )?;
     let count = checked.model().actions().len() as u32;
     for a in 0..count {
         add_stage(
@@ -61,9 +83,11 @@ fn all_groups(
             limits,
             Stage::Action(a),
             &mut groups,
+            progress,
         )?;
     }
     groups.push(decide_group(alloc, checked, counted, limits, Stage::Final, About::Abort)?)?;
+    progress.tell(Work::Groups, groups.len() as u64, group_count(checked));
     Ok(groups)
 }
 
@@ -94,11 +118,17 @@ fn verdict_for(groups: &[Group]) -> Verdict
     }
 }
 
-/// The report on a model: what is so of each goal and of the axioms, or the limit that they pass.
-pub fn report(alloc: Global, checked: &Checked, limits: &Limits) -> Mem<Report>
+/// The report on a model: what is so of each goal and of the axioms, or the limit that they pass. Each group that was
+/// decided is told.
+pub fn report<P: Progress>(
+    alloc: Global,
+    checked: &Checked,
+    limits: &Limits,
+    progress: &mut P,
+) -> Mem<Report>
     ensures { IfOk result (IsReport (ceilings limits.now) checked.now) }
 {
-    let report = report_by(alloc, checked, Counted::Whole, limits)?;
+    let report = report_by(alloc, checked, Counted::Whole, limits, progress)?;
     Ok(report)
 }
 
@@ -106,17 +136,28 @@ pub fn report(alloc: Global, checked: &Checked, limits: &Limits) -> Mem<Report>
 /// causes name the counts of that. The axioms, and the trials of smaller counterexamples, are counted whole: of a goal
 /// that passes a limit whole, the first counterexample is shown, mostly, and `least` says which limit the trial passes.
 /// A goal with more than 2,147,483,648 constants is answered as want of memory.
-pub fn lean_report(alloc: Global, checked: &Checked, limits: &Limits) -> Mem<Report>
+pub fn lean_report<P: Progress>(
+    alloc: Global,
+    checked: &Checked,
+    limits: &Limits,
+    progress: &mut P,
+) -> Mem<Report>
     ensures { IfOk result (IsLeanReport (ceilings limits.now) checked.now) }
 {
-    let report = report_by(alloc, checked, Counted::Lean, limits)?;
+    let report = report_by(alloc, checked, Counted::Lean, limits, progress)?;
     Ok(report)
 }
 
-fn report_by(alloc: Global, checked: &Checked, counted: Counted, limits: &Limits) -> Mem<Report>
+fn report_by<P: Progress>(
+    alloc: Global,
+    checked: &Checked,
+    counted: Counted,
+    limits: &Limits,
+    progress: &mut P,
+) -> Mem<Report>
     ensures { IfOk result (IsReportBy counted (ceilings limits.now) checked.now) }
 {
-    let groups = all_groups(alloc, checked, counted, limits)?;
+    let groups = all_groups(alloc, checked, counted, limits, progress)?;
     let axioms = settle_axioms(alloc, checked, limits)?;
     let verdict = verdict_for(&groups);
     Ok(Report {

@@ -5,7 +5,7 @@ use Rattle.verdicts.proofs.Groups.{pushed_all, pushed_heads}
 use Rattle.verdicts.proofs.reporting.add_stage.Goals as goal
 
 pub loop-k-preserved : goal.loop-k-preserved
-loop-k-preserved c = record {
+loop-k-preserved g c = record {
   count = c.loop-k.invariant.count;
   heads = pushed_heads head_of _ c.loop-k.k _ c.loop-k.groups.items c.push-in-loop-k.new.self.items
       c.in_ok-decide_group.field-0 _ c.loop-k-test.true c.in_ok-push-2.ensures.items c.in_ok-decide_group.ensures.head

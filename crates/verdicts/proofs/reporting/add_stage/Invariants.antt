@@ -9,7 +9,7 @@ use Rattle.verdicts.specs.Answers.{IsGroupNow}
 use Rattle.verdicts.proofs.reporting.add_stage.Given as goal
 
 abbrev pub invariant-loop-k : goal.invariant-loop-k
-invariant-loop-k l = record {
+invariant-loop-k g l = record {
   count : l.count ≡ length l.checked.conjectures;
   heads : map head_of l.groups.items ++ map (λ k. record { stage = l.fn.stage; about = about.Conjecture k })
       (count_from l.k (l.count - l.k))

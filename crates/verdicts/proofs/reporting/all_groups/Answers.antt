@@ -7,7 +7,7 @@ use Rattle.verdicts.proofs.Groups.{joined_heads, last_head}
 use Rattle.verdicts.proofs.reporting.all_groups.Goals as goal
 
 pub loop-a-preserved : goal.loop-a-preserved
-loop-a-preserved c = record {
+loop-a-preserved g c = record {
   count = c.loop-a.invariant.count;
   heads = joined_heads (λ a. stage_groups c.args.checked.now (stage.Action a)) c.loop-a.a _
       (map head_of c.loop-a.groups.items) (map head_of c.add_stage-in-loop-a.new.groups.items)
@@ -17,7 +17,7 @@ loop-a-preserved c = record {
 }
 
 pub returns-clause-heads : goal.returns-clause-heads
-returns-clause-heads c =
+returns-clause-heads g c =
     last_head head_of (λ a. stage_groups c.args.checked.now (stage.Action a)) c.loop-a.a _ c.loop-a.groups.items
     c.push.new.self.items c.in_ok-decide_group.field-0 (record { stage = stage.Final; about = about.Abort })
     (groups_of c.args.checked.now) c.loop-a-test.false c.in_ok-push.ensures.items c.in_ok-decide_group.ensures.head

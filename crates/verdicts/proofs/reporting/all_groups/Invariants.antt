@@ -10,7 +10,7 @@ use Rattle.verdicts.specs.Answers.{IsGroupNow}
 use Rattle.verdicts.proofs.reporting.all_groups.Given as goal
 
 abbrev pub invariant-loop-a : goal.invariant-loop-a
-invariant-loop-a l = record {
+invariant-loop-a g l = record {
   count : l.count ≡ length l.checked.actions;
   heads : map head_of l.groups.items ++ (flat_map (λ a. stage_groups l.fn.checked (stage.Action a))
       (count_from l.a (l.count - l.a)) ++ record { stage = stage.Final; about = about.Abort } ∷ [])
