@@ -20,7 +20,7 @@ use Rattle.rml_command.specs.declared.goal.Goal.{Goal}
 use Rattle.rml_command.specs.declared.goal.Stage.{Stage}
 use Rattle.rml_command.specs.declared.goal.Stage.TheVariants as stage
 use Rattle.rml_wp.specs.declared.premises.Premises.TheVariants.{Affected}
-use Rattle.rml_wp.specs.Preconditions.{conjectures_of, goal_precondition_by, parts_before}
+use Rattle.rml_wp.specs.Preconditions.{conjectures_of, goal_precondition_by, parts_before, refuting_by}
 use Rattle.rml_wp.specs.Laws.{RefutingByIsExact, AffectedRefutingIsSame}
 use Rattle.rml_wp.specs.Added.{AreAdded, refuting_all_by, RefutingSentencesFit, NoPartsAreAdded}
 use Rattle.ea_decide.specs.GroundForm.{skolem_sentence}
@@ -134,12 +134,16 @@ module _ (m : ModelTree) (goal : Goal) (a : Assumed) where
         (fit Affected m held [] goal checked g added).fits)
 
   -- with the axioms it is a refuting sentence of the goal
+  pub is_whole : a.lawful ≡ true
+      → assumed_sentence m a goal ≡ refuting_by Affected m (conjectures_of m a.held.items) goal
+  is_whole lawful =
+      part-whole a.lawful goal.stage m.axioms (conjectures_of m a.held.items) (goal_precondition_by Affected m goal)
+      lawful
+
   pub is_refuting : NoPartsAreAdded → a.lawful ≡ true → (p : FormTree) → p ≡ assumed_sentence m a goal
       → p ≡ refuting_all_by Affected m (conjectures_of m a.held.items) [] goal
   is_refuting none lawful p is =
-      is
-      ∙ part-whole a.lawful goal.stage m.axioms (conjectures_of m a.held.items) (goal_precondition_by Affected m goal)
-      lawful ∙ sym (none Affected m (conjectures_of m a.held.items) goal)
+      is ∙ is_whole lawful ∙ sym (none Affected m (conjectures_of m a.held.items) goal)
 
 -- without its constants a model of the sentence is a structure of the signature
 pub met_fits : FittingIsKept → EachIsSkolemised → (sig : Declared) (p : FormTree) (t : Tables)

@@ -19,6 +19,7 @@ use Rattle.rml_report.specs.declared.cause.Cause.{Cause}
 use Rattle.ea_decide.specs.Passing.{Ceilings}
 use Rattle.obligation_decide.specs.GoalDecisions.{HasNoneBy}
 use Rattle.rml_houdini.specs.Subsets.{Has, IsWithin, IsInductive}
+use Rattle.lean_decide.specs.declared.settling.Counted.{Counted}
 use Rattle.rml_houdini.specs.Rounds.{group_at, stage_goals, goals_about, conjecture_stages, IsSafe, IsFirstFailing}
 use Rattle.rml_houdini.specs.Rounds.{AreSettled}
 use Rattle.rml_houdini.specs.Laws.{BrokenIsNowhere, SettledIsInductive}
@@ -93,9 +94,9 @@ module _ (m : ModelTree) (held : List ℕ) where
       all_append (IsAboutOneOf held) (stage_goals m held s) (flat_map (λ s. stage_goals m held s) ss)
       (behind-stage s held (λ n h. h)) (behind-stages ss)
 
-  pub about_one : (limits : Ceilings) (shown : Counterexample)
-      → IsFirstFailing limits m held (goals_about m held) shown → IsAboutOneOf held shown.goal
-  about_one limits shown h =
+  pub about_one : (counted : Counted) (limits : Ceilings) (shown : Counterexample)
+      → IsFirstFailing counted limits m held (goals_about m held) shown → IsAboutOneOf held shown.goal
+  about_one counted limits shown h =
       (all_back (IsAboutOneOf held) h.before (shown.goal ∷ h.behind)
       (subst (λ (gs : List Goal). AllByRecursion (IsAboutOneOf held) gs) h.order
       (behind-stages (conjecture_stages m)))).0
@@ -104,14 +105,15 @@ pub is_conjecture : (ks : List ℕ) (goal : Goal) → IsAboutOneOf ks goal → I
 is_conjecture ks goal h = subst IsConjecture (sym h.2) tt
 
 -- What was dropped so far, and what is held.
-pub record IsSoFar (limits : Ceilings) (m : ModelTree) (dropped : List Dropped) (held : List ℕ) : Type 0 where
+pub record IsSoFar (counted : Counted) (limits : Ceilings) (m : ModelTree) (dropped : List Dropped) (held : List ℕ) :
+    Type 0 where
   pub held_is : held ≡ all_but m (map (λ d. d.conjecture) dropped)
-  pub drops : AreDrops limits m [] dropped
+  pub drops : AreDrops counted limits m [] dropped
   pub once : AreDistinct (map (λ d. d.conjecture) dropped)
   pub greatest : (ks : List ℕ) → IsInductive m ks → IsWithin ks held
 
-module _ (limits : Ceilings) (m : ModelTree) where
-  pub at_first : (held : List ℕ) → held ≡ count_from 0 (length m.conjectures) → IsSoFar limits m [] held
+module _ (counted : Counted) (limits : Ceilings) (m : ModelTree) where
+  pub at_first : (held : List ℕ) → held ≡ count_from 0 (length m.conjectures) → IsSoFar counted limits m [] held
   at_first held is = record {
     held_is = is ∙ sym (all-left (count_from 0 (length m.conjectures)));
     drops = tt;
@@ -122,33 +124,34 @@ module _ (limits : Ceilings) (m : ModelTree) where
         (to_count 0 (length m.conjectures) k (omega arith) (omega (arith, lt)));
   }
 
-  pub held_below : (dropped : List Dropped) (held : List ℕ) → IsSoFar limits m dropped held
+  pub held_below : (dropped : List Dropped) (held : List ℕ) → IsSoFar counted limits m dropped held
       → All (λ k. k < length m.conjectures) held
   held_below dropped held h =
       at_places (λ k. k < length m.conjectures) held (λ k has. left_below m (map (λ d. d.conjecture) dropped) k
       (subst (λ (l : List ℕ). Has l k) h.held_is has))
 
-  drops-push : (before : List ℕ) (ds : List Dropped) (d : Dropped) → AreDrops limits m before ds
-      → IsDrop limits m (all_but m (before ++ map (λ d. d.conjecture) ds)) d
-      → AreDrops limits m before (ds ++ d ∷ [])
+  drops-push : (before : List ℕ) (ds : List Dropped) (d : Dropped) → AreDrops counted limits m before ds
+      → IsDrop counted limits m (all_but m (before ++ map (λ d. d.conjecture) ds)) d
+      → AreDrops counted limits m before (ds ++ d ∷ [])
   drops-push before [] d h new =
-      (subst (λ (names : List ℕ). IsDrop limits m (all_but m names) d) (append-nil before) new, tt)
+      (subst (λ (names : List ℕ). IsDrop counted limits m (all_but m names) d) (append-nil before) new, tt)
   drops-push before (e ∷ ds) d h new = (
     h.0,
     drops-push (before ++ e.conjecture ∷ []) ds d h.1
-        (subst (λ (names : List ℕ). IsDrop limits m (all_but m names) d)
+        (subst (λ (names : List ℕ). IsDrop counted limits m (all_but m names) d)
         (sym (append_assoc before (e.conjecture ∷ []) (map (λ d. d.conjecture) ds))) new),
   )
 
   module _ (broken : BrokenIsNowhere) (dropped : List Dropped) (held : List ℕ) (shown : Counterexample) (c : ℕ)
-      (h : IsSoFar limits m dropped held) (fails : IsFirstFailing limits m held (goals_about m held) shown)
+      (h : IsSoFar counted limits m dropped held) (fails : IsFirstFailing counted limits m held (goals_about m held)
+      shown)
       (is : shown.goal.about ≡ about.Conjecture c) where
     abbrev names : List ℕ
     names = map (λ d. d.conjecture) dropped
 
     member : Has held c
     member =
-        let one = about_one m held limits shown fails in
+        let one = about_one m held counted limits shown fails in
         let same : one.0 ≡ c = cc (sym one.2 ∙ is) in
         subst (Has held) same one.1
 
@@ -167,24 +170,24 @@ module _ (limits : Ceilings) (m : ModelTree) where
 
     pub next_drop : (d : Dropped) (left : List ℕ) (new : List Dropped) → d.conjecture ≡ c → d.held ≡ held
         → d.shown ≡ shown → left ≡ filter (λ k. not (c == k)) held → new ≡ dropped ++ d ∷ []
-        → IsSoFar limits m new left
+        → IsSoFar counted limits m new left
     next_drop d left new of_c of_held of_shown e pushed =
         let more : map (λ d. d.conjecture) new ≡ names ++ c ∷ [] =
         ap (map (λ d. d.conjecture)) pushed ∙ map-append (λ d. d.conjecture) dropped (d ∷ [])
         ∙ ap (λ k. names ++ k ∷ []) of_c in
-        let drop : IsDrop limits m (all_but m names) d = record {
+        let drop : IsDrop counted limits m (all_but m names) d = record {
           held_then = of_held ∙ h.held_is;
           member = subst (λ (k : ℕ). Has (all_but m names) k) (sym of_c)
               (subst (λ (l : List ℕ). Has l c) h.held_is member);
           about = ap (λ (s : Counterexample). s.goal.about) of_shown ∙ is ∙ ap (λ k. about.Conjecture k) (sym of_c);
-          fails = subst (λ (s : Counterexample). IsFirstFailing limits m (all_but m names)
+          fails = subst (λ (s : Counterexample). IsFirstFailing counted limits m (all_but m names)
               (goals_about m (all_but m names)) s) (sym of_shown)
-              (subst (λ (l : List ℕ). IsFirstFailing limits m l (goals_about m l) shown) h.held_is fails);
+              (subst (λ (l : List ℕ). IsFirstFailing counted limits m l (goals_about m l) shown) h.held_is fails);
         } in
         record {
           held_is = e ∙ ap (filter (λ k. not (c == k))) h.held_is
               ∙ all_but_push names c (count_from 0 (length m.conjectures)) ∙ ap (all_but m) (sym more);
-          drops = subst (AreDrops limits m []) (sym pushed) (drops-push [] dropped d h.drops drop);
+          drops = subst (AreDrops counted limits m []) (sym pushed) (drops-push [] dropped d h.drops drop);
           once = subst AreDistinct (sym more) (distinct_push names c h.once new-name);
           greatest = λ ks inductive k has.
               let other : c ≡ k → ⊥ = λ same. broken m held shown.goal c shown.structure shown.trace.havoc
@@ -195,28 +198,30 @@ module _ (limits : Ceilings) (m : ModelTree) where
         }
 
   -- behind the last round
-  pub found : SettledIsInductive → (dropped : List Dropped) (held : List ℕ) → IsSoFar limits m dropped held
+  pub found : SettledIsInductive → (dropped : List Dropped) (held : List ℕ) → IsSoFar counted limits m dropped held
       → (h : Houdini) → h.dropped ≡ dropped → h.kept ≡ held
-      → AreSettled limits m held (goals_about m held) h.unsettled
-      → IsFound limits m h
+      → AreSettled counted limits m held (goals_about m held) h.unsettled
+      → IsFound counted limits m h
   found inductive dropped held far h of_dropped of_kept settled =
       let names : map (λ d. d.conjecture) dropped ≡ map (λ d. d.conjecture) h.dropped =
       ap (map (λ d. d.conjecture)) (sym of_dropped) in
       record {
         kept = of_kept ∙ far.held_is ∙ ap (all_but m) names;
-        drops = subst (AreDrops limits m []) (sym of_dropped) far.drops;
+        drops = subst (AreDrops counted limits m []) (sym of_dropped) far.drops;
         once = subst AreDistinct names far.once;
         greatest = λ ks is. subst (IsWithin ks) (sym of_kept) (far.greatest ks is);
         inductive = λ none.
-            let safe : AllByRecursion (IsSafe limits m held) (goals_about m held) =
-            subst (λ (o : Option (Goal × Cause)). AreSettled limits m held (goals_about m held) o) none settled in
+            let safe : AllByRecursion (IsSafe counted limits m held) (goals_about m held) =
+            subst (λ (o : Option (Goal × Cause)). AreSettled counted limits m held (goals_about m held) o) none
+            settled in
             subst (IsInductive m) (sym of_kept)
             (inductive m held
             (λ k has. left_below m (map (λ d. d.conjecture) dropped) k
             (subst (λ (l : List ℕ). Has l k) far.held_is has))
-            (all_more (IsSafe limits m held) (HasNoneBy m (conjectures_of m held)) (λ g is. is.1) (goals_about m held)
-            safe));
-        settled = subst (λ (l : List ℕ). AreSettled limits m l (goals_about m l) h.unsettled) (sym of_kept) settled;
+            (all_more (IsSafe counted limits m held) (HasNoneBy m (conjectures_of m held)) (λ g is. is.1)
+            (goals_about m held) safe));
+        settled = subst (λ (l : List ℕ). AreSettled counted limits m l (goals_about m l) h.unsettled) (sym of_kept)
+            settled;
       }
 
 -- one more number at the end

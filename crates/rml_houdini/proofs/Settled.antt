@@ -97,7 +97,11 @@ module _ (followed : PathHasFollowedOutcomes) (kind : PathsKeepKind) (values : F
       let stage_none = all-joined P (λ s. stage_goals m held s) (conjecture_stages m) st here settled in
       let group_none = all-joined P (λ n. group_goals m (group_at st n)) held k has stage_none in
       let next : 1 + j ≡ suc j = omega arith in
-      subst (λ (n : ℕ). HasNoneBy m (conjectures_of m held) (record { stage = st; path = n; about = about.Conjecture k }))
+      subst (λ (n : ℕ). HasNoneBy m (conjectures_of m held) (record {
+        stage = st;
+        path = n;
+        about = about.Conjecture k;
+      }))
       next (at-path P (group_at st k) 1 (stage_paths m st) j p at (ap not ends) group_none)
 
   keeps : (st : Stage) (k : ℕ) (c : FormTree) (number : ℕ) (p : List PrimitiveTree) (s new : Tables)

@@ -26,6 +26,8 @@ use Rattle.rml_report.specs.declared.cause.Cause.{Cause}
 use Rattle.ea_decide.specs.Passing.{Ceilings}
 use Rattle.obligation_decide.specs.GoalPassing.{PassesFirstBy}
 use Rattle.obligation_decide.specs.GoalDecisions.{HasNoneBy, IsFailingBy}
+use Rattle.lean_decide.specs.declared.settling.Counted.{Counted}
+use Rattle.lean_decide.specs.declared.settling.Counted.TheVariants.{Whole, Lean}
 use Rattle.rml_houdini.specs.Subsets.{Has, IsWithin}
 use Rattle.rml_houdini.specs.Rounds.{group_at, IsSafe}
 use Rattle.rml_houdini.specs.Progress.{earlier_of}
@@ -189,15 +191,15 @@ all_set P (y ∷ ys) (suc i) x all here = (all.0, all_set P ys i x all.1 here)
 
 module _ (limits : Ceilings) (m : ModelTree) (held : List ℕ) where
   safe_by : (st : Stage) (k : ℕ) (ks : List ℕ) → IsKept limits m held st k ks → IsWithin ks held
-      → AllByRecursion (IsSafe limits m held) (group_goals m (group_at st k))
+      → AllByRecursion (IsSafe Whole limits m held) (group_goals m (group_at st k))
   safe_by st k ks h within =
       all_both (λ g. PassesFirstBy limits m (conjectures_of m held) g None) (HasNoneBy m (conjectures_of m ks))
-      (IsSafe limits m held) (λ g few none. (few, fewer_none m ks held g within none)) (group_goals m (group_at st k))
-      h.within h.suffice
+      (IsSafe Whole limits m held) (λ g few none. (few, fewer_none m ks held g within none))
+      (group_goals m (group_at st k)) h.within h.suffice
 
   pub remembered : (groups : List (Option Kept)) (kept : Kept) (st : Stage) (k : ℕ) → kept.stage ≡ st
       → kept.conjecture ≡ k → SomeOf (λ g. g ≡ Some kept) groups → IsWithin kept.by.held.items held
-      → AreKept limits m held groups → AllByRecursion (IsSafe limits m held) (group_goals m (group_at st k))
+      → AreKept Whole limits m held groups → AllByRecursion (IsSafe Whole limits m held) (group_goals m (group_at st k))
   remembered groups kept st k of_stage of_conjecture there within all =
       let here : IsKept limits m held kept.stage kept.conjecture kept.by.held.items =
       some-of (IsKeptAt limits m held) groups (Some kept) there all in
@@ -206,20 +208,22 @@ module _ (limits : Ceilings) (m : ModelTree) (held : List ℕ) where
       safe_by st k kept.by.held.items
       (subst (λ (n : ℕ). IsKept limits m held st n kept.by.held.items) of_conjecture moved) within
 
-  pub nothing_kept : (groups : List (Option Kept)) → AllByRecursion (λ g. g ≡ None) groups → AreKept limits m held groups
-  nothing_kept groups h =
-      all_more (λ (g : Option Kept). g ≡ None) (IsKeptAt limits m held)
-      (λ g is. subst (λ (o : Option Kept). IsKeptAt limits m held o) (sym is) tt) groups h
-
   -- a group whose goals are all safe by these
   pub kept_by : (st : Stage) (k : ℕ) (ks : List ℕ)
-      → AllByRecursion (IsSafe limits m held) (group_goals m (group_at st k))
+      → AllByRecursion (IsSafe Whole limits m held) (group_goals m (group_at st k))
       → Suffice m ks (group_goals m (group_at st k)) → IsKept limits m held st k ks
   kept_by st k ks safe suffice = record {
-    within = all_more (IsSafe limits m held) (λ g. PassesFirstBy limits m (conjectures_of m held) g None)
+    within = all_more (IsSafe Whole limits m held) (λ g. PassesFirstBy limits m (conjectures_of m held) g None)
         (λ g h. h.0) (group_goals m (group_at st k)) safe;
     suffice = suffice;
   }
+
+pub nothing_kept : (counted : Counted) (limits : Ceilings) (m : ModelTree) (held : List ℕ) (groups : List (Option Kept))
+    → AllByRecursion (λ g. g ≡ None) groups → AreKept counted limits m held groups
+nothing_kept Whole limits m held groups h =
+    all_more (λ (g : Option Kept). g ≡ None) (IsKeptAt limits m held)
+    (λ g is. subst (λ (o : Option Kept). IsKeptAt limits m held o) (sym is) tt) groups h
+nothing_kept Lean limits m held groups h = tt
 
 module _ (fragments : FragmentsAreKept) (added : ConjecturesAreAdded) (limits : Ceilings) (m : ModelTree)
     (held : List ℕ) (c : ℕ) (checked : IsChecked m) where
@@ -238,6 +242,7 @@ module _ (fragments : FragmentsAreKept) (added : ConjecturesAreAdded) (limits : 
   }
 
 pub kept_stays_kept : FragmentsAreKept → ConjecturesAreAdded → KeptStaysKept
-kept_stays_kept fragments added limits m held c groups checked h =
+kept_stays_kept fragments added Whole limits m held c groups checked h =
     all_more (IsKeptAt limits m held) (IsKeptAt limits m (filter (λ k. not (c == k)) held))
     (kept-left fragments added limits m held c checked) groups h
+kept_stays_kept fragments added Lean limits m held c groups checked h = tt

@@ -1,5 +1,5 @@
 -- What is known of goals by some of the held conjectures. Private contracts alone cite this.
-use Rattle.std.specs.Prelude.{◌≡◌, ◌==◌, ℕ, true, not, List, Option, Some, None}
+use Rattle.std.specs.Prelude.{◌≡◌, ◌==◌, ℕ, true, false, not, List, Option, Some, None}
 use Rattle.std.specs.List.{AllByRecursion, filter}
 use Rattle.fol_sig.specs.Tables.{Tables}
 use Rattle.fol_sig.specs.Symbols.{FitsStructure, symbols}
@@ -11,10 +11,17 @@ use Rattle.rml_command.specs.declared.goal.Goal.{Goal}
 use Rattle.rml_command.specs.declared.goal.Stage.{Stage}
 use Rattle.rml_command.specs.declared.goal.Stage.TheVariants as stage
 use Rattle.rml_wp.specs.Preconditions.{conjectures_of}
-use Rattle.ea_decide.specs.Passing.{Ceilings}
+use Rattle.ea_decide.specs.declared.decided.Passed.{Passed}
+use Rattle.ea_decide.specs.Passing.{Ceilings, Passes}
+use Rattle.ea_decide.specs.Decisions.{IsOver}
+use Rattle.pruned_decide.specs.Decisions.{lean_signature, lean_sentence}
 use Rattle.obligation_decide.specs.GoalPassing.{PassesFirstBy}
 use Rattle.obligation_decide.specs.GoalDecisions.{HasNoneBy, IsFailingBy}
+use Rattle.lean_decide.specs.declared.settling.Counted.{Counted}
+use Rattle.lean_decide.specs.declared.settling.Counted.TheVariants.{Whole, Lean}
 use Rattle.rml_houdini.specs.Subsets.{IsWithin}
+use Rattle.rml_houdini.specs.Assuming.{assumed_sentence}
+use Rattle.rml_houdini.specs.Counts.{PassesFirst}
 use Rattle.rml_houdini.specs.Rounds.{group_at, IsSafe, IsOpen}
 use Rattle.rml_houdini.specs.declared.assumed.Assumed.{Assumed}
 use Rattle.rml_houdini.specs.declared.trying.Tried.{Tried}
@@ -33,13 +40,24 @@ Suffice m ks goals = AllByRecursion (HasNoneBy m (conjectures_of m ks)) goals
 abbrev pub Grows : List ℕ → List ℕ → List ℕ → Type 0
 Grows held old new = IsWithin old new × (IsWithin old held → IsWithin new held)
 
--- What a try with this assumed ends with: the goal holds; or this structure satisfies what is assumed; or this is a
--- counterexample where these conjectures hold.
+-- the lean form of the sentence with this assumed passes this limit first, or none
+abbrev pub AssumedPasses : Ceilings → ModelTree → Goal → Assumed → Option Passed → Type 0
+AssumedPasses limits m goal a p =
+    Passes limits (lean_signature m.signature (assumed_sentence m a goal))
+    (lean_sentence m.signature (assumed_sentence m a goal)) p
+
+-- What a try with this assumed ends with: the goal holds; or this structure satisfies what is assumed, but for the
+-- axioms, which are not; or this is a counterexample where these conjectures hold; or a limit is passed.
 abbrev pub IsTried : Ceilings → ModelTree → Goal → Assumed → Tried → Type 0
-IsTried limits m goal a tried.Holds = HasNoneBy m (conjectures_of m a.held.items) goal
-IsTried limits m goal a (tried.Met s) = FitsStructure (symbols m.signature) s
-IsTried limits m goal a (tried.Breaks shown) = IsFailingBy limits m (conjectures_of m a.held.items) goal shown
-IsTried limits m goal a tried.Open = Unit {0}
+IsTried limits m goal a tried.Holds =
+    AssumedPasses limits m goal a None × HasNoneBy m (conjectures_of m a.held.items) goal
+IsTried limits m goal a (tried.Met s) = (a.lawful ≡ false) × FitsStructure (symbols m.signature) s
+IsTried limits m goal a (tried.Breaks shown) =
+    AssumedPasses limits m goal a None × IsFailingBy limits m (conjectures_of m a.held.items) goal shown
+IsTried limits m goal a (tried.Over passed) =
+    IsOver limits (lean_signature m.signature (assumed_sentence m a goal))
+    (lean_sentence m.signature (assumed_sentence m a goal)) passed
+IsTried limits m goal a tried.ManyConstants = Unit {0}
 
 -- what a turn ends with: the goal holds by what is assumed, or fails where these are held
 abbrev pub IsTurn : Ceilings → ModelTree → List ℕ → Goal → Assumed → Turn → Type 0
@@ -55,12 +73,12 @@ AreHeldBefore m (stage.Action a) held s = satisfies s (conjectures_of m held) �
 AreHeldBefore m stage.Final held s = satisfies s (conjectures_of m held) ≡ true
 
 -- what is answered of a goal where these conjectures are held, and by which it holds
-abbrev pub IsSettledBy : Ceilings → ModelTree → List ℕ → Goal → Assumed → Settled → Type 0
-IsSettledBy limits m held goal a settled.Holds =
-    IsSafe limits m held goal × HasNoneBy m (conjectures_of m a.held.items) goal
-IsSettledBy limits m held goal a (settled.Fails shown) =
-    PassesFirstBy limits m (conjectures_of m held) goal None × IsFailingBy limits m (conjectures_of m held) goal shown
-IsSettledBy limits m held goal a (settled.Undecided c) = IsOpen limits m held goal c
+abbrev pub IsSettledBy : Counted → Ceilings → ModelTree → List ℕ → Goal → Assumed → Settled → Type 0
+IsSettledBy counted limits m held goal a settled.Holds =
+    IsSafe counted limits m held goal × HasNoneBy m (conjectures_of m a.held.items) goal
+IsSettledBy counted limits m held goal a (settled.Fails shown) =
+    PassesFirst counted limits m held goal None × IsFailingBy limits m (conjectures_of m held) goal shown
+IsSettledBy counted limits m held goal a (settled.Undecided c) = IsOpen counted limits m held goal c
 
 -- The goals about a conjecture behind a stage pass no limit where these are held, and these of them suffice.
 pub record IsKept (limits : Ceilings) (m : ModelTree) (held : List ℕ) (st : Stage) (k : ℕ) (ks : List ℕ) : Type 0 where
@@ -72,11 +90,13 @@ abbrev pub IsKeptAt : Ceilings → ModelTree → List ℕ → Option Kept → Ty
 IsKeptAt limits m held None = Unit {0}
 IsKeptAt limits m held (Some kept) = IsKept limits m held kept.stage kept.conjecture kept.by.held.items
 
--- so it is of each group that is remembered
-abbrev pub AreKept : Ceilings → ModelTree → List ℕ → List (Option Kept) → Type 0
-AreKept limits m held groups = AllByRecursion (IsKeptAt limits m held) groups
+-- so it is of each group that is remembered, where whole refuting sentences are counted
+abbrev pub AreKept : Counted → Ceilings → ModelTree → List ℕ → List (Option Kept) → Type 0
+AreKept Whole limits m held groups = AllByRecursion (IsKeptAt limits m held) groups
+AreKept Lean limits m held groups = Unit {0}
 
 -- where one conjecture less is held too
 abbrev pub KeptStaysKept : Type 0
-KeptStaysKept = (limits : Ceilings) (m : ModelTree) (held : List ℕ) (c : ℕ) (groups : List (Option Kept)) → IsChecked m
-    → AreKept limits m held groups → AreKept limits m (filter (λ k. not (c == k)) held) groups
+KeptStaysKept = (counted : Counted) (limits : Ceilings) (m : ModelTree) (held : List ℕ) (c : ℕ)
+    (groups : List (Option Kept)) → IsChecked m → AreKept counted limits m held groups
+    → AreKept counted limits m (filter (λ k. not (c == k)) held) groups

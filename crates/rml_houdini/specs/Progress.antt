@@ -10,6 +10,7 @@ use Rattle.rml_command.specs.declared.goal.About.TheVariants as about
 use Rattle.rml_command.specs.declared.goal.Goal.{Goal}
 use Rattle.rml_report.specs.declared.cause.Cause.{Cause}
 use Rattle.ea_decide.specs.Passing.{Ceilings}
+use Rattle.lean_decide.specs.declared.settling.Counted.{Counted}
 use Rattle.rml_houdini.specs.Rounds.{stage_goals, IsSafe, IsOpen, IsFirstFailing}
 use Rattle.rml_houdini.specs.declared.round.Round.{Round}
 use Rattle.rml_houdini.specs.declared.round.Round.TheVariants as round
@@ -24,17 +25,17 @@ abbrev pub first_of : Option (Goal × Cause) → Option (Goal × Cause) → Opti
 first_of None more = more
 first_of (Some first) more = Some first
 
-module _ (limits : Ceilings) (m : ModelTree) (held : List ℕ) where
+module _ (counted : Counted) (limits : Ceilings) (m : ModelTree) (held : List ℕ) where
   -- No goal fails; the first open goal before them is `from`, and behind them it is `to`.
   abbrev pub Leads : Option (Goal × Cause) → List Goal → Option (Goal × Cause) → Type 0
   Leads from [] to = to ≡ from
   Leads from (g ∷ gs) to =
-      (IsSafe limits m held g × Leads from gs to)
-      ⊎ ((c : Cause) × IsOpen limits m held g c × Leads (earlier_of from g c) gs to)
+      (IsSafe counted limits m held g × Leads from gs to)
+      ⊎ ((c : Cause) × IsOpen counted limits m held g c × Leads (earlier_of from g c) gs to)
 
   -- what was found of these goals, which stand behind others whose first open goal is `from`
   abbrev pub IsRound : Option (Goal × Cause) → List Goal → Round → Type 0
-  IsRound from goals (round.Fails shown) = IsFirstFailing limits m held goals shown
+  IsRound from goals (round.Fails shown) = IsFirstFailing counted limits m held goals shown
   IsRound from goals (round.Passes to) = Leads from goals to
 
 -- it is a conjecture that is to hold

@@ -12,8 +12,9 @@ use Rattle.rml_exec.specs.declared.trace.Counterexample.{Counterexample}
 use Rattle.rml_wp.specs.Preconditions.{conjectures_of}
 use Rattle.rml_report.specs.declared.cause.Cause.{Cause}
 use Rattle.ea_decide.specs.Passing.{Ceilings}
-use Rattle.obligation_decide.specs.GoalPassing.{PassesFirstBy}
-use Rattle.obligation_decide.specs.GoalDecisions.{HasNoneBy, IsFailingBy, IsLeftOpenBy}
+use Rattle.obligation_decide.specs.GoalDecisions.{HasNoneBy, IsFailingBy}
+use Rattle.lean_decide.specs.declared.settling.Counted.{Counted}
+use Rattle.rml_houdini.specs.Counts.{PassesFirst, IsLeftOpen}
 use Rattle.rml_houdini.specs.declared.round.Round.{Round}
 use Rattle.rml_houdini.specs.declared.round.Round.TheVariants.{Fails, Passes}
 
@@ -32,45 +33,45 @@ stage_goals m ks s = flat_map (λ k. group_goals m (group_at s k)) ks
 abbrev pub goals_about : ModelTree → List ℕ → List Goal
 goals_about m ks = flat_map (λ s. stage_goals m ks s) (conjecture_stages m)
 
-module _ (limits : Ceilings) (m : ModelTree) (held : List ℕ) where
+module _ (counted : Counted) (limits : Ceilings) (m : ModelTree) (held : List ℕ) where
   -- the goal passes no limit, and has no counterexample
   abbrev pub IsSafe : Goal → Type 0
-  IsSafe goal = PassesFirstBy limits m (conjectures_of m held) goal None × HasNoneBy m (conjectures_of m held) goal
+  IsSafe goal = PassesFirst counted limits m held goal None × HasNoneBy m (conjectures_of m held) goal
 
   -- it is left open for this cause
   abbrev pub IsOpen : Goal → Cause → Type 0
-  IsOpen goal c = IsLeftOpenBy limits m (conjectures_of m held) goal c
+  IsOpen goal c = IsLeftOpen counted limits m held goal c
 
   abbrev pub IsSafeOrOpen : Goal → Type 0
   IsSafeOrOpen goal = IsSafe goal ⊎ ((c : Cause) × IsOpen goal c)
 
 -- The goal of this execution is the first of the goals that fails, as the execution shows.
-pub record IsFirstFailing (limits : Ceilings) (m : ModelTree) (held : List ℕ) (goals : List Goal)
+pub record IsFirstFailing (counted : Counted) (limits : Ceilings) (m : ModelTree) (held : List ℕ) (goals : List Goal)
     (shown : Counterexample) : Type 0 where
   pub before : List Goal
   pub behind : List Goal
   pub order : goals ≡ before ++ shown.goal ∷ behind
-  pub earlier : AllByRecursion (IsSafeOrOpen limits m held) before
+  pub earlier : AllByRecursion (IsSafeOrOpen counted limits m held) before
   pub goal : IsGoal m shown.goal
-  pub within : PassesFirstBy limits m (conjectures_of m held) shown.goal None
+  pub within : PassesFirst counted limits m held shown.goal None
   pub fails : IsFailingBy limits m (conjectures_of m held) shown.goal shown
 
 -- This is the first of the goals that is left open, with its cause, and none fails.
-pub record IsFirstOpen (limits : Ceilings) (m : ModelTree) (held : List ℕ) (goals : List Goal) (goal : Goal) (c : Cause) :
-    Type 0 where
+pub record IsFirstOpen (counted : Counted) (limits : Ceilings) (m : ModelTree) (held : List ℕ) (goals : List Goal)
+    (goal : Goal) (c : Cause) : Type 0 where
   pub before : List Goal
   pub behind : List Goal
   pub order : goals ≡ before ++ goal ∷ behind
-  pub earlier : AllByRecursion (IsSafe limits m held) before
-  pub open_here : IsOpen limits m held goal c
-  pub later : AllByRecursion (IsSafeOrOpen limits m held) behind
+  pub earlier : AllByRecursion (IsSafe counted limits m held) before
+  pub open_here : IsOpen counted limits m held goal c
+  pub later : AllByRecursion (IsSafeOrOpen counted limits m held) behind
 
 -- No goal fails; this one is the first that is left open, or none is.
-abbrev pub AreSettled : Ceilings → ModelTree → List ℕ → List Goal → Option (Goal × Cause) → Type 0
-AreSettled limits m held goals None = AllByRecursion (IsSafe limits m held) goals
-AreSettled limits m held goals (Some first) = IsFirstOpen limits m held goals first.0 first.1
+abbrev pub AreSettled : Counted → Ceilings → ModelTree → List ℕ → List Goal → Option (Goal × Cause) → Type 0
+AreSettled counted limits m held goals None = AllByRecursion (IsSafe counted limits m held) goals
+AreSettled counted limits m held goals (Some first) = IsFirstOpen counted limits m held goals first.0 first.1
 
 -- what was found of goals where these are held
-abbrev pub IsDecided : Ceilings → ModelTree → List ℕ → List Goal → Round → Type 0
-IsDecided limits m held goals (Fails shown) = IsFirstFailing limits m held goals shown
-IsDecided limits m held goals (Passes unsettled) = AreSettled limits m held goals unsettled
+abbrev pub IsDecided : Counted → Ceilings → ModelTree → List ℕ → List Goal → Round → Type 0
+IsDecided counted limits m held goals (Fails shown) = IsFirstFailing counted limits m held goals shown
+IsDecided counted limits m held goals (Passes unsettled) = AreSettled counted limits m held goals unsettled

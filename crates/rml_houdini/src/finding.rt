@@ -10,7 +10,9 @@ use crate::laws::{dropping_law, settled_law};
 use crate::round::{Round, decide_round};
 use crate::sets::{all_conjectures, without};
 use base::{Mem, Row};
+use lean_decide::Counted;
 use lrat_log::Limits;
+use progress::{Progress, Work};
 use rml_command::{About, Checked};
 use std::alloc::Global;
 
@@ -27,9 +29,17 @@ fn conjecture_of(about: About) -> u32
 
 /// Finds the greatest set of the model's conjectures that is inductive apart from aborts: all are held at first; in
 /// each round the goals of those that are held are decided in order, and the first that fails drops its conjecture. The
-/// last round is one in which none fails. What was found by conjectures that are still held is not decided again.
-pub fn greatest(alloc: Global, checked: &Checked, limits: &Limits) -> Mem<Houdini>
-    ensures { IfOk result (IsFound (ceilings limits.now) checked.now) }
+/// last round is one in which none fails. What was found by conjectures that are still held is not decided again, where
+/// the limits are those of whole refuting sentences; where they are those of lean ones, each round decides all that it
+/// counts. A lean sentence of more than 2,147,483,648 constants is answered as want of memory.
+pub fn greatest<P: Progress>(
+    alloc: Global,
+    checked: &Checked,
+    counted: Counted,
+    limits: &Limits,
+    progress: &mut P,
+) -> Mem<Houdini>
+    ensures { IfOk result (IsFound counted (ceilings limits.now) checked.now) }
 {
     dropping_law();
     settled_law();
@@ -37,9 +47,10 @@ pub fn greatest(alloc: Global, checked: &Checked, limits: &Limits) -> Mem<Houdin
     let _checked = checked.model();
     let mut dropped = Vec::new(alloc);
     let mut held = all_conjectures(alloc, checked)?;
+    let count = held.len() as u64;
     let mut known = Known::nothing(alloc, checked)?;
     loop {
-        match decide_round(alloc, checked, &held, limits, &mut known)? {
+        match decide_round(alloc, checked, counted, &held, limits, &mut known)? {
             Round::Fails(shown) => {
                 let conjecture = conjecture_of(shown.goal.about);
                 let left = without(alloc, &held, conjecture)?;
@@ -49,6 +60,7 @@ pub fn greatest(alloc: Global, checked: &Checked, limits: &Limits) -> Mem<Houdin
                     held: held_then,
                     shown,
                 })?;
+                progress.tell(Work::Drops, dropped.len() as u64, count);
                 held = left;
             }
             Round::Passes(unsettled) => {

@@ -111,7 +111,7 @@ fn take_turn(
 {
     match try_with(alloc, checked, goal, precondition, assumed, limits)? {
         Tried::Holds => Ok(Turn::Holds),
-        Tried::Open => Ok(Turn::Open),
+        Tried::Over(_) | Tried::ManyConstants => Ok(Turn::Open),
         Tried::Met(structure) => {
             let more = assume_broken(checked, goal.stage, held, &structure, assumed);
             drop(structure);

@@ -6,6 +6,8 @@ ghost use Rattle.base.specs.Lists.{SomeOf};
 ghost use Rattle.rml_command.specs.Models.{ModelTree};
 ghost use Rattle.rml_command.specs.Goals.{group_goals};
 ghost use Rattle.ea_decide.specs.Passing.{Ceilings};
+ghost use Rattle.lean_decide.specs.declared.settling.Counted.{Counted};
+ghost use Rattle.lean_decide.specs.declared.settling.Counted.TheVariants.{Whole};
 ghost use Rattle.rml_houdini.specs.Subsets.{IsWithin};
 ghost use Rattle.rml_houdini.specs.Rounds.{group_at, IsSafe};
 ghost use Rattle.rml_houdini.specs.Keeping.{IsKept, AreKept, KeptStaysKept};
@@ -43,8 +45,8 @@ pub fn keeping_law()
 impl Known {
     /// Room for the groups of a model, of which nothing is known.
     pub fn nothing(alloc: Global, checked: &Checked) -> Mem<Known>
-        ensures { IfOk result (λ known. (limits : Ceilings) (m : ModelTree) (held : List ℕ)
-            → AreKept limits m held known.groups.items) }
+        ensures { IfOk result (λ known. (counted : Counted) (limits : Ceilings) (m : ModelTree) (held : List ℕ)
+            → AreKept counted limits m held known.groups.items) }
     {
         let model = checked.model();
         let conjectures = model.conjectures().len();
@@ -93,8 +95,9 @@ impl Known {
 
     /// Whether a group was kept by conjectures that are all held now.
     pub fn keeps(&self, stage: Stage, conjecture: u32, held: &[u32]) -> bool
-        ensures { (limits : Ceilings) (m : ModelTree) → result ≡ true → AreKept limits m held.now self.now.groups.items
-            → AllByRecursion (IsSafe limits m held.now) (group_goals m (group_at stage conjecture)) }
+        ensures { (limits : Ceilings) (m : ModelTree) → result ≡ true
+            → AreKept Whole limits m held.now self.now.groups.items
+            → AllByRecursion (IsSafe Whole limits m held.now) (group_goals m (group_at stage conjecture)) }
     {
         match self.find(stage, conjecture) {
             None => false,
@@ -128,8 +131,9 @@ impl Known {
 
     /// Remembers what kept a group.
     pub fn keep(&mut self, stage: Stage, conjecture: u32, by: Assumed)
-        ensures { (limits : Ceilings) (m : ModelTree) (held : List ℕ) → AreKept limits m held self.old.groups.items
-            → IsKept limits m held stage conjecture by.held.items → AreKept limits m held self.new.groups.items }
+        ensures { (limits : Ceilings) (m : ModelTree) (held : List ℕ)
+            → AreKept Whole limits m held self.old.groups.items
+            → IsKept limits m held stage conjecture by.held.items → AreKept Whole limits m held self.new.groups.items }
     {
         let place = self.place(stage, conjecture);
         if place >= self.groups.len() {

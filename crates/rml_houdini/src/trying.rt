@@ -10,7 +10,7 @@ ghost use Rattle.rml_houdini.specs.Keeping.{IsTried};
 
 use crate::assumed::{Assumed, assumed_sentence};
 use base::{Mem, Refused};
-use ea_decide::Decided;
+use ea_decide::{Decided, Passed};
 use fol_formula::{Ae, Ea};
 use fol_sig::Structure;
 use lrat_log::Limits;
@@ -29,8 +29,10 @@ pub enum Tried {
     Met(Structure),
     /// The goal has this counterexample where this is assumed.
     Breaks(Counterexample),
-    /// A limit is passed.
-    Open,
+    /// This limit is passed.
+    Over(Passed),
+    /// The sentence has more than 2,147,483,648 constants.
+    ManyConstants,
 }
 
 /// Decides a goal with this assumed, over the symbols that occur in its sentence alone. The limits are those of that
@@ -82,7 +84,8 @@ fn try_sentence(
             Ok(tried)
         }
         Err(Refused::NoMemory) => Err(AllocError),
-        Ok(Decided::Over(_)) | Err(Refused::For(_)) => Ok(Tried::Open),
+        Ok(Decided::Over(passed)) => Ok(Tried::Over(passed)),
+        Err(Refused::For(_)) => Ok(Tried::ManyConstants),
     }
 }
 

@@ -12,6 +12,7 @@ use Rattle.rml_command.specs.declared.goal.Stage.{Stage}
 use Rattle.rml_command.specs.declared.goal.Stage.TheVariants as stage
 use Rattle.rml_wp.specs.Preconditions.{conjectures_of}
 use Rattle.rml_wp.specs.Laws.{is_allowed_by}
+use Rattle.lean_decide.specs.declared.settling.Counted.TheVariants.{Whole}
 use Rattle.rml_houdini.specs.Rounds.{IsSafe}
 use Rattle.rml_reasons.specs.Laws.{CarriedGroupsHold}
 
@@ -35,7 +36,7 @@ module _ (s : Tables) where
 
 pub carried_groups_hold : CarriedGroupsHold
 carried_groups_hold limits m group ks reason =
-    all_more (IsSafe limits m ks) (HasNone m) (λ goal safe s elements values h. safe.1 s elements values (record {
+    all_more (IsSafe Whole limits m ks) (HasNone m) (λ goal safe s elements values h. safe.1 s elements values (record {
       path = h.path;
       is_path = h.is_path;
       structure = h.structure;

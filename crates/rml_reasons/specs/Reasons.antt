@@ -5,6 +5,7 @@ use Rattle.base.specs.Lists.{count_from}
 use Rattle.rml_command.specs.Models.{ModelTree}
 use Rattle.rml_command.specs.Goals.{Group, group_goals}
 use Rattle.ea_decide.specs.Passing.{Ceilings}
+use Rattle.lean_decide.specs.declared.settling.Counted.TheVariants.{Whole}
 use Rattle.rml_houdini.specs.Rounds.{IsSafe, IsFirstFailing, IsFirstOpen}
 use Rattle.rml_reasons.specs.declared.reason.Lack.{Lack}
 use Rattle.rml_reasons.specs.declared.reason.Lack.TheVariants.{Fails, Open}
@@ -31,13 +32,13 @@ needed_conjectures needs = map (λ n. n.conjecture) needs
 -- These conjectures carry the group: where only they hold before its stage, none of its goals passes a limit or has a
 -- counterexample.
 abbrev pub IsReason : Ceilings → ModelTree → Group → List ℕ → Type 0
-IsReason limits m group ks = AllByRecursion (IsSafe limits m ks) (group_goals m group)
+IsReason limits m group ks = AllByRecursion (IsSafe Whole limits m ks) (group_goals m group)
 
 -- What the group lacks where only these hold: the first of its goals that fails does so by this execution; or none
 -- fails, and this is the first that is left open.
 abbrev pub IsLack : Ceilings → ModelTree → Group → List ℕ → Lack → Type 0
-IsLack limits m group ks (Fails shown) = IsFirstFailing limits m ks (group_goals m group) shown
-IsLack limits m group ks (Open goal c) = IsFirstOpen limits m ks (group_goals m group) goal c
+IsLack limits m group ks (Fails shown) = IsFirstFailing Whole limits m ks (group_goals m group) shown
+IsLack limits m group ks (Open goal c) = IsFirstOpen Whole limits m ks (group_goals m group) goal c
 
 -- They carry the group, and without any one of them the group lacks what is told of that one.
 pub record IsMinimalReason (limits : Ceilings) (m : ModelTree) (group : Group) (needs : List Need) : Type 0 where

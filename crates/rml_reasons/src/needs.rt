@@ -7,6 +7,7 @@ ghost use Rattle.rml_reasons.specs.Shrinking.{HasLack, IsJudged};
 
 use crate::reason::{Lack, Need};
 use base::{Mem, Row};
+use lean_decide::Counted;
 use lrat_log::Limits;
 use rml_command::{About, Checked, Stage};
 use rml_houdini::{Round, decide_group, without};
@@ -35,7 +36,7 @@ pub fn lack_of(
     ensures { IfOk result
         (HasLack (ceilings limits.now) checked.now (record { stage = stage; about = about }) held.now) }
 {
-    match decide_group(alloc, checked, held, limits, stage, about)? {
+    match decide_group(alloc, checked, Counted::Whole, held, limits, stage, about)? {
         Round::Fails(shown) => Ok(Some(Lack::Fails(shown))),
         Round::Passes(None) => Ok(None),
         Round::Passes(Some((goal, cause))) => Ok(Some(Lack::Open(goal, cause))),

@@ -21,7 +21,7 @@ loop-i-init c = record {
   paths = c.few_paths-paths.ensures.paths;
   few = c.few_paths-paths.ensures.few;
   within = c.requires.within;
-  whole = first_path (ceilings c.args.limits.now) c.args.checked.now c.args.held.now None
+  whole = first_path c.args.counted (ceilings c.args.limits.now) c.args.checked.now c.args.held.now None
       (record { stage = c.args.stage; about = c.args.about }) c.few_paths-paths.result.now
       c.few_paths-paths.ensures.paths;
   suffices = first_suffices c.args.checked.now (record { stage = c.args.stage; about = c.args.about })
@@ -35,7 +35,7 @@ loop-i-preserved-then-not-is_for c =
       paths = c.loop-i.invariant.paths;
       few = c.loop-i.invariant.few;
       within = c.loop-i.invariant.within;
-      whole = path_passed (ceilings c.args.limits.now) c.args.checked.now c.args.held.now None
+      whole = path_passed c.args.counted (ceilings c.args.limits.now) c.args.checked.now c.args.held.now None
           (record { stage = c.args.stage; about = c.args.about }) c.few_paths-paths.result.now c.loop-i.first c.loop-i.i
           c.path.result c.path.ensures c.loop-i.invariant.whole other;
       suffices = passed_suffices c.args.checked.now (record { stage = c.args.stage; about = c.args.about })
@@ -55,13 +55,14 @@ returns-in-Fails-clause-round c =
     let group : Group = record { stage = c.args.stage; about = c.args.about } in
     let kind = sym c.is_for.ensures ∙ c.if-not-is_for.false in
     let decided = rw c.in-Fails.is at c.in_ok-settle.ensures.settled in
-    path_fails (ceilings c.args.limits.now) m c.args.held.now None group c.few_paths-paths.result.now
+    path_fails c.args.counted (ceilings c.args.limits.now) m c.args.held.now None group c.few_paths-paths.result.now
     c.loop-i.first c.loop-i.i c.path.result c.path.ensures c.loop-i.invariant.whole kind c.in-Fails.shown
     (is_goal m group c.loop-i.i c.few_paths-paths.result.now c.path.result c.few_paths-paths.ensures.paths
     c.path.ensures kind c.requires.about) decided.0 decided.1
 
 pub loop-i-preserved : goal.loop-i-preserved
 loop-i-preserved c =
+    let counted = c.args.counted in
     let limits = ceilings c.args.limits.now in
     let m = c.args.checked.now in
     let held = c.args.held.now in
@@ -80,14 +81,15 @@ loop-i-preserved c =
       whole = elim c.match-branch-2.branch [
         | in-Holds w ↦
             let decided = rw w.in-Holds.is at c.in_ok-settle.ensures.settled in
-            subst (λ (o : Option (Goal × Cause)). ThroughPaths limits m held None group ps o (i + 1)) (sym w.first-is)
-            (path_safe limits m held None group ps c.loop-i.first i c.path.result c.path.ensures before.whole kind
-            decided.0)
+            subst (λ (o : Option (Goal × Cause)). ThroughPaths counted limits m held None group ps o (i + 1))
+            (sym w.first-is)
+            (path_safe counted limits m held None group ps c.loop-i.first i c.path.result c.path.ensures before.whole
+            kind decided.0)
         | in-Undecided w ↦
-            subst (λ (o : Option (Goal × Cause)). ThroughPaths limits m held None group ps o (i + 1))
+            subst (λ (o : Option (Goal × Cause)). ThroughPaths counted limits m held None group ps o (i + 1))
             (sym (w.first-is ∙ w.earlier_of-first.ensures))
-            (path_open limits m held None group ps c.loop-i.first i c.path.result c.path.ensures before.whole kind
-            w.in-Undecided.cause (rw w.in-Undecided.is at c.in_ok-settle.ensures.settled))
+            (path_open counted limits m held None group ps c.loop-i.first i c.path.result c.path.ensures before.whole
+            kind w.in-Undecided.cause (rw w.in-Undecided.is at c.in_ok-settle.ensures.settled))
       ];
       suffices = elim c.match-branch-2.branch [
         | in-Holds w ↦
@@ -107,7 +109,7 @@ returns-clause-round c =
     let end = c.len-i-end.ensures in
     let past = c.loop-i-test.false in
     let le : length c.few_paths-paths.result.now ≤ c.loop-i.i = omega (arith, end, past) in
-    paths_end (ceilings c.args.limits.now) c.args.checked.now c.args.held.now None
+    paths_end c.args.counted (ceilings c.args.limits.now) c.args.checked.now c.args.held.now None
     (record { stage = c.args.stage; about = c.args.about }) c.few_paths-paths.result.now c.loop-i.first c.loop-i.i le
     c.loop-i.invariant.whole
 

@@ -11,7 +11,7 @@ invariant-loop-i l = record {
   paths : l.paths ≡ stage_paths l.checked l.stage;
   few : length l.paths ≤ 4096;
   within : IsWithin l.assumed.held.items l.held;
-  whole : ThroughPaths (ceilings l.limits) l.checked l.held None
+  whole : ThroughPaths l.counted (ceilings l.limits) l.checked l.held None
       (record { stage = l.fn.stage; about = l.fn.about }) l.paths l.first l.i;
   suffices : SufficesThrough l.checked (record { stage = l.fn.stage; about = l.fn.about }) l.paths l.first
       l.assumed.held.items l.i;
