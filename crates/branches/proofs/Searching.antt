@@ -78,7 +78,8 @@ assert_found fails passes n k h = elim (cases_lt k 1) as
     ≡ cond (nat_lt k 1) (found (fails ∷ []) None)
     (cond (nat_lt (k - 1) n) (found (passes ∷ []) (Some (k - 1))) (found [] None))) [
       | inl first ↦
-          ap (λ t. cond t (found (fails ∷ []) None) (found (passes ∷ []) (Some (k - 1)))) (eq-eqb k 0 (omega (arith, first)))
+          ap (λ t. cond t (found (fails ∷ []) None) (found (passes ∷ []) (Some (k - 1))))
+        (eq-eqb k 0 (omega (arith, first)))
           ∙ sym (cond_below k 1 _ _ first)
       | inr later ↦
           ap (λ t. cond t (found (fails ∷ []) None) (found (passes ∷ []) (Some (k - 1))))
@@ -139,10 +140,14 @@ module _ (text : List ℕ) (m : ModelTree) where
         let w = weight (marked_branches text m at 1 (branch_count bs) bs) n in
         let none : 0 + w ≡ w = omega arith in
         counted_each at 1 (branch_count bs) bs n 0 ok ∙ ap capped none
-    counted (Insert at name args) n ok = one_counted (insert_path text m name args) n (inserted_on text m at name args ok)
-    counted (Remove at name args) n ok = one_counted (remove_path text m name args) n (removed_on text m at name args ok)
-    counted (Put at name args e) n ok = one_counted (put_path text m name args e) n (put_on text m at name args e ok)
-    counted (Assign name ps value) n ok = one_counted (assign_path text m name ps value) n (assigned_on text m name ps value ok)
+    counted (Insert at name args) n ok =
+        one_counted (insert_path text m name args) n (inserted_on text m at name args ok)
+    counted (Remove at name args) n ok =
+        one_counted (remove_path text m name args) n (removed_on text m at name args ok)
+    counted (Put at name args e) n ok =
+        one_counted (put_path text m name args e) n (put_on text m at name args e ok)
+    counted (Assign name ps value) n ok =
+        one_counted (assign_path text m name ps value) n (assigned_on text m name ps value ok)
 
     pub counted_block : (b : Block) (n : ℕ) → IsBlockMet b
         → count_through_block b (capped n) ≡ capped (weight (block b) n)
@@ -195,10 +200,14 @@ module _ (text : List ℕ) (m : ModelTree) where
         (finds_block b n (k - w) (second_met e a b at ok) (omega (arith, small)) lt)
         ∙ sym (pick-joined (fails at e) refl (block b) n (k - w) lt))
     finds (Choose at bs) n k ok small h = finds_each at 1 (branch_count bs) bs n k ok small h
-    finds (Insert at name args) n k ok small h = one_found (insert_path text m name args) n k (inserted_on text m at name args ok) h
-    finds (Remove at name args) n k ok small h = one_found (remove_path text m name args) n k (removed_on text m at name args ok) h
-    finds (Put at name args e) n k ok small h = one_found (put_path text m name args e) n k (put_on text m at name args e ok) h
-    finds (Assign name ps value) n k ok small h = one_found (assign_path text m name ps value) n k (assigned_on text m name ps value ok) h
+    finds (Insert at name args) n k ok small h =
+        one_found (insert_path text m name args) n k (inserted_on text m at name args ok) h
+    finds (Remove at name args) n k ok small h =
+        one_found (remove_path text m name args) n k (removed_on text m at name args ok) h
+    finds (Put at name args e) n k ok small h =
+        one_found (put_path text m name args e) n k (put_on text m at name args e ok) h
+    finds (Assign name ps value) n k ok small h =
+        one_found (assign_path text m name ps value) n k (assigned_on text m name ps value ok) h
 
     pub finds_block : (b : Block) (n k : ℕ) → IsBlockMet b → k < most → k < weight (block b) n
         → along_block b (capped n) k ≡ pick (block b) n k

@@ -1,6 +1,7 @@
--- What holds of each block of a tree: its marks stand where the tree does, and where the tree has no fault the block has
--- none.
-use Rattle.std.proofs.Common.{◌≡◌, ◌≤◌, ℕ, zero, suc, ◌+◌, Bool, true, false, cond, Option, Some, None, option_map, List, []}
+-- What holds of each block of a tree: its marks stand where the tree does, and where the tree has no fault, the block
+-- has none.
+use Rattle.std.proofs.Common.{◌≡◌, ◌≤◌, ℕ, zero, suc, ◌+◌, Bool, true, false, cond, Option, Some, None, option_map}
+use Rattle.std.proofs.Common.{List, []}
 use Rattle.std.proofs.Common.{◌∷◌, ◌++◌, map, refl, sym, ap, ◌∙◌, subst, slice_get}
 use Rattle.std.specs.List.{AllByRecursion, flat_map}
 use Rattle.base.proofs.Lists.{all_append}

@@ -7,7 +7,8 @@ abbrev pub invariant-push_along-loop-branch : goal.invariant-push_along-loop-bra
 invariant-push_along-loop-branch l =
     (l.index ≡ l.branch-index)
     × (l.marks.items ≡ l.initial.marks.items)
-    × (along_each l.at (l.index + 1) l.count (blocks_of (block_trees (drop l.branch-index l.branch-items))) l.paths l.left
+    × (along_each l.at (l.index + 1) l.count (blocks_of (block_trees (drop l.branch-index l.branch-items))) l.paths
+    l.left
     ≡ along_each l.at 1 l.count (blocks_of (block_trees l.branch-items)) l.paths l.number)
 
 abbrev pub invariant-push_along_block-loop-command : goal.invariant-push_along_block-loop-command

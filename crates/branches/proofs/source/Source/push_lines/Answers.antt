@@ -4,6 +4,6 @@ use Rattle.branches.proofs.source.Source.push_lines.Goals as goal
 
 pub push_marks-requires : goal.push_marks-requires
 push_marks-requires c =
-    subst (λ ks. MarksWithin (length c.args.self.now.text.now) ks) (sym c.deref.ensures.value)
-    (c.in_ok-marks.ensures.within c.args.self.now.text.now (length c.args.self.now.text.now) c.requires.faultless
-    c.requires.within)
+    let text = c.self.inside.text.now in
+    subst (λ ks. MarksWithin (length text) ks) (sym c.deref.ensures.value)
+    (c.in_ok-marks.ensures.within text (length text) c.self.invariant.1 c.self.invariant.0)
