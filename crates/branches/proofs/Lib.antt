@@ -1,0 +1,6 @@
+mod Picking
+mod Updates
+mod Searching
+mod SamePaths
+mod Standing
+mod Loops

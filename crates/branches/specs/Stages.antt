@@ -1,0 +1,68 @@
+-- The block of a stage in a tree, and its marked paths.
+use Rattle.std.specs.Prelude.{ℕ, List, [], ◌∷◌, ◌++◌, Option, Some, None, slice_get}
+use Rattle.base.specs.Lists.{numbered}
+use Rattle.rml_syntax.specs.Tree.{CommandTree, ItemTree, Init, Action, Final, block_of}
+use Rattle.rml_command.specs.Models.{ModelTree}
+use Rattle.rml_command.specs.declared.goal.Stage.{Stage}
+use Rattle.rml_command.specs.declared.goal.Stage.TheVariants as stage
+use Rattle.rml_names.specs.Growth.{empty_model}
+use Rattle.rml_sorts.specs.Items.{Draft, no_items, with_item}
+use Rattle.branches.specs.declared.mark.Mark.{Mark}
+use Rattle.branches.specs.Marked.{MarkedPath, marked_block}
+
+-- a block's commands, and the model of the items before the block
+pub record Located : Type 0 where
+  pub model : ModelTree
+  pub commands : List CommandTree
+
+abbrev pub located : ModelTree → List CommandTree → Located
+located m cs = record { model = m; commands = cs }
+
+-- an `init` in the place of what stood before
+abbrev pub init_or : Located → ModelTree → ItemTree → Located
+init_or found m (Init at cs) = located m cs
+init_or found m _ = found
+
+abbrev pub final_or : Located → ModelTree → ItemTree → Located
+final_or found m (Final at cs) = located m cs
+final_or found m _ = found
+
+abbrev pub action_in : ModelTree → ItemTree → List Located
+action_in m (Action name cs) = located m cs ∷ []
+action_in m _ = []
+
+module _ (text : List ℕ) where
+  -- the last `init` of the items behind a draft
+  abbrev pub init_behind : Located → Draft → List ItemTree → Located
+  init_behind found d [] = found
+  init_behind found d (item ∷ items) = init_behind (init_or found d.model item) (with_item text d item) items
+
+  abbrev pub final_behind : Located → Draft → List ItemTree → Located
+  final_behind found d [] = found
+  final_behind found d (item ∷ items) = final_behind (final_or found d.model item) (with_item text d item) items
+
+  abbrev pub actions_behind : Draft → List ItemTree → List Located
+  actions_behind d [] = []
+  actions_behind d (item ∷ items) = action_in d.model item ++ actions_behind (with_item text d item) items
+
+  -- the block of a stage; `init` and `final` are empty where there is none
+  abbrev pub located_block : List ItemTree → Stage → Option Located
+  located_block items stage.Init = Some (init_behind (located empty_model []) no_items items)
+  located_block items (stage.Action a) = slice_get (actions_behind no_items items) a
+  located_block items stage.Final = Some (final_behind (located empty_model []) no_items items)
+
+  abbrev pub marked_of : Option Located → List MarkedPath
+  marked_of None = []
+  marked_of (Some b) = marked_block text b.model (block_of b.commands)
+
+  -- the marked paths of a stage's block
+  abbrev pub stage_marked : List ItemTree → Stage → List MarkedPath
+  stage_marked items s = marked_of (located_block items s)
+
+abbrev pub marks_in : Option MarkedPath → List Mark
+marks_in None = []
+marks_in (Some p) = p.marks
+
+-- the marks of the path of this number, from 1; none where there is no such path
+abbrev pub marks_of : List ℕ → List ItemTree → Stage → ℕ → List Mark
+marks_of text items s path = marks_in (numbered (stage_marked text items s) path)

@@ -1,0 +1,62 @@
+// The source of a model, as what tells the ways of its paths.
+ghost use Rattle.std.specs.Prelude.{◌≡◌, ◌++◌, length, None, OnOk};
+ghost use Rattle.rml_syntax.specs.Tree.{file_tree};
+ghost use Rattle.rml_syntax.specs.Within.{TreeWithin};
+ghost use Rattle.rml_sorts.specs.Items.{fault_of};
+ghost use Rattle.branches.specs.MarkText.{branch_lines};
+
+use crate::lines::push_marks;
+use crate::marked::marks_of;
+use base::Mem;
+use rml_command::Stage;
+use rml_syntax::Tree;
+use std::alloc::Global;
+use std::marker::Model;
+
+/// A text and its tree, which stands within the text and has no fault of names and sorts.
+pub struct Source<'a> {
+    alloc: Global,
+    text: &'a [u8],
+    tree: &'a Tree,
+}
+
+impl<'a> Model for Source<'a> {
+    ghost use Rattle.std.specs.Prelude.{◌≡◌, length, None};
+    ghost use Rattle.std.specs.Coded.{codes};
+    ghost use Rattle.rml_syntax.specs.contracts.tree.Tree as whole;
+    ghost use Rattle.rml_syntax.specs.Tree.{file_tree};
+    ghost use Rattle.rml_syntax.specs.Within.{TreeWithin};
+    ghost use Rattle.rml_sorts.specs.Items.{fault_of};
+    ghost use Rattle.branches.specs.Sources.{TextAndTree};
+
+    ghost Value = { TextAndTree };
+
+    ghost coded = { Prim.hlevel (codes, whole.the_row.coded) };
+
+    ghost view = { λ s. record { text = s.text.now; tree = s.tree.now } };
+
+    ghost invariant = { λ s. TreeWithin (length s.text.now) (file_tree s.tree.now)
+        × (fault_of s.text.now (file_tree s.tree.now) ≡ None) };
+}
+
+impl<'a> Source<'a> {
+    /// The text and its tree.
+    pub fn new(alloc: Global, text: &'a [u8], tree: &'a Tree) -> Source<'a>
+        requires within { TreeWithin (length text.now) (file_tree tree.now) }
+        requires faultless { fault_of text.now (file_tree tree.now) ≡ None }
+        ensures { result ≡ record { text = text.now; tree = tree.now } }
+    {
+        Source { alloc, text, tree }
+    }
+
+    /// Adds a line for each `if`, `choose` and `assert` on a path of a stage's block, by its number from 1: where it
+    /// stands, and which way the path takes. No line where there is no such path.
+    pub fn push_lines(&self, out: &mut Vec<u8>, stage: Stage, path: u32) -> Mem<()>
+        ensures { OnOk result (out.new.items ≡ out.old.items
+            ++ branch_lines self.now.text (file_tree self.now.tree) stage path) }
+    {
+        let marks = marks_of(self.alloc, self.tree, stage, path)?;
+        push_marks(out, self.text, &marks)?;
+        Ok(())
+    }
+}
