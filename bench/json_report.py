@@ -224,7 +224,8 @@ def compared(path, command, words):
         return [f"no JSON: {why}"]
     if text.returncode not in (0, 1, 3):
         return list(differences(fault(text.stderr), told.get("fault"), ".fault"))
-    found = list(differences(getattr(Text(rml.read(open(path, encoding="ascii").read()), text.stdout), command)(), told))
+    model = rml.read(open(path, encoding="ascii").read())
+    found = list(differences(getattr(Text(model, text.stdout), command)(), told))
     if not view.stdout.endswith("\n") or view.stdout.count("\n") != 1:
         found.append("the JSON is not one line")
     return found
