@@ -1,0 +1,49 @@
+-- Names, and what a group is about, as data.
+use Rattle.std.specs.Prelude.{ℕ, List, [], ◌∷◌, codes, true}
+use Rattle.serde_json.specs.Data.{Data, boolean}
+use Rattle.rml_command.specs.declared.names.Names.{Names}
+use Rattle.rml_command.specs.declared.goal.Stage.{Stage}
+use Rattle.rml_command.specs.declared.goal.Stage.TheVariants as stage
+use Rattle.rml_command.specs.declared.goal.About.{About}
+use Rattle.rml_command.specs.declared.goal.About.TheVariants as about
+use Rattle.rml_report.specs.Words.{name_at}
+use Rattle.rml_report.specs.declared.cause.Bound.{Bound}
+use Rattle.rml_report.specs.declared.cause.Bound.TheVariants as at
+use Rattle.rml_report.specs.declared.cause.Cause.{Cause}
+use Rattle.rml_report.specs.declared.cause.Cause.TheVariants as cause
+use Rattle.rml_report.specs.declared.cause.Least.{Least}
+use Rattle.rml_report.specs.declared.cause.Least.TheVariants as least
+use Rattle.json_values.specs.Values.{text_data, number_data, object_of, kind_data, named_data, counted_data}
+
+-- the name of this number, or the empty text
+unfoldable pub name_data : List (List ℕ) → ℕ → Data
+name_data names k = text_data (name_at names k)
+
+abbrev pub stage_data : Names → Stage → Data
+stage_data names stage.Init = kind_data (codes "init")
+stage_data names (stage.Action a) = named_data (codes "action") (name_data names.actions a)
+stage_data names stage.Final = kind_data (codes "final")
+
+abbrev pub about_data : Names → About → Data
+about_data names about.Abort = kind_data (codes "abort")
+about_data names (about.Conjecture k) = named_data (codes "conjecture") (name_data names.conjectures k)
+
+abbrev pub cause_data : Cause → Data
+cause_data cause.Formula = kind_data (codes "formula")
+cause_data (cause.Terms n) = counted_data (codes "terms") n
+cause_data (cause.Ground n) = counted_data (codes "ground") n
+cause_data (cause.Conflicts n) = counted_data (codes "conflicts") n
+
+abbrev pub bound_data : Names → Bound → Data
+bound_data names (at.Sort k) = named_data (codes "sort") (name_data names.sorts k.0)
+bound_data names (at.Rel r) = named_data (codes "relation") (name_data names.relations r.0)
+
+-- whether there may be so many elements of this sort, or true tuples of this relation, was left open
+unfoldable pub stopped_data : Names → Bound → ℕ → Cause → Data
+stopped_data names bound size cause =
+    object_of ((codes "at", bound_data names bound) ∷ (codes "size", number_data size)
+    ∷ (codes "cause", cause_data cause) ∷ [])
+
+abbrev pub least_data : Names → Least → Data
+least_data names least.Yes = boolean true
+least_data names (least.Stopped bound size cause) = stopped_data names bound size cause
