@@ -15,7 +15,7 @@ use rml_command::Checked;
 use rml_lex::Fault;
 use rml_report::{Report, Verdict, render};
 use std::alloc::{AllocError, Global};
-use verdicts::report_by;
+use verdicts::report;
 
 /// The command, with what it may spend on each goal and on the axioms, and on which counts.
 #[derive(Drop)]
@@ -50,7 +50,7 @@ pub fn report_on<P: Progress>(
     // That the model is in the fragment is known where it is looked at.
     let _model = model.model();
     let limits = limits_of(asked);
-    let report = report_by(alloc, model, counted, &limits, progress)?;
+    let report = report(alloc, model, counted, &limits, progress)?;
     Ok(report)
 }
 

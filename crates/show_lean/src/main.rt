@@ -1,4 +1,4 @@
-//! Prints what `report` and `lean_report` of `verdicts` say of worked models under the same limits, where goals pass the
+//! Prints what `report` of `verdicts` says of worked models by whole and by lean counts, under the same limits, where goals pass the
 //! limit of the ground size by the counts of their whole refuting sentences, and not by those of their lean ones: the
 //! verdict, how many groups hold, and why groups are left open. The whole counts in `stdout` are those of the program,
 //! the lean ones were counted apart, and z3 says too that all goals of both models hold. The gate runs the program as
@@ -12,22 +12,17 @@ mod telling;
 use base::Mem;
 use call_files::status_of;
 use call_models::{ModelCall, limits_with, tell};
+use lean_decide::Counted;
 use lrat_log::Limits;
+use progress::Silent;
 use rml_command::Checked;
 use std::alloc::Global;
 use std::process::ExitCode;
 use telling::told;
-use verdicts::{lean_report, report};
+use verdicts::report;
 
-fn whole_told(alloc: Global, model: &Checked, limits: &Limits) -> Mem<String> {
-    let report = report(alloc, model, limits)?;
-    let told = told(alloc, &report);
-    drop(report);
-    told
-}
-
-fn lean_told(alloc: Global, model: &Checked, limits: &Limits) -> Mem<String> {
-    let report = lean_report(alloc, model, limits)?;
+fn told_by(alloc: Global, model: &Checked, counted: Counted, limits: &Limits) -> Mem<String> {
+    let report = report(alloc, model, counted, limits, &mut Silent)?;
     let told = told(alloc, &report);
     drop(report);
     told
@@ -39,8 +34,8 @@ struct Reports;
 impl ModelCall for Reports {
     fn answer(alloc: Global, words: &str, model: &Checked) -> Mem<String> {
         let limits = limits_with(words);
-        let whole = whole_told(alloc, model, &limits)?;
-        let lean = lean_told(alloc, model, &limits)?;
+        let whole = told_by(alloc, model, Counted::Whole, &limits)?;
+        let lean = told_by(alloc, model, Counted::Lean, &limits)?;
         let (whole, lean) = (whole.as_str(), lean.as_str());
         format!(in alloc; "whole: {whole}\n  lean: {lean}")
     }

@@ -25,7 +25,6 @@ use Rattle.rml_report.specs.Reports.{head_of, goal_at, IsShown, IsLeftOpen, IsAn
 use Rattle.ea_decide.specs.Passing.{Ceilings}
 use Rattle.obligation_decide.specs.GoalDecisions.{IsFailing, AreAxiomsDecided}
 use Rattle.lean_decide.specs.declared.settling.Counted.{Counted}
-use Rattle.lean_decide.specs.declared.settling.Counted.TheVariants.{Whole, Lean}
 use Rattle.verdicts.specs.Answers.{
   Failure,
   GoalAnswer,
@@ -38,7 +37,7 @@ use Rattle.verdicts.specs.Answers.{
 }
 use Rattle.cti_minimise.specs.Minimal.{IsLeast}
 use Rattle.verdicts.specs.Answers.{fails_or, IsGroupAnswer, IsGroupNow, IsReportBy}
-use Rattle.verdicts.specs.Laws.{ReportsAreRight, LeanReportsAreRight, IsLeastAsSaid, ShownAreLeast, LeanShownAreLeast}
+use Rattle.verdicts.specs.Laws.{ReportsAreRight, IsLeastAsSaid, ShownAreLeast}
 
 some_flat : {A B : Type 0} (f : A → List B) (y : B) (x : A) (xs : List A) → SomeOf (λ z. z ≡ x) xs
     → SomeOf (λ z. z ≡ y) (f x) → SomeOf (λ z. z ≡ y) (flat_map f xs)
@@ -240,10 +239,7 @@ each_least counted limits m [] h = tt
 each_least counted limits m (g ∷ gs) h = (answer_least counted limits m (head_of g) g.answer h.0, each_least counted limits m gs h.1)
 
 pub shown_are_least : ShownAreLeast
-shown_are_least limits m r h = each_least Whole limits m r.groups h.answers
-
-pub lean_shown_are_least : LeanShownAreLeast
-lean_shown_are_least limits m r h = each_least Lean limits m r.groups h.answers
+shown_are_least counted limits m r h = each_least counted limits m r.groups h.answers
 
 each_right : (counted : Counted) (limits : Ceilings) (m : ModelTree) → GoalsAreListed → (gs : List Group)
     → ((h : goals.Group) → SomeOf (λ x. x ≡ h) (map head_of gs) → SomeOf (λ x. x ≡ h) (groups_of m))
@@ -260,18 +256,11 @@ axioms_right limits m axioms.Consistent h = h.1
 axioms_right limits m axioms.Inconsistent h = h.1
 axioms_right limits m (axioms.Undecided c) h = tt
 
-reports_right : (counted : Counted) → GoalsAreListed → (limits : Ceilings) (m : ModelTree) (report : Report)
-    → IsReportBy counted limits m report → Reports m report
-reports_right counted listed limits m r h = record {
+pub reports_are_right : GoalsAreListed → ReportsAreRight
+reports_are_right listed counted limits m r h = record {
   groups = h.groups;
   right = each_right counted limits m listed r.groups (λ x is. subst
       (λ (hs : List goals.Group). SomeOf (λ y. y ≡ x) hs) h.groups is) h.answers;
   verdict = h.verdict;
   axioms = axioms_right limits m r.axioms h.axioms;
 }
-
-pub reports_are_right : GoalsAreListed → ReportsAreRight
-reports_are_right listed = reports_right Whole listed
-
-pub lean_reports_are_right : GoalsAreListed → LeanReportsAreRight
-lean_reports_are_right listed = reports_right Lean listed

@@ -101,6 +101,3 @@ pub record IsReportBy (counted : Counted) (limits : Ceilings) (m : ModelTree) (r
 
 abbrev pub IsReport : Ceilings → ModelTree → Report → Type 0
 IsReport limits m report = IsReportBy Whole limits m report
-
-abbrev pub IsLeanReport : Ceilings → ModelTree → Report → Type 0
-IsLeanReport limits m report = IsReportBy Lean limits m report

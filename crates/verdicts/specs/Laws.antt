@@ -7,15 +7,13 @@ use Rattle.rml_report.specs.declared.report.Answer.TheVariants as answer
 use Rattle.rml_report.specs.declared.report.Report.{Report}
 use Rattle.ea_decide.specs.Passing.{Ceilings}
 use Rattle.cti_minimise.specs.Minimal.{IsLeast}
-use Rattle.verdicts.specs.Answers.{IsReport, IsLeanReport}
+use Rattle.lean_decide.specs.declared.settling.Counted.{Counted}
+use Rattle.verdicts.specs.Answers.{IsReportBy}
 
 -- each line of it is right
 abbrev pub ReportsAreRight : Type 0
-ReportsAreRight = (limits : Ceilings) (m : ModelTree) (report : Report) → IsReport limits m report → Reports m report
-
-abbrev pub LeanReportsAreRight : Type 0
-LeanReportsAreRight = (limits : Ceilings) (m : ModelTree) (report : Report) → IsLeanReport limits m report
-    → Reports m report
+ReportsAreRight = (counted : Counted) (limits : Ceilings) (m : ModelTree) (report : Report)
+    → IsReportBy counted limits m report → Reports m report
 
 -- what is said of the sizes of a counterexample that is shown
 abbrev pub IsLeastAsSaid : Ceilings → ModelTree → Answer → Type 0
@@ -25,9 +23,6 @@ IsLeastAsSaid limits m (answer.Undecided path cause) = Unit {0}
 
 -- Each counterexample of a report has least sizes, or the search for smaller ones stopped, as the report says.
 abbrev pub ShownAreLeast : Type 0
-ShownAreLeast = (limits : Ceilings) (m : ModelTree) (report : Report) → IsReport limits m report
-    → AllByRecursion (λ g. IsLeastAsSaid limits m g.answer) report.groups
-
-abbrev pub LeanShownAreLeast : Type 0
-LeanShownAreLeast = (limits : Ceilings) (m : ModelTree) (report : Report) → IsLeanReport limits m report
+ShownAreLeast = (counted : Counted) (limits : Ceilings) (m : ModelTree) (report : Report)
+    → IsReportBy counted limits m report
     → AllByRecursion (λ g. IsLeastAsSaid limits m g.answer) report.groups

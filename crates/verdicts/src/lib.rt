@@ -8,4 +8,4 @@ mod listing;
 mod reporting;
 
 pub use laws::report_law;
-pub use reporting::{lean_report, report};
+pub use reporting::report;

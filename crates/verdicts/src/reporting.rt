@@ -4,7 +4,7 @@ ghost use Rattle.std.specs.List.{AllByRecursion, list_all, list_any};
 ghost use Rattle.rml_command.specs.Goals.{stage_groups, groups_of};
 ghost use Rattle.rml_report.specs.Reports.{head_of, says_holds, says_fails, verdict_of};
 ghost use Rattle.ea_decide.specs.Passing.{ceilings};
-ghost use Rattle.verdicts.specs.Answers.{IsGroupNow, IsReport, IsLeanReport, IsReportBy};
+ghost use Rattle.verdicts.specs.Answers.{IsGroupNow, IsReportBy};
 ghost use Rattle.verdicts.specs.Earliest.{IsBeforeFinal};
 
 use crate::deciding::decide_group;
@@ -120,35 +120,12 @@ fn verdict_for(groups: &[Group]) -> Verdict
 
 /// The report on a model: what is so of each goal and of the axioms, or the limit that they pass. Each group that was
 /// decided is told.
+///
+/// The limits of a goal are those of its whole sentence, or of its lean one, which is mostly a tenth of it, and causes
+/// name the counts of that. The axioms, and the trials of smaller counterexamples, are counted whole in any case: under
+/// lean counts the first counterexample is shown, mostly, of a goal that passes a limit whole, and `least` says which
+/// limit the trial passes. There a goal with more than 2,147,483,648 constants is answered as want of memory.
 pub fn report<P: Progress>(
-    alloc: Global,
-    checked: &Checked,
-    limits: &Limits,
-    progress: &mut P,
-) -> Mem<Report>
-    ensures { IfOk result (IsReport (ceilings limits.now) checked.now) }
-{
-    let report = report_by(alloc, checked, Counted::Whole, limits, progress)?;
-    Ok(report)
-}
-
-/// The same, where the limits of a goal are those of its lean sentence, which is mostly a tenth of the whole one, and
-/// causes name the counts of that. The axioms, and the trials of smaller counterexamples, are counted whole: of a goal
-/// that passes a limit whole, the first counterexample is shown, mostly, and `least` says which limit the trial passes.
-/// A goal with more than 2,147,483,648 constants is answered as want of memory.
-pub fn lean_report<P: Progress>(
-    alloc: Global,
-    checked: &Checked,
-    limits: &Limits,
-    progress: &mut P,
-) -> Mem<Report>
-    ensures { IfOk result (IsLeanReport (ceilings limits.now) checked.now) }
-{
-    let report = report_by(alloc, checked, Counted::Lean, limits, progress)?;
-    Ok(report)
-}
-
-fn report_by<P: Progress>(
     alloc: Global,
     checked: &Checked,
     counted: Counted,

@@ -14,7 +14,7 @@ returns c =
     let counted = c.args.counted in
     let made : IsReportBy counted limits m report =
     subst (λ (l : Ceilings). IsReportBy counted l m report) c.limits_of-limits.ensures c.in_ok-report.ensures in
-    let right : Reports m report = c.report_law.ensures.each counted limits m report made in
+    let right : Reports m report = c.report_law.ensures.right counted limits m report made in
     record {
       reports = right;
       safe = c.report_law-2.ensures m report c.model-model.ensures.checked.model.fits right;
