@@ -1,0 +1,10 @@
+use Rattle.std.proofs.Common.{◌≡◌, ◌++◌, map, length}
+use Rattle.json_report.specs.GroupData.{name_data}
+use Rattle.json_outcome.proofs.houdini.names_value.Given as goal
+
+abbrev pub invariant-loop-rest : goal.invariant-loop-rest
+invariant-loop-rest l =
+    l.list ++ map (name_data l.names.conjectures) l.rest ≡ map (name_data l.names.conjectures) l.conjectures
+
+abbrev pub decreases-loop-rest : goal.decreases-loop-rest
+decreases-loop-rest l = length l.rest

@@ -1,0 +1,10 @@
+-- The values so far, and behind them those of the rest.
+use Rattle.std.proofs.Common.{◌≡◌, ◌++◌, map, length}
+use Rattle.json_outcome.specs.ReasonsData.{need_data}
+use Rattle.json_outcome.proofs.reasons.need_values.Given as goal
+
+abbrev pub invariant-loop-rest : goal.invariant-loop-rest
+invariant-loop-rest l = l.list ++ map (need_data l.names) l.rest ≡ map (need_data l.names) l.needs
+
+abbrev pub decreases-loop-rest : goal.decreases-loop-rest
+decreases-loop-rest l = length l.rest

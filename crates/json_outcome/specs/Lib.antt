@@ -1,0 +1,4 @@
+pub mod HoudiniData
+pub mod BoundedData
+pub mod ReasonsData
+pub mod ReplayData

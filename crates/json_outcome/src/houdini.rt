@@ -1,0 +1,144 @@
+// The greatest inductive set.
+ghost use Rattle.std.specs.Prelude.{◌≡◌, IfOk};
+ghost use Rattle.std.specs.List.{AllByRecursion};
+ghost use Rattle.rml_houdini.specs.HoudiniText.{CanRender};
+ghost use Rattle.json_outcome.specs.HoudiniData.{names_data, dropped_data, drops_data, open_data, unsettled_data};
+ghost use Rattle.json_outcome.specs.HoudiniData.{verdict_data, houdini_members};
+
+use base::Mem;
+use json_report::{
+    about_value, behind_first, cause_value, execution_value, first_given, name_value, stage_value,
+};
+use json_values::{Json, JsonList, JsonObject};
+use rml_command::{Checked, Goal, Names};
+use rml_houdini::{Dropped, Houdini};
+use rml_report::Cause;
+use std::alloc::Global;
+
+/// The names of conjectures.
+#[tactic(auto, using(std::proofs::Common::append_assoc), unfolding(crate::specs::HoudiniData::names_data))]
+pub fn names_value(alloc: Global, names: &Names, conjectures: &[u32]) -> Mem<Json>
+    ensures { IfOk result (λ j. j ≡ names_data names.now conjectures.now) }
+{
+    let mut list = JsonList::new(alloc);
+    let mut rest = conjectures;
+    while let [conjecture, after @ ..] = rest {
+        list.push(name_value(alloc, names.conjectures.as_slice(), *conjecture)?)?;
+        rest = after;
+    }
+    Ok(list.into_json())
+}
+
+// A dropped conjecture, and the execution that breaks it.
+#[tactic(auto, unfolding(crate::specs::HoudiniData::dropped_data))]
+fn dropped_value(alloc: Global, checked: &Checked, dropped: &Dropped, branches: Json) -> Mem<Json>
+    requires { CanRender checked.now dropped.now }
+    ensures { IfOk result (λ j. j ≡ dropped_data checked.now dropped.now branches) }
+{
+    let names = checked.model().names();
+    let goal = dropped.shown.goal;
+    let paths = checked.stage_paths(goal.stage).len();
+    let mut object = JsonObject::new(alloc);
+    let name = name_value(alloc, names.conjectures.as_slice(), dropped.conjecture)?;
+    object.set(alloc, "conjecture", name)?;
+    object.set(
+        alloc,
+        "held",
+        names_value(alloc, names, dropped.held.as_slice())?,
+    )?;
+    object.set(alloc, "stage", stage_value(alloc, names, goal.stage)?)?;
+    object.set(alloc, "about", about_value(alloc, names, goal.about)?)?;
+    object.set_number(alloc, "path", dropped.shown.trace.path as u64)?;
+    object.set_number(alloc, "paths", paths as u64)?;
+    object.set(
+        alloc,
+        "execution",
+        execution_value(alloc, checked, &dropped.shown, branches)?,
+    )?;
+    Ok(object.into_json())
+}
+
+// The drops, each with what is told of its execution.
+#[tactic(auto, using(std::proofs::Common::append_assoc))]
+fn drop_values(
+    alloc: Global,
+    checked: &Checked,
+    drops: &[Dropped],
+    branches: &[Json],
+) -> Mem<JsonList>
+    requires { AllByRecursion (CanRender checked.now) drops.now }
+    ensures { IfOk result (λ l. l ≡ drops_data checked.now drops.now branches.now) }
+{
+    let mut list = JsonList::new(alloc);
+    let mut rest = drops;
+    let mut given = branches;
+    while let [dropped, after @ ..] = rest {
+        let told = first_given(given)?;
+        list.push(dropped_value(alloc, checked, dropped, told)?)?;
+        rest = after;
+        given = behind_first(given);
+    }
+    Ok(list)
+}
+
+// The goal that is left open.
+#[tactic(auto, unfolding(crate::specs::HoudiniData::open_data))]
+fn open_value(alloc: Global, names: &Names, goal: &Goal, cause: &Cause) -> Mem<Json>
+    ensures { IfOk result (λ j. j ≡ open_data names.now goal.now cause.now) }
+{
+    let mut object = JsonObject::new(alloc);
+    object.set(alloc, "stage", stage_value(alloc, names, goal.stage)?)?;
+    object.set(alloc, "about", about_value(alloc, names, goal.about)?)?;
+    object.set_number(alloc, "path", goal.path as u64)?;
+    object.set(alloc, "cause", cause_value(alloc, cause)?)?;
+    Ok(object.into_json())
+}
+
+fn unsettled_value(alloc: Global, names: &Names, unsettled: Option<(Goal, Cause)>) -> Mem<Json>
+    ensures { IfOk result (λ j. j ≡ unsettled_data names.now unsettled) }
+{
+    match unsettled {
+        None => Ok(Json::null()),
+        Some((goal, cause)) => open_value(alloc, names, &goal, &cause),
+    }
+}
+
+fn verdict_value(alloc: Global, unsettled: Option<(Goal, Cause)>) -> Mem<Json>
+    ensures { IfOk result (λ j. j ≡ verdict_data unsettled) }
+{
+    match unsettled {
+        None => Json::word(alloc, "greatest"),
+        Some(_) => Json::word(alloc, "undecided"),
+    }
+}
+
+/// What is found, as members to which others can be added. `branches` has, for each drop in order, what is told of its
+/// execution; where it is shorter, null is.
+#[tactic(auto, unfolding(crate::specs::HoudiniData::houdini_members))]
+pub fn houdini_object(
+    alloc: Global,
+    checked: &Checked,
+    houdini: &Houdini,
+    branches: &[Json],
+) -> Mem<JsonObject>
+    requires { AllByRecursion (CanRender checked.now) houdini.now.dropped }
+    ensures { IfOk result (λ o. o ≡ houdini_members checked.now houdini.now branches.now) }
+{
+    let names = checked.model().names();
+    let mut object = JsonObject::new(alloc);
+    object.set_word(alloc, "command", "houdini")?;
+    object.set(alloc, "verdict", verdict_value(alloc, houdini.unsettled)?)?;
+    let dropped = drop_values(alloc, checked, houdini.dropped.as_slice(), branches)?;
+    object.set(alloc, "dropped", dropped.into_json())?;
+    object.set(
+        alloc,
+        "kept",
+        names_value(alloc, names, houdini.kept.as_slice())?,
+    )?;
+    object.set(
+        alloc,
+        "open",
+        unsettled_value(alloc, names, houdini.unsettled)?,
+    )?;
+    Ok(object)
+}
