@@ -7,7 +7,6 @@ mod fault;
 mod group;
 mod report;
 mod structure;
-mod tables;
 
 pub use execution::{execution_value, havocs};
 pub use fault::faulty_object;

@@ -7,12 +7,12 @@ ghost use Rattle.json_report.specs.StructureData.{function_data, sort_data, sort
 ghost use Rattle.json_report.specs.StructureData.{structure_data};
 
 use crate::group::name_value;
-use crate::tables::{sizes, tuples};
 use base::Mem;
 use fol_sig::{FunId, RelId, Sort, Structure, tuple_of_number};
 use json_values::{Json, JsonList, JsonObject, numbers};
 use rml_command::{Model, Names};
 use std::alloc::Global;
+use told_states::{sizes, tuples};
 
 // Adds the tuple, if the relation is true of it.
 fn push_true(

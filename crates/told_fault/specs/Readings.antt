@@ -1,5 +1,5 @@
 -- What is told beside a fault: what can be said of a text without its names and sorts.
-use Rattle.std.specs.Prelude.{◌≡◌, ℕ, List, [], ◌++◌, Option, Some, None, codes}
+use Rattle.std.specs.Prelude.{◌≡◌, ℕ, List, [], ◌++◌, length, Option, Some, None, codes}
 use Rattle.rml_lex.specs.declared.token.Token.{Token}
 use Rattle.rml_lex.specs.declared.token.Fault.{Fault}
 use Rattle.rml_lex.specs.declared.fault_code.FaultCode.{FaultCode}
@@ -7,6 +7,7 @@ use Rattle.rml_lex.specs.declared.fault_code.FaultCode.TheVariants as code
 use Rattle.rml_lex.specs.Tokens.{AreTokens}
 use Rattle.rml_lex.specs.Tokens as bytes
 use Rattle.rml_syntax.specs.Tree.{file_tree}
+use Rattle.rml_syntax.specs.Within.{TreeWithin}
 use Rattle.rml_syntax.specs.Faults.{IsTree}
 use Rattle.rml_syntax.specs.Faults as grammar
 use Rattle.diagnostics.specs.Diagnostics.{diagnostic_text}
@@ -26,7 +27,7 @@ abbrev pub byte_advice : List ℕ → Fault → Option Hint
 byte_advice text fault = advice_at fault.code text fault.at
 
 -- The bytes have this fault; or they are tokens, and these have this fault, where these kinds may stand; or the tokens
--- are this tree's.
+-- are this tree's, whose names and words stand within the text.
 abbrev pub IsReading : List ℕ → Reading → Type 0
 IsReading text (NoTokens hint) = (fault : Fault) × bytes.IsFault text fault × (hint ≡ byte_advice text fault)
 IsReading text (Unexpected kinds hint) =
@@ -36,7 +37,9 @@ IsReading text (Unexpected kinds hint) =
 IsReading text TooDeep =
     (tokens : List Token) × (fault : Fault) × AreTokens text tokens × grammar.IsFault text tokens fault
     × (fault.code ≡ code.DeepNesting)
-IsReading text (Parsed tree) = (tokens : List Token) × AreTokens text tokens × IsTree text tokens (file_tree tree)
+IsReading text (Parsed tree) =
+    (tokens : List Token) × AreTokens text tokens × IsTree text tokens (file_tree tree)
+    × TreeWithin (length text) (file_tree tree)
 
 -- `  = hint: ..`, and nothing without one
 abbrev pub hint_line : Option Hint → List ℕ

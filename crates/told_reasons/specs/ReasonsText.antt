@@ -1,0 +1,55 @@
+-- The text of the reasons of a model's groups.
+use Rattle.std.specs.Prelude.{ℕ, List, [], ◌∷◌, ◌++◌, codes}
+use Rattle.std.specs.List.{flat_map}
+use Rattle.std.specs.Fmt.{decimal}
+use Rattle.rml_command.specs.Models.{ModelTree}
+use Rattle.rml_command.specs.declared.names.Names.{Names}
+use Rattle.rml_report.specs.Words.{name_at}
+use Rattle.rml_report.specs.ReportText.{head_text}
+use Rattle.rml_report.specs.declared.cause.Cause.{Cause}
+use Rattle.rml_reasons.specs.declared.reason.Need.{Need}
+use Rattle.rml_reasons.specs.declared.reason.Lack.{Lack}
+use Rattle.rml_reasons.specs.declared.reason.Lack.TheVariants.{Fails, Open}
+use Rattle.rml_reasons.specs.declared.reason.Carried.{Carried}
+use Rattle.rml_reasons.specs.declared.reason.Carried.TheVariants.{By, Not}
+use Rattle.told_report.specs.CauseWords.{cause_words}
+use Rattle.model_reasons.specs.declared.reason.Reason.{Reason}
+use Rattle.model_reasons.specs.Idle.{idle_conjectures}
+
+-- names of conjectures, each behind a comma
+abbrev pub more_needs : List (List ℕ) → List Need → List ℕ
+more_needs names needs = flat_map (λ n. codes ", " ++ name_at names n.conjecture) needs
+
+abbrev pub more_names : List (List ℕ) → List ℕ → List ℕ
+more_names names ks = flat_map (λ k. codes ", " ++ name_at names k) ks
+
+-- linked_down, unique
+abbrev pub needs_text : List (List ℕ) → List Need → List ℕ
+needs_text names [] = codes "no conjecture"
+needs_text names (n ∷ needs) = name_at names n.conjecture ++ more_needs names needs
+
+unfoldable pub open_text : ℕ → Cause → List ℕ
+open_text path c = codes "left open at path " ++ decimal path ++ codes ": " ++ cause_words c
+
+abbrev pub lack_text : Lack → List ℕ
+lack_text (Fails shown) = codes "fails"
+lack_text (Open goal c) = open_text goal.path c
+
+abbrev pub carried_text : List (List ℕ) → Carried → List ℕ
+carried_text names (By needs) = codes "by " ++ needs_text names needs
+carried_text names (Not lack) = lack_text lack
+
+-- action connect linked_down: by linked_down, unique
+unfoldable pub reason_line : Names → Reason → List ℕ
+reason_line names r =
+    head_text names r.stage r.about ++ codes ": " ++ carried_text names.conjectures r.carried ++ codes "\n"
+
+-- nothing where each conjecture serves another group
+abbrev pub idle_line : List (List ℕ) → List ℕ → List ℕ
+idle_line names [] = []
+idle_line names (k ∷ ks) = codes "no other group needs: " ++ name_at names k ++ more_names names ks ++ codes "\n"
+
+-- a line for each group, and one for the conjectures that carry no group but their own
+unfoldable pub reasons_text : ModelTree → List Reason → List ℕ
+reasons_text m reasons =
+    flat_map (reason_line m.names) reasons ++ idle_line m.names.conjectures (idle_conjectures m reasons)
