@@ -40,7 +40,15 @@ fn perform_check<F: Files>(
         first.new.items [] (outcome_in result) }
 {
     let counted = Counted::Whole;
-    match one_file(&Check { asked, counted }, alloc, files, file, MODEL_LIMIT, first, &mut Silent) {
+    match one_file(
+        &Check { asked, counted },
+        alloc,
+        files,
+        file,
+        MODEL_LIMIT,
+        first,
+        &mut Silent,
+    ) {
         Ok(done) => Ok(Done {
             answer: Answer::Check(done.answer),
             said: done.said,
@@ -67,7 +75,16 @@ fn perform_lrat<F: Files>(
         first.new.items second.new.items (outcome_in result) }
 {
     match two_files(
-        &Lrat, alloc, files, formula, LONG_LIMIT, first, log, LONG_LIMIT, second, &mut Silent,
+        &Lrat,
+        alloc,
+        files,
+        formula,
+        LONG_LIMIT,
+        first,
+        log,
+        LONG_LIMIT,
+        second,
+        &mut Silent,
     ) {
         Ok(done) => Ok(Done {
             answer: Answer::Lrat(done.answer),
@@ -130,7 +147,15 @@ fn perform_emit<F: Files>(
     ensures does { Does (Some (emit file.now emission)) (F.told files.old) (F.faults files.old) (F.faults files.new)
         first.new.items [] (outcome_in result) }
 {
-    match one_file(&Emit { emission }, alloc, files, file, MODEL_LIMIT, first, &mut Silent) {
+    match one_file(
+        &Emit { emission },
+        alloc,
+        files,
+        file,
+        MODEL_LIMIT,
+        first,
+        &mut Silent,
+    ) {
         Ok(done) => Ok(Done {
             answer: Answer::Emit(done.answer),
             said: done.said,
@@ -155,7 +180,15 @@ fn perform_houdini<F: Files>(
         first.new.items [] (outcome_in result) }
 {
     let counted = Counted::Whole;
-    match one_file(&Houdini { asked, counted }, alloc, files, file, MODEL_LIMIT, first, &mut Silent) {
+    match one_file(
+        &Houdini { asked, counted },
+        alloc,
+        files,
+        file,
+        MODEL_LIMIT,
+        first,
+        &mut Silent,
+    ) {
         Ok(done) => Ok(Done {
             answer: Answer::Houdini(done.answer),
             said: done.said,
@@ -181,7 +214,15 @@ fn perform_bmc<F: Files>(
         first.new.items [] (outcome_in result) }
 {
     let counted = Counted::Whole;
-    match one_file(&Bmc { bound, counted }, alloc, files, file, MODEL_LIMIT, first, &mut Silent) {
+    match one_file(
+        &Bmc { bound, counted },
+        alloc,
+        files,
+        file,
+        MODEL_LIMIT,
+        first,
+        &mut Silent,
+    ) {
         Ok(done) => Ok(Done {
             answer: Answer::Bmc(done.answer),
             said: done.said,

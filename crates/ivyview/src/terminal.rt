@@ -29,7 +29,10 @@ impl<W: Write + Drop> Progress for ProgressLine<W> {
         self.is_shown = true;
         let _ = match work {
             Work::Groups => write!(self.writer, "\r\x1b[Kgroup {done} of {all}"),
-            Work::Walks(actions) => write!(self.writer, "\r\x1b[Kwalk {done} of {all}, with {actions} actions"),
+            Work::Walks(actions) => write!(
+                self.writer,
+                "\r\x1b[Kwalk {done} of {all}, with {actions} actions"
+            ),
             Work::Drops => write!(self.writer, "\r\x1b[K{done} of {all} conjectures dropped"),
         };
         let _ = self.writer.flush();

@@ -46,7 +46,11 @@ fn part_value(alloc: Global, checked: &Checked, part: &Part) -> Mem<Json>
 {
     let paths = checked.stage_paths(part.stage).len();
     let mut object = JsonObject::new(alloc);
-    object.set(alloc, "stage", stage_value(alloc, checked.model().names(), part.stage)?)?;
+    object.set(
+        alloc,
+        "stage",
+        stage_value(alloc, checked.model().names(), part.stage)?,
+    )?;
     object.set_number(alloc, "path", part.trace.path as u64)?;
     object.set_number(alloc, "paths", paths as u64)?;
     object.set(alloc, "takes", takes_value(alloc, checked, part)?)?;
@@ -77,7 +81,12 @@ fn bound_cause_value(alloc: Global, cause: &BoundCause) -> Mem<Json>
     }
 }
 
-fn set_open(alloc: Global, object: &mut JsonObject, checked: &Checked, cause: &BoundCause) -> Mem<()>
+fn set_open(
+    alloc: Global,
+    object: &mut JsonObject,
+    checked: &Checked,
+    cause: &BoundCause,
+) -> Mem<()>
     ensures { OnOk result (object.new ≡ set_each object.old (length_members checked.now (Length.Undecided cause.now))) }
 {
     object.set_word(alloc, "answer", "undecided")?;
@@ -91,7 +100,11 @@ fn set_run(alloc: Global, object: &mut JsonObject, checked: &Checked, run: &Run)
 {
     let model = checked.model();
     object.set_word(alloc, "answer", "broken")?;
-    object.set(alloc, "about", about_value(alloc, model.names(), run.about)?)?;
+    object.set(
+        alloc,
+        "about",
+        about_value(alloc, model.names(), run.about)?,
+    )?;
     object.set(alloc, "start", structure_value(alloc, model, &run.start)?)?;
     let parts = part_values(alloc, checked, run.parts.as_slice())?;
     object.set(alloc, "parts", parts.into_json())?;

@@ -163,12 +163,7 @@ fn judge_prefixes(alloc: Global, row: &Row, prefixes: &Prefixes) -> Parsed<Repor
 }
 
 /// Runs a row, and says how it differs from what is expected of it.
-pub fn judge(
-    alloc: Global,
-    system: HostRuntime,
-    program: Program,
-    row: &Row,
-) -> Parsed<Report> {
+pub fn judge(alloc: Global, system: HostRuntime, program: Program, row: &Row) -> Parsed<Report> {
     if let Some(prefixes) = &row.prefixes {
         return judge_prefixes(alloc, row, prefixes);
     }

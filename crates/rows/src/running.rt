@@ -2,10 +2,10 @@
 ghost use Rattle.std.specs.Prelude.{IsTrue, All, ◌≢◌};
 ghost use Rattle.rml_bytes.specs.Memory.{NamesDiffer, IncreaseAbove, firsts};
 
+use crate::viewing::view_between;
 use base::{Mem, Refused};
 use clause_commands::{EmitAnswer, Emitted, LratAnswer};
 use commands::Written;
-use crate::viewing::view_between;
 use ivy_run::{Answer, Ended, run};
 use model_commands::{BmcAnswer, CheckAnswer, HoudiniAnswer};
 use replay_command::ReplayAnswer;

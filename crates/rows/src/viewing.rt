@@ -1,5 +1,8 @@
 // A run of `ivyview` on a row, and what it leaves.
-use crate::running::{Actual, name_of_bmc, name_of_check, name_of_houdini, name_of_replay, name_of_stop, name_of_written};
+use crate::running::{
+    Actual, name_of_bmc, name_of_check, name_of_houdini, name_of_replay, name_of_stop,
+    name_of_written,
+};
 use model_commands::{BmcAnswer, CheckAnswer, HoudiniAnswer};
 use progress::Silent;
 use replay_command::ReplayAnswer;

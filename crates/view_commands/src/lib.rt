@@ -16,6 +16,6 @@ mod why;
 pub use bmc::ViewBmc;
 pub use check::ViewCheck;
 pub use houdini::ViewHoudini;
-pub use replay::{ViewReplay};
+pub use replay::ViewReplay;
 pub use viewed::Viewed;
 pub use why::{ViewWhy, WhyAnswer};

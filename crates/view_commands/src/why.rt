@@ -37,13 +37,21 @@ pub struct ViewWhy<'a> {
 #[derive(Drop)]
 pub enum WhyAnswer {
     /// The file's model, and what carries each of its groups.
-    Reasons { model: Checked, reasons: Row<Reason> },
+    Reasons {
+        model: Checked,
+        reasons: Row<Reason>,
+    },
     /// What is wrong with the text.
     Fault(Fault),
 }
 
 // What carries the groups of a model, under the limits that were asked for.
-fn reasons_of<P: Progress>(alloc: Global, model: &Checked, asked: Asked, progress: &mut P) -> Mem<Row<Reason>>
+fn reasons_of<P: Progress>(
+    alloc: Global,
+    model: &Checked,
+    asked: Asked,
+    progress: &mut P,
+) -> Mem<Row<Reason>>
     requires { IsInRange asked }
     ensures { IfOk result (AreReasons (ceilings_of asked) model.now) }
 {
@@ -53,7 +61,12 @@ fn reasons_of<P: Progress>(alloc: Global, model: &Checked, asked: Asked, progres
 }
 
 // The answer to the text of a model.
-fn judge_groups<P: Progress>(alloc: Global, text: &[u8], asked: Asked, progress: &mut P) -> Mem<WhyAnswer>
+fn judge_groups<P: Progress>(
+    alloc: Global,
+    text: &[u8],
+    asked: Asked,
+    progress: &mut P,
+) -> Mem<WhyAnswer>
     requires { IsInRange asked }
     ensures { IfOk result (IsWhyAnswer (ceilings_of asked) text.now) }
 {

@@ -3,8 +3,8 @@ ghost use Rattle.std.specs.Prelude.{◌≡◌};
 
 use commands::Written;
 use model_commands::{BmcAnswer, CheckAnswer, HoudiniAnswer};
-use rml_bytes::{Bytes, LoadError};
 use replay_command::ReplayAnswer;
+use rml_bytes::{Bytes, LoadError};
 use view_commands::{Viewed, WhyAnswer};
 
 /// What is answered.

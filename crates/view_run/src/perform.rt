@@ -76,7 +76,15 @@ fn show_check<F: Files, P: Progress>(
     let counted = counted_by(options);
     let check = Check { asked, counted };
     let form = options.form;
-    match one_file(&ViewCheck { file, check, form }, alloc, files, file, MODEL_LIMIT, first, progress) {
+    match one_file(
+        &ViewCheck { file, check, form },
+        alloc,
+        files,
+        file,
+        MODEL_LIMIT,
+        first,
+        progress,
+    ) {
         Ok(done) => Ok(Done {
             answer: Answer::Check(done.answer),
             said: done.said,
@@ -106,7 +114,19 @@ fn show_houdini<F: Files, P: Progress>(
     let counted = counted_by(options);
     let houdini = Houdini { asked, counted };
     let form = options.form;
-    match one_file(&ViewHoudini { file, houdini, form }, alloc, files, file, MODEL_LIMIT, first, progress) {
+    match one_file(
+        &ViewHoudini {
+            file,
+            houdini,
+            form,
+        },
+        alloc,
+        files,
+        file,
+        MODEL_LIMIT,
+        first,
+        progress,
+    ) {
         Ok(done) => Ok(Done {
             answer: Answer::Houdini(done.answer),
             said: done.said,
@@ -137,7 +157,15 @@ fn show_bmc<F: Files, P: Progress>(
     let counted = counted_by(options);
     let bmc = Bmc { bound, counted };
     let form = options.form;
-    match one_file(&ViewBmc { file, bmc, form }, alloc, files, file, MODEL_LIMIT, first, progress) {
+    match one_file(
+        &ViewBmc { file, bmc, form },
+        alloc,
+        files,
+        file,
+        MODEL_LIMIT,
+        first,
+        progress,
+    ) {
         Ok(done) => Ok(Done {
             answer: Answer::Bmc(done.answer),
             said: done.said,
@@ -165,7 +193,15 @@ fn show_why<F: Files, P: Progress>(
         (F.faults files.new) first.new.items [] (outcome_in result) }
 {
     let form = options.form;
-    match one_file(&ViewWhy { file, asked, form }, alloc, files, file, MODEL_LIMIT, first, progress) {
+    match one_file(
+        &ViewWhy { file, asked, form },
+        alloc,
+        files,
+        file,
+        MODEL_LIMIT,
+        first,
+        progress,
+    ) {
         Ok(done) => Ok(Done {
             answer: Answer::Why(done.answer),
             said: done.said,
@@ -238,8 +274,12 @@ fn show_question<F: Files, P: Progress>(
         (F.faults files.new) first.new.items second.new.items (outcome_in result) }
 {
     match question {
-        Question::Check(file, asked) => show_check(alloc, file, asked, options, files, first, progress),
-        Question::Houdini(file, asked) => show_houdini(alloc, file, asked, options, files, first, progress),
+        Question::Check(file, asked) => show_check(
+            alloc, file, asked, options, files, first, progress,
+        ),
+        Question::Houdini(file, asked) => show_houdini(
+            alloc, file, asked, options, files, first, progress,
+        ),
         Question::Bmc(file, bound) => show_bmc(alloc, file, bound, options, files, first, progress),
         Question::Why(file, asked) => show_why(alloc, file, asked, options, files, first, progress),
         Question::Replay(model, report) => show_replay(

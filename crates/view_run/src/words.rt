@@ -38,7 +38,8 @@ const OPTIONS: &str = "A FILE may be -, for standard input. Options, anywhere am
 
 ";
 
-const STATUS: &str = "The status is 0 where all is well, 1 where something fails, 2 for words that are no command line, 3 where
+const STATUS: &str =
+    "The status is 0 where all is well, 1 where something fails, 2 for words that are no command line, 3 where
 something is left open, 4 for a faulty or too long file, 5 where a file or a stream fails, 7 for want of memory.
 ";
 
@@ -73,9 +74,13 @@ impl Command for Words {
     fn say(&self, alloc: Global, first: &[u8], second: &[u8], answer: &()) -> Mem<Said> {
         match self {
             Words::Help => Ok(shown(help(alloc)?, 0)),
-            Words::Version => Ok(shown("ivyview 1, for models of rml 1\n".as_bytes().to_vec(alloc)?, 0)),
+            Words::Version => Ok(shown(
+                "ivyview 1, for models of rml 1\n".as_bytes().to_vec(alloc)?,
+                0,
+            )),
             Words::Usage => {
-                let line = "ivyview: these words are no command line; ivyview --help says which are\n";
+                let line =
+                    "ivyview: these words are no command line; ivyview --help says which are\n";
                 Ok(complaint(line.as_bytes().to_vec(alloc)?, 2))
             }
         }
