@@ -9,6 +9,7 @@ use Rattle.rml_command.specs.Paths.{is_abort, has_abort}
 use Rattle.walks.specs.Walks.{leg_path, joined}
 use Rattle.rml_command.specs.Models.{ModelTree}
 use Rattle.ea_decide.specs.Passing.{Ceilings}
+use Rattle.lean_decide.specs.declared.settling.Counted.{Counted}
 use Rattle.walks.specs.declared.leg.Leg.{Leg}
 use Rattle.walks.specs.declared.leg.Walk.{Walk}
 use Rattle.rml_bmc.specs.Tallies.{Passed, IsTurn, HasRoom}
@@ -39,7 +40,8 @@ pub ends_room : (f : Leg → Walk) (legs : List Leg) (tally : Tally) → HasRoom
     → HasRoom tally (length (map f legs))
 ends_room f legs tally room = subst (λ (n : ℕ). HasRoom tally n) (sym (length-made f legs)) room
 
-module _ (limits : Ceilings) (m : ModelTree) (f : ℕ → Walk) (g : Leg → Walk) (n : ℕ) (ends : List Leg) (tally : Tally)
+module _ (counted : Counted) (limits : Ceilings) (m : ModelTree) (f : ℕ → Walk) (g : Leg → Walk) (n : ℕ)
+    (ends : List Leg) (tally : Tally)
   where
     pub front_room : HasRoom tally (length (map f (count_from 0 n) ++ map g ends)) → HasRoom tally n
     front_room room =
@@ -48,7 +50,7 @@ module _ (limits : Ceilings) (m : ModelTree) (f : ℕ → Walk) (g : Leg → Wal
         omega (arith, room, a, b)
 
     pub back_room : (next : Tally) → HasRoom tally (length (map f (count_from 0 n) ++ map g ends))
-        → Passed limits m (map f (count_from 0 n)) tally next → HasRoom next (length ends)
+        → Passed counted limits m (map f (count_from 0 n)) tally next → HasRoom next (length ends)
     back_room next room passed =
         let a = length-made g ends in
         let b = length-both (map f (count_from 0 n)) (map g ends) in
@@ -56,10 +58,11 @@ module _ (limits : Ceilings) (m : ModelTree) (f : ℕ → Walk) (g : Leg → Wal
         omega (arith, room, a, b, place)
 
 -- what is found of first goals and then of others is found of all
-pub both : (limits : Ceilings) (m : ModelTree) (goals more : List Walk) (old mid : Tally) (t : Turn)
-    → Passed limits m goals old mid → IsTurn limits m more mid t → IsTurn limits m (goals ++ more) old t
-both limits m goals more old mid t passed h =
-    behind_passed limits m goals more (goals ++ more) old old mid passed (λ u is. is) t h
+pub both : (counted : Counted) (limits : Ceilings) (m : ModelTree) (goals more : List Walk) (old mid : Tally) (t : Turn)
+    → Passed counted limits m goals old mid → IsTurn counted limits m more mid t
+    → IsTurn counted limits m (goals ++ more) old t
+both counted limits m goals more old mid t passed h =
+    behind_passed counted limits m goals more (goals ++ more) old old mid passed (λ u is. is) t h
 
 -- the goals of a walk by its kind
 pub chosen_then : (b : Bool) (xs ys : List Walk) → b ≡ true → (if b then xs else ys) ≡ xs
@@ -116,12 +119,13 @@ legs_behind P (x ∷ xs) some all =
     (subst (λ r. AllByRecursion P r) (first_leg (x ∷ xs) x some refl) all).1
 
 -- the goal at the next end
-pub end_here : (d : Leg) (limits : Ceilings) (m : ModelTree) (P : Walk → Type 0) (g : Leg → Walk) (whole : List Walk)
+pub end_here : (d : Leg) (counted : Counted) (limits : Ceilings) (m : ModelTree) (P : Walk → Type 0) (g : Leg → Walk)
+    (whole : List Walk)
     (old now : Tally) (rest : List Leg) (w : Walk) → 1 ≤ length rest → w ≡ g (get_or rest 0 d)
-    → Left limits m P whole old (map g rest) now
-    → Left limits m P whole old (w ∷ map g (take (length rest - 1) (drop 1 rest))) now
-end_here d limits m P g whole old now rest w some is left =
+    → Left counted limits m P whole old (map g rest) now
+    → Left counted limits m P whole old (w ∷ map g (take (length rest - 1) (drop 1 rest))) now
+end_here d counted limits m P g whole old now rest w some is left =
     let leg = get_or rest 0 d in
     let after = take (length rest - 1) (drop 1 rest) in
-    subst (λ r. Left limits m P whole old r now)
+    subst (λ r. Left counted limits m P whole old r now)
     (ap (λ r. map g r) (first_leg rest leg some (head_is rest d leg some refl)) ∙ ap (λ x. x ∷ map g after) (sym is)) left

@@ -18,6 +18,7 @@ use Rattle.rml_command.specs.declared.goal.Stage.TheVariants as stage
 use Rattle.rml_command.specs.declared.goal.About.{About}
 use Rattle.rml_command.specs.declared.goal.About.TheVariants as about
 use Rattle.ea_decide.specs.Passing.{Ceilings}
+use Rattle.lean_decide.specs.declared.settling.Counted.{Counted}
 use Rattle.walks.specs.declared.leg.Walk.{Walk}
 use Rattle.walks.specs.Walks.{goals_of_length, count_of}
 use Rattle.walks.specs.Runs.{IsForbidden}
@@ -145,8 +146,8 @@ record FirstBroken (m : ModelTree) (P : Walk → Type 0) (run : Run) : Type 0 wh
   holds : P walk
   along : IsRunAlong m walk run
 
-module _ (limits : Ceilings) (m : ModelTree) (P : Walk → Type 0) where
-  by_decisions : (goals : List Walk) (ds : List WalkDecision) (run : Run) → AreDecisions limits m goals ds
+module _ (counted : Counted) (limits : Ceilings) (m : ModelTree) (P : Walk → Type 0) where
+  by_decisions : (goals : List Walk) (ds : List WalkDecision) (run : Run) → AreDecisions counted limits m goals ds
       → first_run ds ≡ Some run → AllByRecursion P goals → FirstBroken m P run
   by_decisions [] [] run right e all = absurd (cc e)
   by_decisions [] (d ∷ ds) run right e all = absurd right
@@ -159,20 +160,20 @@ module _ (limits : Ceilings) (m : ModelTree) (P : Walk → Type 0) where
 
   by_count : (k : ℕ) (run : Run) (b : Bool) → AllByRecursion P (goals_of_length m k)
       → MatchBool b (answer.Broken run ≡ answer.Undecided (cause.Paths (count_of m k)))
-      (IsDecidedLength limits m k (answer.Broken run)) → FirstBroken m P run
+      (IsDecidedLength counted limits m k (answer.Broken run)) → FirstBroken m P run
   by_count k run true all e = absurd (cc e)
   by_count k run false all d =
       by_decisions (goals_of_length m k) d.decisions run d.right
       (is_first (first_run d.decisions) (first_open 0 d.decisions) run d.is) all
 
   first_broken : (k : ℕ) (run : Run) → AllByRecursion P (goals_of_length m k)
-      → IsLength limits m k (answer.Broken run) → FirstBroken m P run
+      → IsLength counted limits m k (answer.Broken run) → FirstBroken m P run
   first_broken k run all h = by_count k run (nat_lt 4096 (count_of m k)) all h
 
 pub broken_is_broken : BlockHasPathOutcomes → PathHasFollowedOutcomes → FalsehoodHasValues → GoalsAreWalks
     → BrokenIsBroken
-broken_is_broken blocks followed falsehood walks limits m k run checked h =
-    let first = first_broken limits m (IsWalk m) k run (walks m k) h in
+broken_is_broken blocks followed falsehood walks counted limits m k run checked h =
+    let first = first_broken counted limits m (IsWalk m) k run (walks m k) h in
     breaks_off blocks followed falsehood m first.walk run first.holds first.along
 
 any_goals : (goals : List Walk) → AllByRecursion (λ goal. Unit {0}) goals
@@ -180,5 +181,5 @@ any_goals [] = tt
 any_goals (goal ∷ goals) = (tt, any_goals goals)
 
 pub broken_is_shown : BrokenIsShown
-broken_is_shown limits m k run h =
-    (first_broken limits m (λ goal. Unit {0}) k run (any_goals (goals_of_length m k)) h).along.shown
+broken_is_shown counted limits m k run h =
+    (first_broken counted limits m (λ goal. Unit {0}) k run (any_goals (goals_of_length m k)) h).along.shown

@@ -12,6 +12,7 @@ ghost use Rattle.rml_bmc.specs.Infeasible.{AreInfeasible, IsKnown};
 
 use crate::deciding::{Known, is_infeasible};
 use base::{Mem, Row};
+use lean_decide::Counted;
 use lrat_log::Limits;
 use rml_command::Checked;
 use std::alloc::Global;
@@ -53,6 +54,7 @@ pub fn look_at(
     alloc: Global,
     checked: &Checked,
     legs: &[Leg],
+    counted: Counted,
     limits: &Limits,
     infeasible: &mut Row<Row<Leg>>,
 ) -> Mem<Known>
@@ -64,7 +66,7 @@ pub fn look_at(
     if begins_with_one(infeasible.as_slice(), legs) {
         return Ok(Known::Infeasible);
     }
-    if aborts(checked, legs) || !is_infeasible(alloc, checked, legs, limits)? {
+    if aborts(checked, legs) || !is_infeasible(alloc, checked, legs, counted, limits)? {
         return Ok(Known::Nothing);
     }
     let walk = legs.to_vec(alloc)?;

@@ -1,5 +1,5 @@
 // A goal along a walk is decided, as the goal of the walk's model: under limits on its whole refuting sentence, by the
-// lean sentence where that decides. Along a walk that is infeasible it is counted alone.
+// lean sentence where that decides, or under limits on that. Along a walk that is infeasible it is counted alone.
 ghost use Rattle.std.specs.Prelude.{◌≡◌, true, false, IfOk};
 ghost use Rattle.ea_decide.specs.Passing.{ceilings};
 ghost use Rattle.rml_command.specs.Goals.{IsCounterexample};
@@ -90,16 +90,17 @@ fn decide_in(
     checked: &Checked,
     model: &Checked,
     walk: &Walk,
+    counted: Counted,
     limits: &Limits,
 ) -> Mem<WalkDecision>
     requires walk { IsWalk checked.now walk.now }
     requires model { model.now ≡ walk_model checked.now walk.now.parts }
-    ensures { IfOk result (IsWalkDecision (ceilings limits.now) checked.now walk.now) }
+    ensures { IfOk result (IsWalkDecision counted (ceilings limits.now) checked.now walk.now) }
 {
     walk_model_law();
     let _checked = checked.model();
     let goal = goal_of(walk.about);
-    let settled = settle(alloc, model, &goal, Counted::Whole, limits)?;
+    let settled = settle(alloc, model, &goal, counted, limits)?;
     match settled {
         Settled::Holds => Ok(WalkDecision::NoRun),
         Settled::Fails(shown) => {
@@ -116,17 +117,18 @@ fn count_in(
     checked: &Checked,
     model: &Checked,
     walk: &Walk,
+    counted: Counted,
     limits: &Limits,
 ) -> Mem<WalkDecision>
     requires walk { IsWalk checked.now walk.now }
     requires model { model.now ≡ walk_model checked.now walk.now.parts }
     requires none { HasNoRun checked.now walk.now }
-    ensures { IfOk result (IsWalkDecision (ceilings limits.now) checked.now walk.now) }
+    ensures { IfOk result (IsWalkDecision counted (ceilings limits.now) checked.now walk.now) }
 {
     walk_model_law();
     let _checked = checked.model();
     let goal = goal_of(walk.about);
-    match first_passed(alloc, model, &goal, limits)? {
+    match first_passed(alloc, model, &goal, counted, limits)? {
         Some(cause) => Ok(WalkDecision::Undecided(cause)),
         None => Ok(WalkDecision::NoRun),
     }
@@ -139,20 +141,21 @@ fn decide_known(
     model: &Checked,
     walk: &Walk,
     known: Known,
+    counted: Counted,
     limits: &Limits,
 ) -> Mem<WalkDecision>
     requires walk { IsWalk checked.now walk.now }
     requires model { model.now ≡ walk_model checked.now walk.now.parts }
     requires known { IsKnownGoal checked.now walk.now known }
-    ensures { IfOk result (IsWalkDecision (ceilings limits.now) checked.now walk.now) }
+    ensures { IfOk result (IsWalkDecision counted (ceilings limits.now) checked.now walk.now) }
 {
     match known {
         Known::Nothing => {
-            let decision = decide_in(alloc, checked, model, walk, limits)?;
+            let decision = decide_in(alloc, checked, model, walk, counted, limits)?;
             Ok(decision)
         }
         Known::Infeasible => {
-            let decision = count_in(alloc, checked, model, walk, limits)?;
+            let decision = count_in(alloc, checked, model, walk, counted, limits)?;
             Ok(decision)
         }
     }
@@ -165,14 +168,15 @@ pub fn decide_walk(
     checked: &Checked,
     walk: &Walk,
     known: Known,
+    counted: Counted,
     limits: &Limits,
 ) -> Mem<WalkDecision>
     requires walk { IsWalk checked.now walk.now }
     requires known { IsKnownGoal checked.now walk.now known }
-    ensures { IfOk result (IsWalkDecision (ceilings limits.now) checked.now walk.now) }
+    ensures { IfOk result (IsWalkDecision counted (ceilings limits.now) checked.now walk.now) }
 {
     let model = model_of_walk(alloc, checked, walk.parts.as_slice())?;
-    let decided = decide_known(alloc, checked, &model, walk, known, limits);
+    let decided = decide_known(alloc, checked, &model, walk, known, counted, limits);
     drop(model);
     decided
 }
@@ -183,6 +187,7 @@ fn is_stopped_in(
     checked: &Checked,
     model: &Checked,
     legs: &[Leg],
+    counted: Counted,
     limits: &Limits,
 ) -> Mem<bool>
     requires legs { AreLegs checked.now legs.now }
@@ -193,7 +198,7 @@ fn is_stopped_in(
     stopped_model_law();
     let _checked = checked.model();
     let goal = goal_of(About::Abort);
-    match settle(alloc, model, &goal, Counted::Whole, limits)? {
+    match settle(alloc, model, &goal, counted, limits)? {
         Settled::Holds => Ok(true),
         Settled::Undecided(_) => Ok(false),
         Settled::Fails(shown) => {
@@ -204,13 +209,19 @@ fn is_stopped_in(
 }
 
 /// Whether a walk of the model that does not end in abort is found to be infeasible, under limits.
-pub fn is_infeasible(alloc: Global, checked: &Checked, legs: &[Leg], limits: &Limits) -> Mem<bool>
+pub fn is_infeasible(
+    alloc: Global,
+    checked: &Checked,
+    legs: &[Leg],
+    counted: Counted,
+    limits: &Limits,
+) -> Mem<bool>
     requires legs { AreLegs checked.now legs.now }
     requires goes_on { has_abort (joined checked.now legs.now) ≡ false }
     ensures { IfOk result (λ found. found ≡ true → HasNoOutcome checked.now legs.now) }
 {
     let model = model_of_stopped_walk(alloc, checked, legs)?;
-    let found = is_stopped_in(alloc, checked, &model, legs, limits);
+    let found = is_stopped_in(alloc, checked, &model, legs, counted, limits);
     drop(model);
     found
 }

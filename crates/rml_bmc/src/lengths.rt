@@ -16,7 +16,9 @@ use crate::beginnings::{aborts, look_at};
 use crate::deciding::Known;
 use crate::tally::{Tally, Turn, decide_one, no_goal};
 use base::{Mem, Row};
+use lean_decide::Counted;
 use lrat_log::Limits;
+use progress::{Progress, Work};
 use rml_command::{About, Checked};
 use std::alloc::Global;
 use walks::{
@@ -58,6 +60,7 @@ fn decide_conjectures(
     checked: &Checked,
     legs: &[Leg],
     known: Known,
+    counted: Counted,
     limits: &Limits,
     tally: Tally,
 ) -> Mem<Turn>
@@ -65,14 +68,14 @@ fn decide_conjectures(
     requires goals { AllByRecursion (IsWalk checked.now)
         (map (λ k. goal_along legs.now (About.Conjecture k)) (count_from 0 (length checked.now.conjectures))) }
     requires room { HasRoom tally (length checked.now.conjectures) }
-    ensures { IfOk result (IsTurn (ceilings limits.now) checked.now
+    ensures { IfOk result (IsTurn counted (ceilings limits.now) checked.now
         (map (λ k. goal_along legs.now (About.Conjecture k)) (count_from 0 (length checked.now.conjectures))) tally) }
 {
     let count = conjecture_count(checked);
     let mut now = tally;
     for k in 0..count {
         let walk = goal_on(alloc, legs, About::Conjecture(k))?;
-        let turn = decide_one(alloc, checked, &walk, known, limits, now)?;
+        let turn = decide_one(alloc, checked, &walk, known, counted, limits, now)?;
         match turn {
             Turn::On(next) => now = next,
             Turn::Met(run) => return Ok(Turn::Met(run)),
@@ -88,6 +91,7 @@ fn decide_ends(
     legs: &[Leg],
     ends: &[Leg],
     known: Known,
+    counted: Counted,
     limits: &Limits,
     tally: Tally,
 ) -> Mem<Turn>
@@ -95,14 +99,14 @@ fn decide_ends(
     requires goals { AllByRecursion (IsWalk checked.now)
         (map (λ leg. goal_along (legs.now ++ leg ∷ []) (About.Abort)) ends.now) }
     requires room { HasRoom tally (length ends.now) }
-    ensures { IfOk result (IsTurn (ceilings limits.now) checked.now
+    ensures { IfOk result (IsTurn counted (ceilings limits.now) checked.now
         (map (λ leg. goal_along (legs.now ++ leg ∷ []) (About.Abort)) ends.now) tally) }
 {
     let mut now = tally;
     let mut rest = ends;
     while let [end, after @ ..] = rest {
         let walk = with_end(alloc, legs, *end)?;
-        let turn = decide_one(alloc, checked, &walk, known, limits, now)?;
+        let turn = decide_one(alloc, checked, &walk, known, counted, limits, now)?;
         match turn {
             Turn::On(next) => now = next,
             Turn::Met(run) => return Ok(Turn::Met(run)),
@@ -119,6 +123,7 @@ fn decide_open(
     legs: &[Leg],
     ends: &[Leg],
     known: Known,
+    counted: Counted,
     limits: &Limits,
     tally: Tally,
 ) -> Mem<Turn>
@@ -126,12 +131,12 @@ fn decide_open(
     requires goals { AllByRecursion (IsWalk checked.now) (open_goals checked.now legs.now) }
     requires ends { ends.now ≡ stage_legs checked.now has_abort (Stage.Final) }
     requires room { HasRoom tally (length (open_goals checked.now legs.now)) }
-    ensures { IfOk result (IsTurn (ceilings limits.now) checked.now (open_goals checked.now legs.now) tally) }
+    ensures { IfOk result (IsTurn counted (ceilings limits.now) checked.now (open_goals checked.now legs.now) tally) }
 {
-    let turn = decide_conjectures(alloc, checked, legs, known, limits, tally)?;
+    let turn = decide_conjectures(alloc, checked, legs, known, counted, limits, tally)?;
     match turn {
         Turn::On(next) => {
-            let last = decide_ends(alloc, checked, legs, ends, known, limits, next)?;
+            let last = decide_ends(alloc, checked, legs, ends, known, counted, limits, next)?;
             Ok(last)
         }
         Turn::Met(run) => Ok(Turn::Met(run)),
@@ -145,6 +150,7 @@ fn decide_goals(
     legs: &[Leg],
     ends: &[Leg],
     known: Known,
+    counted: Counted,
     limits: &Limits,
     tally: Tally,
 ) -> Mem<Turn>
@@ -153,14 +159,14 @@ fn decide_goals(
     requires goals { AllByRecursion (IsWalk checked.now) (walk_goals checked.now legs.now) }
     requires ends { ends.now ≡ stage_legs checked.now has_abort (Stage.Final) }
     requires room { HasRoom tally (length (walk_goals checked.now legs.now)) }
-    ensures { IfOk result (IsTurn (ceilings limits.now) checked.now (walk_goals checked.now legs.now) tally) }
+    ensures { IfOk result (IsTurn counted (ceilings limits.now) checked.now (walk_goals checked.now legs.now) tally) }
 {
     if aborts(checked, legs) {
         let walk = goal_on(alloc, legs, About::Abort)?;
-        let turn = decide_one(alloc, checked, &walk, known, limits, tally)?;
+        let turn = decide_one(alloc, checked, &walk, known, counted, limits, tally)?;
         return Ok(turn);
     }
-    let turn = decide_open(alloc, checked, legs, ends, known, limits, tally)?;
+    let turn = decide_open(alloc, checked, legs, ends, known, counted, limits, tally)?;
     Ok(turn)
 }
 
@@ -174,17 +180,19 @@ fn length_of(tally: Tally) -> Length
     }
 }
 
-// The goals of all walks of a length, of which there are few.
-fn decide_walks(
+// The goals of all walks of a length, of which there are few. Each walk that was decided is told.
+fn decide_walks<P: Progress>(
     alloc: Global,
     checked: &Checked,
     steps: u32,
+    counted: Counted,
     limits: &Limits,
     infeasible: &mut Row<Row<Leg>>,
+    progress: &mut P,
 ) -> Mem<Length>
     requires few { count_of checked.now steps ≤ 4096 }
     requires before { AreInfeasible checked.now infeasible.old }
-    ensures decided { IfOk result (IsDecidedLength (ceilings limits.now) checked.now steps) }
+    ensures decided { IfOk result (IsDecidedLength counted (ceilings limits.now) checked.now steps) }
     ensures after { AreInfeasible checked.now infeasible.new }
 {
     walk_law();
@@ -196,8 +204,18 @@ fn decide_walks(
     for number in 0..count {
         let legs = walk_of_number(alloc, &places, number)?;
         let walk = legs.as_slice();
-        let known = look_at(alloc, checked, walk, limits, infeasible)?;
-        let turn = decide_goals(alloc, checked, walk, ends.as_slice(), known, limits, now)?;
+        let known = look_at(alloc, checked, walk, counted, limits, infeasible)?;
+        let turn = decide_goals(
+            alloc,
+            checked,
+            walk,
+            ends.as_slice(),
+            known,
+            counted,
+            limits,
+            now,
+        )?;
+        progress.tell(Work::Walks(steps), number + 1, count);
         match turn {
             Turn::On(next) => now = next,
             Turn::Met(run) => return Ok(Length::Broken(run)),
@@ -207,21 +225,23 @@ fn decide_walks(
 }
 
 /// The answer to the runs of a length, where these walks were found to be infeasible so far.
-pub fn decide_length(
+pub fn decide_length<P: Progress>(
     alloc: Global,
     checked: &Checked,
     steps: u32,
+    counted: Counted,
     limits: &Limits,
     infeasible: &mut Row<Row<Leg>>,
+    progress: &mut P,
 ) -> Mem<Length>
     requires before { AreInfeasible checked.now infeasible.old }
-    ensures decided { IfOk result (IsLength (ceilings limits.now) checked.now steps) }
+    ensures decided { IfOk result (IsLength counted (ceilings limits.now) checked.now steps) }
     ensures after { AreInfeasible checked.now infeasible.new }
 {
     let count = count_of_length(checked, steps);
     if count > MAX_WALKS {
         return Ok(Length::Undecided(BoundCause::Paths(count)));
     }
-    let length = decide_walks(alloc, checked, steps, limits, infeasible)?;
+    let length = decide_walks(alloc, checked, steps, counted, limits, infeasible, progress)?;
     Ok(length)
 }

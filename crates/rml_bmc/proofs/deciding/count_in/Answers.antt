@@ -12,9 +12,9 @@ returns-in-Some c =
     let m = c.args.checked.now in
     let walk = c.args.walk.now in
     let is = c.walk_model_law.ensures.goals m walk c.model-checked.ensures.checked c.requires.walk in
-    let here = subst (λ (w : ModelTree). IsPassing limits w (walk_goal walk.about) c.in_ok-cause.field-0)
+    let here = subst (λ (w : ModelTree). IsPassing c.args.counted limits w (walk_goal walk.about) c.in_ok-cause.field-0)
     c.requires.model (rw c.goal_of-goal.ensures at c.in_ok-cause.ensures) in
-    left_open limits m walk is c.in-Some.cause (rw c.in-Some.is at here)
+    left_open limits m walk is c.args.counted c.in-Some.cause (rw c.in-Some.is at here).1
 
 pub returns-in-None : goal.returns-in-None
 returns-in-None c =
@@ -22,8 +22,8 @@ returns-in-None c =
     let m = c.args.checked.now in
     let walk = c.args.walk.now in
     let is = c.walk_model_law.ensures.goals m walk c.model-checked.ensures.checked c.requires.walk in
-    let here = subst (λ (w : ModelTree). IsPassing limits w (walk_goal walk.about) c.in_ok-cause.field-0)
+    let here = subst (λ (w : ModelTree). IsPassing c.args.counted limits w (walk_goal walk.about) c.in_ok-cause.field-0)
     c.requires.model (rw c.goal_of-goal.ensures at c.in_ok-cause.ensures) in (
-      passes limits m walk is None (rw c.in-None.is at here),
+      passes limits m walk is c.args.counted None (rw c.in-None.is at here),
       c.requires.none,
     )

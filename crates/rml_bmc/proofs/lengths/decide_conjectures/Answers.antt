@@ -15,7 +15,7 @@ use Rattle.rml_bmc.proofs.lengths.decide_conjectures.Goals as goal
 pub loop-k-init : goal.loop-k-init
 loop-k-init c = record {
   count = c.conjecture_count-count.ensures;
-  left = counted_first (ceilings c.args.limits.now) c.args.checked.now (IsWalk c.args.checked.now)
+  left = counted_first c.args.counted (ceilings c.args.limits.now) c.args.checked.now (IsWalk c.args.checked.now)
       (λ k. goal_along c.args.legs.now (about.Conjecture k)) (length c.args.checked.now.conjectures)
       c.conjecture_count-count.result c.args.tally c.conjecture_count-count.ensures c.requires.goals c.requires.room;
 }
@@ -25,10 +25,11 @@ decide_one-requires-clause-walk c =
     let m = c.args.checked.now in
     let f = λ (k : ℕ). goal_along c.args.legs.now (about.Conjecture k) in
     let k = c.loop-k.k in
-    let here = of_next (ceilings c.args.limits.now) m (IsWalk m) (map f (count_from 0 (length m.conjectures))) c.args.tally
+    let here = of_next c.args.counted (ceilings c.args.limits.now) m (IsWalk m)
+    (map f (count_from 0 (length m.conjectures))) c.args.tally
     _ _ (f k) c.loop-k.now (count-step f k _ c.loop-k-test.true) c.loop-k.invariant.left in
     subst (IsWalk m) (sym c.in_ok-walk.ensures)
-    (next_is (ceilings c.args.limits.now) m (IsWalk m) _ _ _ (f k) c.loop-k.now here)
+    (next_is c.args.counted (ceilings c.args.limits.now) m (IsWalk m) _ _ _ (f k) c.loop-k.now here)
 
 pub decide_one-requires-clause-known : goal.decide_one-requires-clause-known
 decide_one-requires-clause-known c =
@@ -41,9 +42,10 @@ decide_one-requires-clause-room c =
     let m = c.args.checked.now in
     let f = λ (k : ℕ). goal_along c.args.legs.now (about.Conjecture k) in
     let k = c.loop-k.k in
-    let here = of_next (ceilings c.args.limits.now) m (IsWalk m) (map f (count_from 0 (length m.conjectures))) c.args.tally
+    let here = of_next c.args.counted (ceilings c.args.limits.now) m (IsWalk m)
+    (map f (count_from 0 (length m.conjectures))) c.args.tally
     _ _ (f k) c.loop-k.now (count-step f k _ c.loop-k-test.true) c.loop-k.invariant.left in
-    next_room (ceilings c.args.limits.now) m (IsWalk m) _ _ _ (f k) c.loop-k.now here
+    next_room c.args.counted (ceilings c.args.limits.now) m (IsWalk m) _ _ _ (f k) c.loop-k.now here
 
 pub loop-k-preserved : goal.loop-k-preserved
 loop-k-preserved c =
@@ -51,13 +53,15 @@ loop-k-preserved c =
     let limits = ceilings c.args.limits.now in
     let f = λ (k : ℕ). goal_along c.args.legs.now (about.Conjecture k) in
     let k = c.loop-k.k in
-    let here = of_next limits m (IsWalk m) (map f (count_from 0 (length m.conjectures))) c.args.tally
+    let here = of_next c.args.counted limits m (IsWalk m) (map f (count_from 0 (length m.conjectures))) c.args.tally
     _ _ (f k) c.loop-k.now (count-step f k _ c.loop-k-test.true) c.loop-k.invariant.left in
-    let passed = subst (λ (w : Walk). Passed limits m (w ∷ []) c.loop-k.now c.in-On.next) c.in_ok-walk.ensures
+    let passed = subst (λ (w : Walk). Passed c.args.counted limits m (w ∷ []) c.loop-k.now c.in-On.next)
+    c.in_ok-walk.ensures
     (rw c.in-On.is at c.in_ok-turn.ensures) in
     record {
       count = c.loop-k.invariant.count;
-      left = go_on limits m (IsWalk m) (map f (count_from 0 (length m.conjectures))) c.args.tally _ (f k) c.loop-k.now
+      left = go_on c.args.counted limits m (IsWalk m) (map f (count_from 0 (length m.conjectures))) c.args.tally _
+          (f k) c.loop-k.now
           c.in-On.next here passed;
     }
 
@@ -67,16 +71,18 @@ returns-in-Met c =
     let limits = ceilings c.args.limits.now in
     let f = λ (k : ℕ). goal_along c.args.legs.now (about.Conjecture k) in
     let k = c.loop-k.k in
-    let here = of_next limits m (IsWalk m) (map f (count_from 0 (length m.conjectures))) c.args.tally
+    let here = of_next c.args.counted limits m (IsWalk m) (map f (count_from 0 (length m.conjectures))) c.args.tally
     _ _ (f k) c.loop-k.now (count-step f k _ c.loop-k-test.true) c.loop-k.invariant.left in
-    let met = subst (λ (w : Walk). Met limits m (w ∷ []) c.in-Met.run') c.in_ok-walk.ensures
+    let met = subst (λ (w : Walk). Met c.args.counted limits m (w ∷ []) c.in-Met.run') c.in_ok-walk.ensures
     (rw c.in-Met.is at c.in_ok-turn.ensures) in
-    stop limits m (IsWalk m) (map f (count_from 0 (length m.conjectures))) c.args.tally _ (f k) c.loop-k.now c.in-Met.run'
+    stop c.args.counted limits m (IsWalk m) (map f (count_from 0 (length m.conjectures))) c.args.tally _ (f k)
+    c.loop-k.now c.in-Met.run'
     here met
 
 pub returns : goal.returns
 returns c =
     let m = c.args.checked.now in
     let f = λ (k : ℕ). goal_along c.args.legs.now (about.Conjecture k) in
-    at_end (ceilings c.args.limits.now) m (IsWalk m) (map f (count_from 0 (length m.conjectures))) c.args.tally _
+    at_end c.args.counted (ceilings c.args.limits.now) m (IsWalk m) (map f (count_from 0 (length m.conjectures)))
+    c.args.tally _
     c.loop-k.now (count-none f c.loop-k.k _ c.loop-k-test.false) c.loop-k.invariant.left

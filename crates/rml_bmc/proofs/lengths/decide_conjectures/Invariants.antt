@@ -10,7 +10,7 @@ use Rattle.rml_bmc.proofs.lengths.decide_conjectures.Given as goal
 abbrev pub invariant-loop-k : goal.invariant-loop-k
 invariant-loop-k l = record {
   count : l.count ≡ length l.checked.conjectures;
-  left : Left (ceilings l.limits) l.checked (IsWalk l.checked)
+  left : Left l.fn.counted (ceilings l.limits) l.checked (IsWalk l.checked)
       (map (λ k. goal_along l.legs (about.Conjecture k)) (count_from 0 (length l.checked.conjectures))) l.fn.tally
       (map (λ k. goal_along l.legs (about.Conjecture k)) (count_from l.k (l.count - l.k))) l.now;
 }

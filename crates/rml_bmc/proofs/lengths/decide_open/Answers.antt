@@ -27,7 +27,8 @@ decide_conjectures-requires-clause-room c =
     let m = c.args.checked.now in
     let f = λ (k : ℕ). goal_along c.args.legs.now (about.Conjecture k) in
     let g = λ (leg : Leg). goal_along (c.args.legs.now ++ leg ∷ []) about.Abort in
-    front_room (ceilings c.args.limits.now) m f g (length m.conjectures) (stage_legs m has_abort stage.Final)
+    front_room c.args.counted (ceilings c.args.limits.now) m f g (length m.conjectures)
+    (stage_legs m has_abort stage.Final)
     c.args.tally c.requires.room
 
 pub decide_ends-requires-clause-goals : goal.decide_ends-requires-clause-goals
@@ -45,7 +46,8 @@ decide_ends-requires-clause-room c =
     let f = λ (k : ℕ). goal_along c.args.legs.now (about.Conjecture k) in
     let g = λ (leg : Leg). goal_along (c.args.legs.now ++ leg ∷ []) about.Abort in
     subst (λ ends. HasRoom c.in-On.next (length ends)) (sym c.requires.ends)
-    (back_room (ceilings c.args.limits.now) m f g (length m.conjectures) (stage_legs m has_abort stage.Final)
+    (back_room c.args.counted (ceilings c.args.limits.now) m f g (length m.conjectures)
+    (stage_legs m has_abort stage.Final)
     c.args.tally c.in-On.next c.requires.room (rw c.in-On.is at c.in_ok-turn.ensures))
 
 pub returns-in_ok-last-in-On : goal.returns-in_ok-last-in-On
@@ -54,14 +56,16 @@ returns-in_ok-last-in-On c =
     let limits = ceilings c.args.limits.now in
     let f = λ (k : ℕ). goal_along c.args.legs.now (about.Conjecture k) in
     let g = λ (leg : Leg). goal_along (c.args.legs.now ++ leg ∷ []) about.Abort in
-    both limits m (map f (count_from 0 (length m.conjectures))) (map g (stage_legs m has_abort stage.Final)) c.args.tally
+    both c.args.counted limits m (map f (count_from 0 (length m.conjectures)))
+    (map g (stage_legs m has_abort stage.Final)) c.args.tally
     c.in-On.next c.in_ok-last-in-On.last (rw c.in-On.is at c.in_ok-turn.ensures)
-    (subst (λ ends. IsTurn limits m (map g ends) c.in-On.next c.in_ok-last-in-On.last) c.requires.ends c.in_ok-last-in-On.ensures)
+    (subst (λ ends. IsTurn c.args.counted limits m (map g ends) c.in-On.next c.in_ok-last-in-On.last) c.requires.ends
+    c.in_ok-last-in-On.ensures)
 
 pub returns-in-Met : goal.returns-in-Met
 returns-in-Met c =
     let m = c.args.checked.now in
     let f = λ (k : ℕ). goal_along c.args.legs.now (about.Conjecture k) in
     let g = λ (leg : Leg). goal_along (c.args.legs.now ++ leg ∷ []) about.Abort in
-    met_first (ceilings c.args.limits.now) m (map f (count_from 0 (length m.conjectures)))
+    met_first c.args.counted (ceilings c.args.limits.now) m (map f (count_from 0 (length m.conjectures)))
     (map g (stage_legs m has_abort stage.Final)) c.in-Met.run' (rw c.in-Met.is at c.in_ok-turn.ensures)
