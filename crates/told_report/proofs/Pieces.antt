@@ -1,11 +1,5 @@
 -- Pieces of text, one behind another.
-use Rattle.std.proofs.Common.{◌≡◌, ℕ, ◌+◌, List, ◌++◌, append_assoc, add-one}
-use Rattle.fol_sig.specs.Tuples.{join_below}
-
--- one more of the lists of the numbers below n
-pub one_more : (n : ℕ) (f : ℕ → List ℕ) (x y w : List ℕ) → x ≡ w ++ join_below n f → y ≡ x ++ f n
-    → y ≡ w ++ join_below (n + 1) f
-one_more n f x y w p q = rw (q, p, add-one) (simp append_assoc)
+use Rattle.std.proofs.Common.{◌≡◌, ℕ, List, ◌++◌, append_assoc}
 
 pub three : (a b c x y z w : List ℕ) → x ≡ w ++ a → y ≡ x ++ b → z ≡ y ++ c → z ≡ w ++ (a ++ b ++ c)
 three a b c x y z w p q r = rw (r, q, p) (simp append_assoc)

@@ -1,20 +1,23 @@
--- An execution: what is true before it, which elements it takes, what it changes, and what is false after it.
+-- An execution: what is true before it, which elements and branches it takes, what it changes, and what is false after
+-- it.
 use Rattle.std.specs.Prelude.{ℕ, List, [], ◌∷◌, ◌++◌, Option, Some, None, codes, slice_get}
 use Rattle.fol_sig.specs.Tables.{Tables, function_at}
 use Rattle.fol_formula.specs.Syntax.{FormTree}
 use Rattle.rml_command.specs.Trees.{PrimitiveTree, assume, set_rel, set_fun, havoc, abort}
 use Rattle.rml_command.specs.Outcomes.{Outcome, ended, aborted}
 use Rattle.rml_command.specs.Models.{ModelTree}
-use Rattle.rml_command.specs.Goals.{goal_path, leading_sorts}
+use Rattle.base.specs.Lists.{numbered}
+use Rattle.rml_command.specs.Goals.{stage_paths, leading_sorts}
 use Rattle.rml_command.specs.declared.names.Names.{Names}
+use Rattle.rml_command.specs.declared.goal.Stage.{Stage}
 use Rattle.rml_command.specs.declared.goal.About.{About}
 use Rattle.rml_command.specs.declared.goal.About.TheVariants as about
 use Rattle.rml_exec.specs.declared.trace.Counterexample.{Counterexample}
 use Rattle.rml_report.specs.Words.{name_at, labelled}
 use Rattle.rml_report.specs.ReportText.{outcome_of}
-use Rattle.told_report.specs.ElementText.{element_text, elements_text, line_text}
-use Rattle.told_report.specs.BeforeText.{before_text}
-use Rattle.told_report.specs.ChangeText.{changes_text}
+use Rattle.told_states.specs.ElementText.{element_text, elements_text, line_text}
+use Rattle.told_states.specs.BeforeText.{before_text}
+use Rattle.told_states.specs.ChangeText.{changes_text}
 
 -- a comma, and m := node1
 unfoldable pub havoc_text : Names → ℕ → ℕ → ℕ → List ℕ
@@ -31,13 +34,14 @@ havocs_text names s (havoc v ∷ qs) (x ∷ xs) = havoc_text names v (function_a
 havocs_text names s (abort ∷ qs) xs = havocs_text names s qs xs
 
 -- no line where there is no havoc
-abbrev pub takes_along : Names → Counterexample → Option (List PrimitiveTree) → List ℕ
-takes_along names shown None = []
-takes_along names shown (Some path) =
-    line_text (codes "  takes: ") (havocs_text names shown.structure path shown.trace.havoc)
+abbrev pub takes_along : Names → Tables → List ℕ → Option (List PrimitiveTree) → List ℕ
+takes_along names s elements None = []
+takes_along names s elements (Some path) = line_text (codes "  takes: ") (havocs_text names s path elements)
 
-abbrev pub takes_text : ModelTree → Counterexample → List ℕ
-takes_text m shown = takes_along m.names shown (goal_path m shown.goal)
+-- the elements that the path of this number takes from a structure, and the lines of the branches that it takes
+unfoldable pub step_text : ModelTree → (Stage → ℕ → List ℕ) → Stage → ℕ → Tables → List ℕ → List ℕ
+step_text m lines stage path s elements =
+    takes_along m.names s elements (numbered (stage_paths m stage) path) ++ lines stage path
 
 -- what the path has changed where it ends
 abbrev pub changes_to : Names → Tables → Option Outcome → List ℕ
@@ -57,12 +61,13 @@ claim_text names k = labelled (codes "  after this ") (name_at names.conjectures
 unfoldable pub false_text : ModelTree → ℕ → List ℕ → List ℕ
 false_text m k values = claim_text m.names k ++ values_text m.names (slice_get m.conjectures k) values ++ codes "\n"
 
-unfoldable pub end_text : ModelTree → ℕ → Counterexample → List ℕ
-end_text m k shown = changes_to m.names shown.structure (outcome_of m shown) ++ false_text m k shown.values
+abbrev pub after_text : ModelTree → About → List ℕ → List ℕ
+after_text m about.Abort values = codes "  after this it aborts\n"
+after_text m (about.Conjecture k) values = false_text m k values
 
-abbrev pub outcome_text : ModelTree → About → Counterexample → List ℕ
-outcome_text m about.Abort shown = codes "  after this it aborts\n"
-outcome_text m (about.Conjecture k) shown = end_text m k shown
-
-unfoldable pub execution_text : ModelTree → About → Counterexample → List ℕ
-execution_text m a shown = before_text m.names shown.structure ++ takes_text m shown ++ outcome_text m a shown
+-- Behind a path that aborts stands no structure, so nothing is told of changes.
+unfoldable pub execution_text : ModelTree → (Stage → ℕ → List ℕ) → About → Counterexample → List ℕ
+execution_text m lines a shown =
+    before_text m.names shown.structure
+    ++ step_text m lines shown.goal.stage shown.goal.path shown.structure shown.trace.havoc
+    ++ changes_to m.names shown.structure (outcome_of m shown) ++ after_text m a shown.values

@@ -1,7 +1,3 @@
-pub mod ElementText
-pub mod SymbolText
-pub mod BeforeText
-pub mod ChangeText
+pub mod CauseWords
 pub mod ExecutionText
 pub mod ToldText
-pub mod Laws

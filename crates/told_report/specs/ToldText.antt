@@ -12,7 +12,6 @@ use Rattle.rml_exec.specs.declared.trace.Counterexample.{Counterexample}
 use Rattle.rml_report.specs.Words.{name_at}
 use Rattle.rml_report.specs.ReportText.{stage_text, head_text}
 use Rattle.rml_report.specs.declared.cause.Cause.{Cause}
-use Rattle.rml_report.specs.declared.cause.Cause.TheVariants as cause
 use Rattle.rml_report.specs.declared.cause.Least.{Least}
 use Rattle.rml_report.specs.declared.cause.Least.TheVariants as least
 use Rattle.rml_report.specs.declared.report.Axioms.{Axioms}
@@ -23,14 +22,8 @@ use Rattle.rml_report.specs.declared.report.Answer.{Answer}
 use Rattle.rml_report.specs.declared.report.Answer.TheVariants as answer
 use Rattle.rml_report.specs.declared.report.Group.{Group}
 use Rattle.rml_report.specs.declared.report.Report.{Report}
+use Rattle.told_report.specs.CauseWords.{cause_words}
 use Rattle.told_report.specs.ExecutionText.{execution_text}
-
--- why something is left open, and the option to raise, with the most that it can be
-unfoldable pub cause_words : Cause → List ℕ
-cause_words cause.Formula = codes "the formula is too large"
-cause_words (cause.Terms n) = decimal n ++ codes " ground terms; raise --terms, up to 100000"
-cause_words (cause.Ground n) = codes "ground size " ++ decimal n ++ codes "; raise --ground, up to 50000000"
-cause_words (cause.Conflicts n) = decimal n ++ codes " conflicts were too few; raise --conflicts, up to 100000000"
 
 -- what a block does that it must not
 abbrev pub fault_text : Names → About → List ℕ
@@ -53,18 +46,18 @@ abbrev pub least_text : Least → List ℕ
 least_text least.Yes = []
 least_text (least.Stopped bound size c) = doubt_text c
 
-unfoldable pub failure_text : ModelTree → Stage → About → ℕ → Least → Counterexample → List ℕ
-failure_text m s a paths l shown =
-    broken_text m.names s a ++ path_text shown.trace.path paths ++ least_text l ++ execution_text m a shown
+unfoldable pub failure_text : ModelTree → (Stage → ℕ → List ℕ) → Stage → About → ℕ → Least → Counterexample → List ℕ
+failure_text m lines s a paths l shown =
+    broken_text m.names s a ++ path_text shown.trace.path paths ++ least_text l ++ execution_text m lines a shown
 
 -- a group that fails, behind an empty line
-abbrev pub failing_text : ModelTree → Stage → About → Answer → List ℕ
-failing_text m s a answer.Holds = []
-failing_text m s a (answer.Fails paths l shown) = failure_text m s a paths l shown
-failing_text m s a (answer.Undecided path c) = []
+abbrev pub failing_text : ModelTree → (Stage → ℕ → List ℕ) → Stage → About → Answer → List ℕ
+failing_text m lines s a answer.Holds = []
+failing_text m lines s a (answer.Fails paths l shown) = failure_text m lines s a paths l shown
+failing_text m lines s a (answer.Undecided path c) = []
 
-abbrev pub group_failing : ModelTree → Group → List ℕ
-group_failing m g = failing_text m g.stage g.about g.answer
+abbrev pub group_failing : ModelTree → (Stage → ℕ → List ℕ) → Group → List ℕ
+group_failing m lines g = failing_text m lines g.stage g.about g.answer
 
 unfoldable pub undecided_text : Names → Stage → About → ℕ → Cause → List ℕ
 undecided_text names s a path c =
@@ -107,7 +100,8 @@ axioms_line axioms.Consistent = []
 axioms_line axioms.Inconsistent = codes "no structure satisfies the axioms, so everything holds\n"
 axioms_line (axioms.Undecided c) = axioms_open c
 
-unfoldable pub told_text : ModelTree → Report → List ℕ
-told_text m r =
-    verdict_line r.verdict ++ axioms_line r.axioms ++ flat_map (group_failing m) r.groups ++ codes "\n"
+-- of a model and a report, with the lines of the branches that the path of a stage takes
+unfoldable pub told_text : ModelTree → (Stage → ℕ → List ℕ) → Report → List ℕ
+told_text m lines r =
+    verdict_line r.verdict ++ axioms_line r.axioms ++ flat_map (group_failing m lines) r.groups ++ codes "\n"
     ++ flat_map (group_open m.names) r.groups ++ count_line r.groups

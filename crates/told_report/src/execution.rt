@@ -1,21 +1,23 @@
-// An execution: what is true before it, which elements it takes, what it changes, and what is false after it.
-ghost use Rattle.std.specs.Prelude.{◌≡◌, ◌++◌, slice_get, OnOk};
+// An execution: what is true before it, which elements and branches it takes, what it changes, and what is false after
+// it.
+ghost use Rattle.std.specs.Prelude.{◌≡◌, ◌++◌, slice_get, IfSome, OnOk};
+ghost use Rattle.base.specs.Lists.{numbered};
 ghost use Rattle.fol_sig.specs.Symbols.{FitsStructure, symbols};
 ghost use Rattle.rml_command.specs.Models.{FitsPath};
+ghost use Rattle.rml_command.specs.Goals.{stage_paths};
 ghost use Rattle.rml_report.specs.Reports.{IsExecution};
 ghost use Rattle.rml_report.specs.ReportText.{outcome_of};
-ghost use Rattle.told_report.specs.ExecutionText.{havoc_text, havocs_text, takes_text, changes_to, values_text};
-ghost use Rattle.told_report.specs.ExecutionText.{claim_text, false_text, end_text, outcome_text, execution_text};
+ghost use Rattle.told_report.specs.ExecutionText.{havoc_text, havocs_text, takes_along, step_text, changes_to};
+ghost use Rattle.told_report.specs.ExecutionText.{values_text, claim_text, false_text, after_text, execution_text};
 
-use crate::before::push_before;
-use crate::changes::push_changes;
-use crate::elements::{push_element, push_line, push_values};
+use crate::branches::Branches;
 use base::{Mem, push_text};
 use fol_sig::{FunId, Sort, Structure};
-use rml_command::{About, Checked, Model, Names, Path, Primitive};
+use rml_command::{About, Checked, Model, Names, Path, Primitive, Stage, goal_law};
 use rml_exec::{Counterexample, Followed, follow};
 use rml_report::push_labelled;
 use std::alloc::Global;
+use told_states::{end_law, push_before, push_changes, push_element, push_line, push_values};
 
 // A comma, and a variable with the element that it takes.
 #[tactic(auto, using(std::proofs::Common::append_assoc), unfolding(crate::specs::ExecutionText::havoc_text))]
@@ -67,26 +69,65 @@ fn push_havocs(
     Ok(())
 }
 
+// The path of this number, from 1, of a stage's block.
+fn path_at<'a>(checked: &'a Checked, stage: Stage, number: u32) -> Option<Path<'a>>
+    ensures { result ≡ numbered (stage_paths checked.now stage) number }
+{
+    let paths = checked.stage_paths(stage);
+    if number == 0 {
+        return None;
+    }
+    let place = number as usize - 1;
+    if place >= paths.len() {
+        return None;
+    }
+    Some(paths.path(place))
+}
+
 // The line of the havocs.
 fn push_takes(
     alloc: Global,
     out: &mut Vec<u8>,
     checked: &Checked,
-    shown: &Counterexample,
+    path: Option<Path>,
+    structure: &Structure,
+    elements: &[u32],
 ) -> Mem<()>
-    requires { IsExecution checked.now shown.now }
-    ensures { OnOk result (out.new.items ≡ out.old.items ++ takes_text checked.now shown.now) }
+    requires path { IfSome path (FitsPath (symbols checked.now.signature)) }
+    requires structure { FitsStructure (symbols checked.now.signature) structure.now }
+    ensures { OnOk result (out.new.items ≡ out.old.items
+        ++ takes_along checked.now.names structure.now elements.now path.entry) }
 {
-    let path = checked.path(&shown.goal);
-    let mut pieces = Vec::new(alloc);
-    push_havocs(
-        &mut pieces,
-        checked,
-        &path,
-        &shown.structure,
-        shown.trace.havoc.as_slice(),
-    )?;
-    push_line(out, "  takes: ", &pieces)?;
+    if let Some(path) = path {
+        let mut pieces = Vec::new(alloc);
+        push_havocs(&mut pieces, checked, &path, structure, elements)?;
+        push_line(out, "  takes: ", &pieces)?;
+    }
+    Ok(())
+}
+
+/// Adds the elements that the path of this number, from 1, of a stage's block takes from a structure, and the lines of
+/// the branches that it takes.
+#[tactic(auto, using(std::proofs::Common::append_assoc), unfolding(crate::specs::ExecutionText::step_text))]
+pub fn push_step<B: Branches>(
+    alloc: Global,
+    out: &mut Vec<u8>,
+    checked: &Checked,
+    branches: &B,
+    stage: Stage,
+    path: u32,
+    structure: &Structure,
+    elements: &[u32],
+) -> Mem<()>
+    requires { FitsStructure (symbols checked.now.signature) structure.now }
+    ensures { OnOk result (out.new.items ≡ out.old.items
+        ++ step_text checked.now (B.lines branches.now) stage path structure.now elements.now) }
+{
+    goal_law();
+    let _checked = checked.model();
+    let taken = path_at(checked, stage, path);
+    push_takes(alloc, out, checked, taken, structure, elements)?;
+    branches.push_lines(out, stage, path)?;
     Ok(())
 }
 
@@ -101,6 +142,7 @@ fn push_changed(
     ensures { OnOk result (out.new.items ≡ out.old.items
         ++ changes_to checked.now.names shown.now.structure (outcome_of checked.now shown.now)) }
 {
+    end_law();
     let path = checked.path(&shown.goal);
     match follow(alloc, checked, &path, &shown.trace, &shown.structure)? {
         Followed::Ended(end) => push_changes(alloc, out, checked.model(), &shown.structure, &end),
@@ -143,52 +185,43 @@ fn push_false(out: &mut Vec<u8>, model: &Model, conjecture: u32, values: &[u32])
     Ok(())
 }
 
-#[tactic(auto, using(std::proofs::Common::append_assoc), unfolding(crate::specs::ExecutionText::end_text))]
-fn push_end(
-    alloc: Global,
-    out: &mut Vec<u8>,
-    checked: &Checked,
-    conjecture: u32,
-    shown: &Counterexample,
-) -> Mem<()>
-    requires { IsExecution checked.now shown.now }
-    ensures { OnOk result (out.new.items ≡ out.old.items ++ end_text checked.now conjecture shown.now) }
-{
-    push_changed(alloc, out, checked, shown)?;
-    push_false(out, checked.model(), conjecture, shown.values.as_slice())?;
-    Ok(())
-}
-
-fn push_outcome(
-    alloc: Global,
-    out: &mut Vec<u8>,
-    checked: &Checked,
-    about: About,
-    shown: &Counterexample,
-) -> Mem<()>
-    requires { IsExecution checked.now shown.now }
-    ensures { OnOk result (out.new.items ≡ out.old.items ++ outcome_text checked.now about shown.now) }
+/// Adds what is so where an execution ends.
+pub fn push_after(out: &mut Vec<u8>, model: &Model, about: About, values: &[u32]) -> Mem<()>
+    ensures { OnOk result (out.new.items ≡ out.old.items ++ after_text model.now about values.now) }
 {
     match about {
         About::Abort => push_text(out, "  after this it aborts\n"),
-        About::Conjecture(conjecture) => push_end(alloc, out, checked, conjecture, shown),
+        About::Conjecture(conjecture) => push_false(out, model, conjecture, values),
     }
 }
 
 /// Adds the lines of an execution.
 #[tactic(auto, using(std::proofs::Common::append_assoc), unfolding(crate::specs::ExecutionText::execution_text))]
-pub fn push_execution(
+pub fn push_execution<B: Branches>(
     alloc: Global,
     out: &mut Vec<u8>,
     checked: &Checked,
+    branches: &B,
     about: About,
     shown: &Counterexample,
 ) -> Mem<()>
     requires { IsExecution checked.now shown.now }
-    ensures { OnOk result (out.new.items ≡ out.old.items ++ execution_text checked.now about shown.now) }
+    ensures { OnOk result (out.new.items ≡ out.old.items
+        ++ execution_text checked.now (B.lines branches.now) about shown.now) }
 {
+    let elements = shown.trace.havoc.as_slice();
     push_before(alloc, out, checked.model(), &shown.structure)?;
-    push_takes(alloc, out, checked, shown)?;
-    push_outcome(alloc, out, checked, about, shown)?;
+    push_step(
+        alloc,
+        out,
+        checked,
+        branches,
+        shown.goal.stage,
+        shown.goal.path,
+        &shown.structure,
+        elements,
+    )?;
+    push_changed(alloc, out, checked, shown)?;
+    push_after(out, checked.model(), about, shown.values.as_slice())?;
     Ok(())
 }

@@ -1,49 +1,19 @@
 // The groups that fail, and those that are left open.
-ghost use Rattle.std.specs.Prelude.{◌≡◌, ◌++◌, decimal, OnOk};
+ghost use Rattle.std.specs.Prelude.{◌≡◌, ◌++◌, OnOk};
 ghost use Rattle.rml_report.specs.Reports.{IsRefutation, ShowsRefutation, CanRender};
-ghost use Rattle.told_report.specs.ToldText.{cause_words, fault_text, broken_text, path_text, doubt_text, least_text};
+ghost use Rattle.told_report.specs.CauseWords.{cause_words};
+ghost use Rattle.told_report.specs.ToldText.{fault_text, broken_text, path_text, doubt_text, least_text};
 ghost use Rattle.told_report.specs.ToldText.{failure_text, failing_text, group_failing, undecided_text, open_text};
 ghost use Rattle.told_report.specs.ToldText.{group_open};
 
+use crate::branches::Branches;
+use crate::causes::push_cause_words;
 use crate::execution::push_execution;
 use base::{Mem, push_number, push_text};
 use rml_command::{About, Checked, Names, Stage};
 use rml_exec::Counterexample;
 use rml_report::{Answer, Cause, Group, Least, push_head, push_name, push_stage};
 use std::alloc::Global;
-
-// A number between two words.
-#[tactic(auto, using(std::proofs::Common::append_assoc))]
-fn push_counted(out: &mut Vec<u8>, before: &str, n: u64, behind: &str) -> Mem<()>
-    ensures { OnOk result (out.new.items ≡ out.old.items ++ (before.now ++ decimal n ++ behind.now)) }
-{
-    push_text(out, before)?;
-    push_number(out, n)?;
-    push_text(out, behind)?;
-    Ok(())
-}
-
-/// Adds why something is left open, and the option to raise.
-#[tactic(auto, unfolding(crate::specs::ToldText::cause_words))]
-pub fn push_cause_words(out: &mut Vec<u8>, cause: &Cause) -> Mem<()>
-    ensures { OnOk result (out.new.items ≡ out.old.items ++ cause_words cause.now) }
-{
-    match cause {
-        Cause::Formula => push_text(out, "the formula is too large"),
-        Cause::Terms(n) => push_counted(out, "", *n, " ground terms; raise --terms, up to 100000"),
-        Cause::Ground(n) => {
-            push_counted(out, "ground size ", *n, "; raise --ground, up to 50000000")
-        }
-        Cause::Conflicts(n) => {
-            push_counted(
-                out,
-                "",
-                *n,
-                " conflicts were too few; raise --conflicts, up to 100000000",
-            )
-        }
-    }
-}
 
 #[tactic(auto, using(std::proofs::Common::append_assoc))]
 fn push_breaks(out: &mut Vec<u8>, names: &Names, conjecture: u32) -> Mem<()>
@@ -54,7 +24,8 @@ fn push_breaks(out: &mut Vec<u8>, names: &Names, conjecture: u32) -> Mem<()>
     Ok(())
 }
 
-fn push_fault(out: &mut Vec<u8>, names: &Names, about: About) -> Mem<()>
+/// Adds what a block does that it must not.
+pub fn push_fault(out: &mut Vec<u8>, names: &Names, about: About) -> Mem<()>
     ensures { OnOk result (out.new.items ≡ out.old.items ++ fault_text names.now about) }
 {
     match about {
@@ -73,14 +44,15 @@ fn push_broken(out: &mut Vec<u8>, names: &Names, stage: Stage, about: About) -> 
     Ok(())
 }
 
+/// Adds which path of how many it is.
 #[tactic(auto, using(std::proofs::Common::append_assoc), unfolding(crate::specs::ToldText::path_text))]
-fn push_path(out: &mut Vec<u8>, path: u32, paths: u32) -> Mem<()>
+pub fn push_path(out: &mut Vec<u8>, path: u32, paths: u64) -> Mem<()>
     ensures { OnOk result (out.new.items ≡ out.old.items ++ path_text path paths) }
 {
     push_text(out, " (path ")?;
     push_number(out, path as u64)?;
     push_text(out, " of ")?;
-    push_number(out, paths as u64)?;
+    push_number(out, paths)?;
     push_text(out, ")\n")?;
     Ok(())
 }
@@ -109,10 +81,11 @@ fn push_least(out: &mut Vec<u8>, least: &Least) -> Mem<()>
 }
 
 #[tactic(auto, using(std::proofs::Common::append_assoc), unfolding(crate::specs::ToldText::failure_text))]
-fn push_failure(
+fn push_failure<B: Branches>(
     alloc: Global,
     out: &mut Vec<u8>,
     checked: &Checked,
+    branches: &B,
     stage: Stage,
     about: About,
     paths: u32,
@@ -121,19 +94,26 @@ fn push_failure(
 ) -> Mem<()>
     requires { IsRefutation checked.now shown.now }
     ensures { OnOk result (out.new.items ≡ out.old.items
-        ++ failure_text checked.now stage about paths least.now shown.now) }
+        ++ failure_text checked.now (B.lines branches.now) stage about paths least.now shown.now) }
 {
     push_broken(out, checked.model().names(), stage, about)?;
-    push_path(out, shown.trace.path, paths)?;
+    push_path(out, shown.trace.path, paths as u64)?;
     push_least(out, least)?;
-    push_execution(alloc, out, checked, about, shown)?;
+    push_execution(alloc, out, checked, branches, about, shown)?;
     Ok(())
 }
 
 /// Adds a group that fails; nothing of another.
-pub fn push_failing(alloc: Global, out: &mut Vec<u8>, checked: &Checked, group: &Group) -> Mem<()>
+pub fn push_failing<B: Branches>(
+    alloc: Global,
+    out: &mut Vec<u8>,
+    checked: &Checked,
+    branches: &B,
+    group: &Group,
+) -> Mem<()>
     requires { CanRender checked.now group.now }
-    ensures { OnOk result (out.new.items ≡ out.old.items ++ group_failing checked.now group.now) }
+    ensures { OnOk result (out.new.items ≡ out.old.items
+        ++ group_failing checked.now (B.lines branches.now) group.now) }
 {
     match &group.answer {
         Answer::Holds | Answer::Undecided { .. } => Ok(()),
@@ -145,6 +125,7 @@ pub fn push_failing(alloc: Global, out: &mut Vec<u8>, checked: &Checked, group: 
             alloc,
             out,
             checked,
+            branches,
             group.stage,
             group.about,
             *paths,
@@ -154,8 +135,9 @@ pub fn push_failing(alloc: Global, out: &mut Vec<u8>, checked: &Checked, group: 
     }
 }
 
+/// Adds that a goal is left open, and the option to raise.
 #[tactic(auto, using(std::proofs::Common::append_assoc), unfolding(crate::specs::ToldText::undecided_text))]
-fn push_undecided(
+pub fn push_undecided(
     out: &mut Vec<u8>,
     names: &Names,
     stage: Stage,

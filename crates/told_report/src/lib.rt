@@ -1,18 +1,16 @@
 //! A report as a person wants to read it. Elements have the names of their sorts; of a counterexample stands what is
-//! true before it, which elements it takes, what it changes, and what is false after it; at the end how much holds, and
-//! which option to raise for what is left open.
+//! true before it, which elements and branches it takes, what it changes, and what is false after it; at the end how
+//! much holds, and which option to raise for what is left open.
 #![tactic(auto)]
 
-mod before;
-mod changes;
-mod elements;
+mod branches;
+mod causes;
 mod execution;
 mod groups;
-mod laws;
-mod symbols;
 mod telling;
 
-pub use elements::push_element;
-pub use laws::end_law;
-pub use symbols::{Symbol, arguments, sizes, tuples};
+pub use branches::Branches;
+pub use causes::push_cause_words;
+pub use execution::{push_after, push_execution, push_step};
+pub use groups::{push_fault, push_path, push_undecided};
 pub use telling::tell;

@@ -5,7 +5,9 @@ ghost use Rattle.rml_report.specs.Reports.{CanRender};
 ghost use Rattle.told_report.specs.ToldText.{group_failing, group_open, held_by, held, count_line, verdict_line};
 ghost use Rattle.told_report.specs.ToldText.{axioms_open, axioms_line, told_text};
 
-use crate::groups::{push_cause_words, push_failing, push_open};
+use crate::branches::Branches;
+use crate::causes::push_cause_words;
+use crate::groups::{push_failing, push_open};
 use base::{Mem, push_number, push_text};
 use rml_command::{Checked, Names};
 use rml_report::{Answer, Axioms, Cause, Group, Report, Verdict};
@@ -50,18 +52,20 @@ fn push_axioms(out: &mut Vec<u8>, axioms: &Axioms) -> Mem<()>
 }
 
 #[tactic(auto, using(std::proofs::Common::append_assoc))]
-fn push_all_failing(
+fn push_all_failing<B: Branches>(
     alloc: Global,
     out: &mut Vec<u8>,
     checked: &Checked,
+    branches: &B,
     groups: &[Group],
 ) -> Mem<()>
     requires { AllByRecursion (CanRender checked.now) groups.now }
-    ensures { OnOk result (out.new.items ≡ out.old.items ++ flat_map (group_failing checked.now) groups.now) }
+    ensures { OnOk result (out.new.items ≡ out.old.items
+        ++ flat_map (group_failing checked.now (B.lines branches.now)) groups.now) }
 {
     let mut rest = groups;
     while let [group, after @ ..] = rest {
-        push_failing(alloc, out, checked, group)?;
+        push_failing(alloc, out, checked, branches, group)?;
         rest = after;
     }
     Ok(())
@@ -116,17 +120,22 @@ fn push_count(out: &mut Vec<u8>, groups: &[Group]) -> Mem<()>
 }
 
 /// The text of a report for a person: the verdict, the axioms where they are in doubt, each group that fails with its
-/// counterexample, the groups that are left open, and how many hold.
+/// counterexample and the branches that it takes, the groups that are left open, and how many hold.
 #[tactic(auto, using(std::proofs::Common::append_assoc), unfolding(crate::specs::ToldText::told_text))]
-pub fn tell(alloc: Global, checked: &Checked, report: &Report) -> Mem<Vec<u8>>
+pub fn tell<B: Branches>(
+    alloc: Global,
+    checked: &Checked,
+    branches: &B,
+    report: &Report,
+) -> Mem<Vec<u8>>
     requires { AllByRecursion (CanRender checked.now) report.now.groups }
-    ensures { IfOk result (λ text. text.items ≡ told_text checked.now report.now) }
+    ensures { IfOk result (λ text. text.items ≡ told_text checked.now (B.lines branches.now) report.now) }
 {
     let groups = report.groups.as_slice();
     let mut out = Vec::new(alloc);
     push_verdict(&mut out, report.verdict)?;
     push_axioms(&mut out, &report.axioms)?;
-    push_all_failing(alloc, &mut out, checked, groups)?;
+    push_all_failing(alloc, &mut out, checked, branches, groups)?;
     push_text(&mut out, "\n")?;
     push_all_open(&mut out, checked.model().names(), groups)?;
     push_count(&mut out, groups)?;

@@ -1,12 +1,10 @@
 use Rattle.std.proofs.Common.{sym}
 use Rattle.fol_sig.specs.Symbols.{symbols}
-use Rattle.told_report.proofs.PathEnds.{keeps_sizes, alike}
 use Rattle.told_report.proofs.execution.push_changed.Goals as goal
 
 pub push_changes-requires-clause-alike : goal.push_changes-requires-clause-alike
 push_changes-requires-clause-alike c =
     let followed = rw c.in-Ended.is at c.in_ok-end.ensures in
-    alike (symbols c.args.checked.now.signature) c.args.shown.now.structure c.in-Ended.end c.requires.structure
-    followed.fits
-    (keeps_sizes c.args.checked.now.axioms c.path-path.result c.args.shown.now.trace.havoc c.args.shown.now.structure
-    c.in-Ended.end (sym followed.outcome))
+    c.end_law.ensures c.args.checked.now.axioms c.path-path.result c.args.shown.now.trace.havoc
+    (symbols c.args.checked.now.signature) c.args.shown.now.structure c.in-Ended.end c.requires.structure followed.fits
+    (sym followed.outcome)

@@ -1,5 +1,6 @@
 use Rattle.std.proofs.Common.{codes}
-use Rattle.told_report.specs.ToldText.{cause_words, doubt_text}
+use Rattle.told_report.specs.CauseWords.{cause_words}
+use Rattle.told_report.specs.ToldText.{doubt_text}
 use Rattle.told_report.proofs.Pieces.{three}
 use Rattle.told_report.proofs.groups.push_doubt.Goals as goal
 

@@ -1,6 +1,7 @@
 use Rattle.std.proofs.Common.{codes, decimal}
 use Rattle.rml_report.specs.ReportText.{head_text}
-use Rattle.told_report.specs.ToldText.{cause_words, undecided_text}
+use Rattle.told_report.specs.CauseWords.{cause_words}
+use Rattle.told_report.specs.ToldText.{undecided_text}
 use Rattle.told_report.proofs.Pieces.{six}
 use Rattle.told_report.proofs.groups.push_undecided.Goals as goal
 

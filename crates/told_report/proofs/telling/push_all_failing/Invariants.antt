@@ -5,11 +5,11 @@ use Rattle.told_report.specs.ToldText.{group_failing}
 use Rattle.told_report.proofs.telling.push_all_failing.Given as goal
 
 abbrev pub invariant-loop-rest : goal.invariant-loop-rest
-invariant-loop-rest l = record {
+invariant-loop-rest g l = record {
   can : AllByRecursion (CanRender l.checked) l.rest;
-  text : l.out.items ++ flat_map (group_failing l.checked) l.rest ≡ l.fn.out.items
-      ++ flat_map (group_failing l.checked) l.groups;
+  text : l.out.items ++ flat_map (group_failing l.checked (g.B.Branches.lines l.branches)) l.rest ≡ l.fn.out.items
+      ++ flat_map (group_failing l.checked (g.B.Branches.lines l.branches)) l.groups;
 }
 
 abbrev pub decreases-loop-rest : goal.decreases-loop-rest
-decreases-loop-rest l = length l.rest
+decreases-loop-rest g l = length l.rest

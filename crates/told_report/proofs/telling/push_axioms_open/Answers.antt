@@ -1,5 +1,6 @@
 use Rattle.std.proofs.Common.{codes}
-use Rattle.told_report.specs.ToldText.{cause_words, axioms_open}
+use Rattle.told_report.specs.CauseWords.{cause_words}
+use Rattle.told_report.specs.ToldText.{axioms_open}
 use Rattle.told_report.proofs.Pieces.{three}
 use Rattle.told_report.proofs.telling.push_axioms_open.Goals as goal
 

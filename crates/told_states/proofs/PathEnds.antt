@@ -1,0 +1,54 @@
+-- A path's end is like its start.
+use Rattle.std.proofs.Common.{◌≡◌, ℕ, ◌<◌, Bool, true, false, List, [], ◌∷◌, Option, Some, None, ap, cond, sym}
+use Rattle.std.proofs.Common.{◌∙◌, subst}
+use Rattle.std.specs.Prelude.{nat_lt}
+use Rattle.fol_sig.specs.Tables.{Tables}
+use Rattle.fol_sig.specs.Symbols.{Symbols, FitsStructure}
+use Rattle.fol_formula.specs.Syntax.{FormTree}
+use Rattle.rml_command.specs.Trees.{PrimitiveTree, assume, set_rel, set_fun, havoc, abort}
+use Rattle.rml_command.specs.Outcomes.{Outcome, ended, follow_path, is_true, satisfies, set_relation}
+use Rattle.rml_command.specs.Outcomes.{set_function, set_variable, range_of}
+use Rattle.told_states.specs.Alike.{AreAlike}
+
+-- where a test is passed, and the rest ends so
+passed : (b : Bool) (o : Option Outcome) (t : Tables) (sizes : List ℕ)
+    → (o ≡ Some (ended t) → t.sizes ≡ sizes) → cond b o None ≡ Some (ended t) → t.sizes ≡ sizes
+passed true o t sizes f e = f e
+passed false o t sizes f e = cc e
+
+same_tables : (s t : Tables) → Some (ended s) ≡ Some (ended t) → t.sizes ≡ s.sizes
+same_tables s t e = let i : t ≡ s = cc e in ap (λ (x : Tables). x.sizes) i
+
+pub keeps_sizes : (axioms : List FormTree) (qs : List PrimitiveTree) (xs : List ℕ) (s t : Tables)
+    → follow_path axioms qs xs s ≡ Some (ended t) → t.sizes ≡ s.sizes
+keeps_sizes axioms [] xs s t e = same_tables s t e
+keeps_sizes axioms (assume p ∷ qs) xs s t e =
+    passed (is_true s p) (follow_path axioms qs xs s) t s.sizes (keeps_sizes axioms qs xs s t) e
+keeps_sizes axioms (set_rel r by ∷ qs) xs s t e =
+    passed (satisfies (set_relation s r by) axioms) (follow_path axioms qs xs (set_relation s r by)) t s.sizes
+    (keeps_sizes axioms qs xs (set_relation s r by) t) e
+keeps_sizes axioms (set_fun f by ∷ qs) xs s t e =
+    passed (satisfies (set_function s f by) axioms) (follow_path axioms qs xs (set_function s f by)) t s.sizes
+    (keeps_sizes axioms qs xs (set_function s f by) t) e
+keeps_sizes axioms (havoc v ∷ qs) [] s t e = cc e
+keeps_sizes axioms (havoc v ∷ qs) (x ∷ xs) s t e =
+    passed (nat_lt x (range_of s v))
+    (cond (satisfies (set_variable s v x) axioms) (follow_path axioms qs xs (set_variable s v x)) None) t s.sizes
+    (passed (satisfies (set_variable s v x) axioms) (follow_path axioms qs xs (set_variable s v x)) t s.sizes
+    (keeps_sizes axioms qs xs (set_variable s v x) t)) e
+keeps_sizes axioms (abort ∷ qs) xs s t e = cc e
+
+pub alike : (sig : Symbols) (s t : Tables) → FitsStructure sig s → FitsStructure sig t → t.sizes ≡ s.sizes
+    → AreAlike s t
+alike sig s t fits_s fits_t sizes = record {
+  before = fits_s.whole;
+  sizes = sizes;
+  relations = sym fits_t.relations ∙ fits_s.relations;
+  functions = sym fits_t.functions ∙ fits_s.functions;
+  relation_sorts = λ r lt.
+      let known = subst (λ n. r < n) (sym fits_s.relations) lt in
+      sym (fits_t.sorts_of r known) ∙ fits_s.sorts_of r known;
+  function_sorts = λ f lt.
+      let known = subst (λ n. f < n) (sym fits_s.functions) lt in
+      sym (fits_t.from_of f known) ∙ fits_s.from_of f known;
+}

@@ -1,0 +1,14 @@
+use Rattle.std.proofs.Common.{◌≡◌, ◌++◌, length}
+use Rattle.std.specs.List.{AllByRecursion, flat_map}
+use Rattle.told_states.specs.SymbolText.{HasSymbol, symbols_of, cells_text}
+use Rattle.told_states.proofs.cells.push_all_cells.Given as goal
+
+abbrev pub invariant-loop-rest : goal.invariant-loop-rest
+invariant-loop-rest g l = record {
+  known : AllByRecursion (HasSymbol l.here) l.rest;
+  text : l.out.items ++ flat_map (cells_text l.here (g.T.OfCells.text l.told l.here l.there)) l.rest
+      ≡ l.fn.out.items ++ flat_map (cells_text l.here (g.T.OfCells.text l.told l.here l.there)) (symbols_of l.here);
+}
+
+abbrev pub decreases-loop-rest : goal.decreases-loop-rest
+decreases-loop-rest g l = length l.rest

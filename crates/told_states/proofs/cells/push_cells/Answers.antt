@@ -1,0 +1,20 @@
+use Rattle.std.proofs.Common.{◌≡◌, ℕ, List, ◌++◌, ap, ◌∙◌, subst}
+use Rattle.fol_sig.specs.Tables.{numbers}
+use Rattle.fol_sig.specs.Tuples.{tuple_at}
+use Rattle.told_states.specs.SymbolText.{arguments_of}
+use Rattle.told_states.proofs.Pieces.{one_more}
+use Rattle.told_states.proofs.cells.push_cells.Goals as goal
+
+pub loop-number-preserved : goal.loop-number-preserved
+loop-number-preserved g c =
+    let cell : List ℕ → List ℕ =
+    g.T.OfCells.text c.args.told.now c.args.here.now c.args.there.now c.args.symbol in
+    let ks : List ℕ = arguments_of c.args.here.now c.args.symbol in
+    let tuple : c.as_slice.result.now ≡ tuple_at c.args.here.now.sizes ks c.loop-number.number =
+    c.as_slice.ensures.value ∙ c.tuple_of_number-tuple.ensures.value
+    ∙ ap (λ s. tuple_at s (numbers c.arguments-sorts.result.now) c.loop-number.number) c.requires.sizes
+    ∙ ap (λ js. tuple_at c.args.here.now.sizes js c.loop-number.number) c.arguments-sorts.ensures in
+    one_more c.loop-number.number (λ n. cell (tuple_at c.args.here.now.sizes ks n)) c.loop-number.out.items _ _
+    c.loop-number.invariant
+    (subst (λ (xs : List ℕ). c.push.new.out.items ≡ c.loop-number.out.items ++ cell xs) tuple
+    c.in_ok-push.ensures)

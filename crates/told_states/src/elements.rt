@@ -1,0 +1,100 @@
+// Elements, told by the name of their sort and their number.
+ghost use Rattle.std.specs.Prelude.{◌≡◌, ◌++◌, OnOk};
+ghost use Rattle.fol_sig.specs.Tables.{numbers};
+ghost use Rattle.fol_formula.specs.View.{form};
+ghost use Rattle.rml_command.specs.Goals.{leading_sorts};
+ghost use Rattle.told_states.specs.ElementText.{element_text, elements_text, arguments_text, line_text};
+
+use base::{Mem, push_number, push_text};
+use fol_formula::Formula;
+use fol_sig::Sort;
+use rml_command::Names;
+use rml_report::push_name;
+
+/// Adds the name of the element's sort, and its number.
+#[tactic(auto, using(std::proofs::Common::append_assoc), unfolding(crate::specs::ElementText::element_text))]
+pub fn push_element(out: &mut Vec<u8>, names: &Names, sort: Sort, element: u32) -> Mem<()>
+    ensures { OnOk result (out.new.items ≡ out.old.items ++ element_text names.now sort.0 element) }
+{
+    push_name(out, names.sorts.as_slice(), sort.0)?;
+    push_number(out, element as u64)?;
+    Ok(())
+}
+
+// The elements of a tuple of these sorts, the first behind the word.
+#[tactic(auto, using(std::proofs::Common::append_assoc), unfolding(crate::specs::ElementText::elements_text))]
+fn push_elements(
+    out: &mut Vec<u8>,
+    names: &Names,
+    word: &str,
+    sorts: &[Sort],
+    elements: &[u32],
+) -> Mem<()>
+    ensures { OnOk result (out.new.items ≡ out.old.items
+        ++ elements_text names.now word.now (numbers sorts.now) elements.now) }
+{
+    match sorts.split_first() {
+        None => Ok(()),
+        Some((sort, sorts)) => match elements.split_first() {
+            None => Ok(()),
+            Some((element, others)) => {
+                push_text(out, word)?;
+                push_element(out, names, *sort, *element)?;
+                push_elements(out, names, ", ", sorts, others)?;
+                Ok(())
+            }
+        },
+    }
+}
+
+/// Adds the arguments in brackets; nothing where there are none.
+#[tactic(auto, using(std::proofs::Common::append_assoc))]
+pub fn push_arguments(out: &mut Vec<u8>, names: &Names, sorts: &[Sort], elements: &[u32]) -> Mem<()>
+    ensures { OnOk result (out.new.items ≡ out.old.items
+        ++ arguments_text names.now (numbers sorts.now) elements.now) }
+{
+    if !sorts.is_empty() {
+        push_elements(out, names, "(", sorts, elements)?;
+        push_text(out, ")")?;
+    }
+    Ok(())
+}
+
+/// Adds the values of the leading quantifiers of a formula, the first behind the word.
+#[tactic(auto, using(std::proofs::Common::append_assoc), unfolding(crate::specs::ElementText::elements_text))]
+pub fn push_values(
+    out: &mut Vec<u8>,
+    names: &Names,
+    word: &str,
+    formula: &Formula,
+    values: &[u32],
+) -> Mem<()>
+    ensures { OnOk result (out.new.items ≡ out.old.items
+        ++ elements_text names.now word.now (leading_sorts (form formula.now)) values.now) }
+{
+    match formula {
+        Formula::Forall(sort, body) => match values.split_first() {
+            None => Ok(()),
+            Some((value, others)) => {
+                push_text(out, word)?;
+                push_element(out, names, *sort, *value)?;
+                push_values(out, names, ", ", body, others)?;
+                Ok(())
+            }
+        },
+        _ => Ok(()),
+    }
+}
+
+/// Adds a line of pieces, each of which begins with a comma and a blank; no line for no piece.
+#[tactic(auto, using(std::proofs::Common::append_assoc))]
+pub fn push_line(out: &mut Vec<u8>, word: &str, pieces: &[u8]) -> Mem<()>
+    ensures { OnOk result (out.new.items ≡ out.old.items ++ line_text word.now pieces.now) }
+{
+    if let [_, _, listed @ ..] = pieces {
+        push_text(out, word)?;
+        out.extend_from_slice(listed)?;
+        push_text(out, "\n")?;
+    }
+    Ok(())
+}

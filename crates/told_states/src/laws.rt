@@ -1,0 +1,7 @@
+// What follows from the definitions alone. The function is its contract, and does nothing.
+ghost use Rattle.told_states.specs.Laws.{EndsAreAlike};
+
+/// The structure in which a path ends has the sorts, sizes and symbols of the one in which it begins.
+pub fn end_law()
+    ensures { EndsAreAlike }
+{}

@@ -1,0 +1,18 @@
+//! The states of an execution as a person wants to see them. Elements have the names of their sorts; of a structure
+//! stands what is true in it, and of two what differs. What is told of each cell of the tables is one walk, whatever it
+//! is.
+#![tactic(auto)]
+
+mod before;
+mod cells;
+mod changes;
+mod elements;
+mod laws;
+mod symbols;
+
+pub use before::push_before;
+pub use cells::{OfCells, push_all_cells, push_cells};
+pub use changes::push_changes;
+pub use elements::{push_element, push_line, push_values};
+pub use laws::end_law;
+pub use symbols::{Symbol, all_symbols, arguments, is_variable, push_symbol, sizes};
