@@ -1,14 +1,13 @@
 -- What is so of tuples of elements. A function's tuple has its value behind the arguments. A tuple of one is a mark at
 -- its node and is not drawn again, one of two is an edge, and a longer one is a small node with an edge to each of its
 -- elements; what is true of no elements at all is a small node alone.
-use Rattle.std.specs.Prelude.{ℕ, ◌+◌, ◌==◌, Bool, true, false, not, if◌then◌else◌, List, [], ◌∷◌, ◌++◌, length, codes}
+use Rattle.std.specs.Prelude.{ℕ, ◌+◌, ◌==◌, Bool, true, false, not, if◌then◌else◌, List, [], ◌∷◌, ◌++◌, codes}
 use Rattle.std.specs.Fmt.{decimal}
 use Rattle.fol_sig.specs.Tables.{Tables, relation_at, function_at, rel_at, fun_at}
-use Rattle.fol_sig.specs.Tuples.{join_below}
 use Rattle.rml_command.specs.declared.names.Names.{Names}
-use Rattle.told_report.specs.SymbolText.{symbol_name, arguments_of, at_tuples}
-use Rattle.told_report.specs.declared.symbols.Symbol.{Symbol}
-use Rattle.told_report.specs.declared.symbols.Symbol.TheVariants as symbol
+use Rattle.told_states.specs.SymbolText.{symbol_name, all_cells}
+use Rattle.told_states.specs.declared.symbols.Symbol.{Symbol}
+use Rattle.told_states.specs.declared.symbols.Symbol.TheVariants as symbol
 use Rattle.dot_graph.specs.NodeText.{node_id}
 
 unfoldable pub colour_text : Bool → List ℕ
@@ -72,16 +71,6 @@ cell_text letter names s t (symbol.Function f) xs =
     ((function_at s f.0).sorts ++ (function_at s f.0).into ∷ []) (xs ++ fun_at s f.0 xs ∷ [])
     (not (fun_at s f.0 xs == fun_at t f.0 xs))
 
-abbrev pub symbol_text : List ℕ → Names → Tables → Tables → Symbol → List ℕ
-symbol_text letter names s t q = at_tuples s.sizes (arguments_of s q) (cell_text letter names s t q)
-
-abbrev pub relation_text : List ℕ → Names → Tables → Tables → ℕ → List ℕ
-relation_text letter names s t r = symbol_text letter names s t (symbol.Relation (record { 0 = r }))
-
-abbrev pub function_text : List ℕ → Names → Tables → Tables → ℕ → List ℕ
-function_text letter names s t f = symbol_text letter names s t (symbol.Function (record { 0 = f }))
-
-unfoldable pub edges_text : List ℕ → Names → Tables → Tables → List ℕ
-edges_text letter names s t =
-    join_below (length s.relations) (relation_text letter names s t)
-    ++ join_below (length s.functions) (function_text letter names s t)
+-- of each tuple of each symbol
+abbrev pub edges_text : List ℕ → Names → Tables → Tables → List ℕ
+edges_text letter names s t = all_cells s (cell_text letter names s t)

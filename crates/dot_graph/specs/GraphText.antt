@@ -1,5 +1,6 @@
 -- A picture of a state, one of a step, and one of a counterexample.
 use Rattle.std.specs.Prelude.{ℕ, List, ◌++◌, Option, Some, None, codes}
+use Rattle.std.specs.Fmt.{decimal}
 use Rattle.fol_sig.specs.Tables.{Tables}
 use Rattle.rml_command.specs.Outcomes.{Outcome, ended, aborted}
 use Rattle.rml_command.specs.Models.{ModelTree}
@@ -23,21 +24,25 @@ side_text letter title names s t =
     side_head letter title ++ side_point letter ++ frames_text letter names s t ++ edges_text letter names s t
     ++ codes "  }\n"
 
+-- the name of a graph is a word and a number, so that the graphs of one text have different names
+unfoldable pub graph_head : List ℕ → ℕ → List ℕ
+graph_head word n = codes "digraph " ++ word ++ decimal n ++ codes " {\n"
+
 -- the structure before beside the one after
-unfoldable pub step_graph : Names → Tables → Tables → List ℕ
-step_graph names s t =
-    codes "digraph step {\n" ++ side_text (codes "b") (codes "before") names s t
+unfoldable pub step_graph : ℕ → Names → Tables → Tables → List ℕ
+step_graph n names s t =
+    graph_head (codes "step") n ++ side_text (codes "b") (codes "before") names s t
     ++ side_text (codes "a") (codes "after") names t s ++ codes "}\n"
 
--- one structure, in which nothing is red
-unfoldable pub state_graph : Names → Tables → List ℕ
-state_graph names s = codes "digraph state {\n" ++ side_text (codes "s") (codes "state") names s s ++ codes "}\n"
+-- one structure under a title, in which nothing is red
+unfoldable pub state_graph : ℕ → List ℕ → Names → Tables → List ℕ
+state_graph n title names s = graph_head (codes "state") n ++ side_text (codes "s") title names s s ++ codes "}\n"
 
 -- A counterexample as a step. One that aborts has no end, and is the state in which it begins.
-abbrev pub outcome_graph : Names → Tables → Option Outcome → List ℕ
-outcome_graph names s None = state_graph names s
-outcome_graph names s (Some aborted) = state_graph names s
-outcome_graph names s (Some (ended t)) = step_graph names s t
+abbrev pub outcome_graph : ℕ → Names → Tables → Option Outcome → List ℕ
+outcome_graph n names s None = state_graph n (codes "state") names s
+outcome_graph n names s (Some aborted) = state_graph n (codes "state") names s
+outcome_graph n names s (Some (ended t)) = step_graph n names s t
 
-abbrev pub counterexample_graph : ModelTree → Counterexample → List ℕ
-counterexample_graph m shown = outcome_graph m.names shown.structure (outcome_of m shown)
+abbrev pub counterexample_graph : ℕ → ModelTree → Counterexample → List ℕ
+counterexample_graph n m shown = outcome_graph n m.names shown.structure (outcome_of m shown)

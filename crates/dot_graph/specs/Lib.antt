@@ -1,3 +1,4 @@
 pub mod NodeText
 pub mod EdgeText
 pub mod GraphText
+pub mod AnswerGraphs

@@ -2,12 +2,16 @@
 -- drawn of a structure beside another one, and in red where the other one differs.
 use Rattle.std.specs.Prelude.{ℕ, ◌==◌, Bool, true, false, not, ◌&&◌, if◌then◌else◌, List, [], ◌∷◌, ◌++◌, length}
 use Rattle.std.specs.Prelude.{codes}
+use Rattle.std.specs.List.{flat_map}
 use Rattle.std.specs.Fmt.{decimal}
 use Rattle.fol_sig.specs.Tables.{Tables, relation_at, function_at, size_at, rel_at, fun_at}
 use Rattle.fol_sig.specs.Tuples.{join_below}
 use Rattle.rml_command.specs.declared.names.Names.{Names}
 use Rattle.rml_report.specs.Words.{name_at, labelled}
-use Rattle.told_report.specs.ElementText.{element_text}
+use Rattle.told_states.specs.ElementText.{element_text}
+use Rattle.told_states.specs.SymbolText.{symbols_of}
+use Rattle.told_states.specs.declared.symbols.Symbol.{Symbol}
+use Rattle.told_states.specs.declared.symbols.Symbol.TheVariants as symbol
 
 -- the node of an element: a letter for the structure, the number of the sort, and the number of the element
 unfoldable pub node_id : List ℕ → ℕ → ℕ → List ℕ
@@ -45,10 +49,12 @@ variable_mark names s t k x f =
     if is_none (function_at s f).sorts && ((function_at s f).into == k)
     then so_text (name_at names.functions f) (x == fun_at s f []) (x == fun_at t f []) else []
 
-unfoldable pub marks_text : Names → Tables → Tables → ℕ → ℕ → List ℕ
-marks_text names s t k x =
-    join_below (length s.relations) (relation_mark names s t k x)
-    ++ join_below (length s.functions) (variable_mark names s t k x)
+abbrev pub symbol_mark : Names → Tables → Tables → ℕ → ℕ → Symbol → List ℕ
+symbol_mark names s t k x (symbol.Relation r) = relation_mark names s t k x r.0
+symbol_mark names s t k x (symbol.Function f) = variable_mark names s t k x f.0
+
+abbrev pub marks_text : Names → Tables → Tables → ℕ → ℕ → List ℕ
+marks_text names s t k x = flat_map (symbol_mark names s t k x) (symbols_of s)
 
 -- an element with its marks
 unfoldable pub node_line : List ℕ → Names → Tables → Tables → ℕ → ℕ → List ℕ

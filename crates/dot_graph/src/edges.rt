@@ -1,20 +1,17 @@
 // What is so of tuples of elements.
-ghost use Rattle.std.specs.Prelude.{◌≡◌, ◌++◌, length, OnOk, IfOk};
+ghost use Rattle.std.specs.Prelude.{◌≡◌, ◌++◌, OnOk, IfOk};
 ghost use Rattle.fol_sig.specs.Tables.{numbers};
 ghost use Rattle.fol_sig.specs.Symbols.{FitsStructure, symbols};
-ghost use Rattle.fol_sig.specs.Tuples.{join_below};
-ghost use Rattle.told_report.specs.SymbolText.{symbol_name, HasSymbol, IsCell};
-ghost use Rattle.told_report.specs.ChangeText.{AreAlike};
-ghost use Rattle.dot_graph.specs.EdgeText.{symbol_id, hub_id, cell_text, symbol_text, relation_text, function_text};
-ghost use Rattle.dot_graph.specs.EdgeText.{tuple_text, edges_text};
+ghost use Rattle.told_states.specs.SymbolText.{symbol_name, IsCell};
+ghost use Rattle.told_states.specs.Alike.{AreAlike};
+ghost use Rattle.dot_graph.specs.EdgeText.{symbol_id, hub_id, cell_text, tuple_text, edges_text};
 
 use crate::lines::{push_digits, push_tuple};
 use base::{Mem, push_number, push_text};
-use fol_sig::{FunId, RelId, Sort, Structure, tuple_of_number};
+use fol_sig::{FunId, RelId, Sort, Structure};
 use rml_command::{Model, Names};
-use rml_report::push_name;
 use std::alloc::Global;
-use told_report::{Symbol, arguments, sizes, tuples};
+use told_states::{OfCells, Symbol, push_all_cells, push_symbol};
 
 #[tactic(auto, using(std::proofs::Common::append_assoc))]
 fn push_symbol_id(out: &mut Vec<u8>, symbol: Symbol) -> Mem<()>
@@ -49,10 +46,7 @@ fn symbol_name(alloc: Global, names: &Names, symbol: Symbol) -> Mem<Vec<u8>>
     ensures { IfOk result (λ name. name.items ≡ symbol_name names.now symbol) }
 {
     let mut name = Vec::new(alloc);
-    match symbol {
-        Symbol::Relation(rel) => push_name(&mut name, names.relations.as_slice(), rel.0)?,
-        Symbol::Function(fun) => push_name(&mut name, names.functions.as_slice(), fun.0)?,
-    }
+    push_symbol(&mut name, names, symbol)?;
     Ok(name)
 }
 
@@ -171,90 +165,39 @@ fn push_cell(
     }
 }
 
-// Each tuple of a symbol.
-fn push_symbol(
-    alloc: Global,
-    out: &mut Vec<u8>,
-    letter: &str,
-    names: &Names,
-    sizes: &[u32],
-    now: &Structure,
-    other: &Structure,
-    symbol: Symbol,
-) -> Mem<()>
-    requires alike { AreAlike now.now other.now }
-    requires sizes { sizes.now ≡ now.now.sizes }
-    requires known { HasSymbol now.now symbol }
-    ensures { OnOk result (out.new.items ≡ out.old.items
-        ++ symbol_text letter.now names.now now.now other.now symbol) }
-{
-    let sorts = arguments(now, symbol);
-    for number in 0..tuples(sizes, sorts)? {
-        let tuple = tuple_of_number(alloc, sizes, sorts, number);
+// What is drawn of each tuple, under the letter of the structure.
+#[derive(Clone, Copy)]
+struct Edges<'a> {
+    letter: &'a str,
+    names: &'a Names,
+}
+
+impl<'a> OfCells for Edges<'a> {
+    ghost text = { λ e s t q xs. cell_text e.letter.now e.names.now s t q xs };
+
+    fn push(
+        &self,
+        alloc: Global,
+        out: &mut Vec<u8>,
+        here: &Structure,
+        there: &Structure,
+        symbol: Symbol,
+        tuple: &[u32],
+    ) -> Mem<()> {
         push_cell(
             alloc,
             out,
-            letter,
-            names,
-            now,
-            other,
+            self.letter,
+            self.names,
+            here,
+            there,
             symbol,
-            tuple.as_slice(),
-        )?;
+            tuple,
+        )
     }
-    Ok(())
-}
-
-#[tactic(auto, using(std::proofs::Common::append_assoc))]
-fn push_relations(
-    alloc: Global,
-    out: &mut Vec<u8>,
-    letter: &str,
-    names: &Names,
-    sizes: &[u32],
-    count: u32,
-    now: &Structure,
-    other: &Structure,
-) -> Mem<()>
-    requires alike { AreAlike now.now other.now }
-    requires sizes { sizes.now ≡ now.now.sizes }
-    requires count { count ≡ length now.now.relations }
-    ensures { OnOk result (out.new.items ≡ out.old.items
-        ++ join_below count (relation_text letter.now names.now now.now other.now)) }
-{
-    for rel in 0..count {
-        let symbol = Symbol::Relation(RelId(rel));
-        push_symbol(alloc, out, letter, names, sizes, now, other, symbol)?;
-    }
-    Ok(())
-}
-
-#[tactic(auto, using(std::proofs::Common::append_assoc))]
-fn push_functions(
-    alloc: Global,
-    out: &mut Vec<u8>,
-    letter: &str,
-    names: &Names,
-    sizes: &[u32],
-    count: u32,
-    now: &Structure,
-    other: &Structure,
-) -> Mem<()>
-    requires alike { AreAlike now.now other.now }
-    requires sizes { sizes.now ≡ now.now.sizes }
-    requires count { count ≡ length now.now.functions }
-    ensures { OnOk result (out.new.items ≡ out.old.items
-        ++ join_below count (function_text letter.now names.now now.now other.now)) }
-{
-    for fun in 0..count {
-        let symbol = Symbol::Function(FunId(fun));
-        push_symbol(alloc, out, letter, names, sizes, now, other, symbol)?;
-    }
-    Ok(())
 }
 
 /// Adds what is drawn of the tuples of all symbols.
-#[tactic(auto, using(std::proofs::Common::append_assoc), unfolding(crate::specs::EdgeText::edges_text))]
 pub fn push_edges(
     alloc: Global,
     out: &mut Vec<u8>,
@@ -268,28 +211,10 @@ pub fn push_edges(
     ensures { OnOk result (out.new.items ≡ out.old.items
         ++ edges_text letter.now model.now.names now.now other.now) }
 {
-    let signature = model.signature();
-    let names = model.names();
-    let sizes = sizes(alloc, model, now)?;
-    push_relations(
-        alloc,
-        out,
+    let edges = Edges {
         letter,
-        names,
-        &sizes,
-        signature.relation_count(),
-        now,
-        other,
-    )?;
-    push_functions(
-        alloc,
-        out,
-        letter,
-        names,
-        &sizes,
-        signature.function_count(),
-        now,
-        other,
-    )?;
+        names: model.names(),
+    };
+    push_all_cells(alloc, out, &edges, model, now, other)?;
     Ok(())
 }

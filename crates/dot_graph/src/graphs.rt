@@ -1,29 +1,30 @@
 // Whole pictures.
-ghost use Rattle.std.specs.Prelude.{◌≡◌, ◌++◌, OnOk, IfOk};
+ghost use Rattle.std.specs.Prelude.{◌≡◌, ◌++◌, OnOk};
 ghost use Rattle.fol_sig.specs.Symbols.{FitsStructure, symbols};
 ghost use Rattle.rml_report.specs.Reports.{IsExecution};
-ghost use Rattle.told_report.specs.ChangeText.{AreAlike};
-ghost use Rattle.dot_graph.specs.GraphText.{side_head, side_point, side_text, step_graph, state_graph};
+ghost use Rattle.told_states.specs.Alike.{AreAlike};
+ghost use Rattle.dot_graph.specs.GraphText.{side_head, side_point, side_text, graph_head, step_graph, state_graph};
 ghost use Rattle.dot_graph.specs.GraphText.{counterexample_graph};
 
 use crate::edges::push_edges;
+use crate::lines::push_bytes;
 use crate::nodes::push_frames;
-use base::{Mem, push_text};
+use base::{Mem, push_number, push_text};
 use fol_sig::Structure;
 use rml_command::{Checked, Model};
 use rml_exec::{Counterexample, Followed, follow};
 use std::alloc::Global;
-use told_report::end_law;
+use told_states::end_law;
 
 #[tactic(auto, using(std::proofs::Common::append_assoc), unfolding(crate::specs::GraphText::side_head))]
-fn push_side_head(out: &mut Vec<u8>, letter: &str, title: &str) -> Mem<()>
+fn push_side_head(out: &mut Vec<u8>, letter: &str, title: &[u8]) -> Mem<()>
     ensures { OnOk result (out.new.items ≡ out.old.items ++ side_head letter.now title.now) }
 {
     push_text(out, "  subgraph cluster_")?;
     push_text(out, letter)?;
     push_text(out, " {\n")?;
     push_text(out, "    label=<")?;
-    push_text(out, title)?;
+    push_bytes(out, title)?;
     push_text(out, ">;\n")?;
     Ok(())
 }
@@ -45,7 +46,7 @@ fn push_side(
     alloc: Global,
     out: &mut Vec<u8>,
     letter: &str,
-    title: &str,
+    title: &[u8],
     model: &Model,
     now: &Structure,
     other: &Structure,
@@ -57,61 +58,89 @@ fn push_side(
 {
     push_side_head(out, letter, title)?;
     push_side_point(out, letter)?;
-    push_frames(out, letter, model, now, other)?;
+    push_frames(alloc, out, letter, model, now, other)?;
     push_edges(alloc, out, letter, model, now, other)?;
     push_text(out, "  }\n")?;
     Ok(())
 }
 
-/// The picture of a step: the structure before beside the one after.
+// The name of a graph.
+#[tactic(auto, using(std::proofs::Common::append_assoc), unfolding(crate::specs::GraphText::graph_head))]
+fn push_graph_head(out: &mut Vec<u8>, word: &str, number: u64) -> Mem<()>
+    ensures { OnOk result (out.new.items ≡ out.old.items ++ graph_head word.now number) }
+{
+    push_text(out, "digraph ")?;
+    push_text(out, word)?;
+    push_number(out, number)?;
+    push_text(out, " {\n")?;
+    Ok(())
+}
+
+/// Adds the picture of a step: the structure before beside the one after.
 #[tactic(auto, using(std::proofs::Common::append_assoc), unfolding(crate::specs::GraphText::step_graph))]
-pub fn step_graph(
+pub fn push_step_graph(
     alloc: Global,
+    out: &mut Vec<u8>,
+    number: u64,
     model: &Model,
     before: &Structure,
     after: &Structure,
-) -> Mem<Vec<u8>>
+) -> Mem<()>
     requires before { FitsStructure (symbols model.now.signature) before.now }
     requires after { FitsStructure (symbols model.now.signature) after.now }
     requires sizes { after.now.sizes ≡ before.now.sizes }
-    ensures { IfOk result (λ text. text.items ≡ step_graph model.now.names before.now after.now) }
+    ensures { OnOk result (out.new.items ≡ out.old.items ++ step_graph number model.now.names before.now after.now) }
 {
-    let mut out = Vec::new(alloc);
-    push_text(&mut out, "digraph step {\n")?;
-    push_side(alloc, &mut out, "b", "before", model, before, after)?;
-    push_side(alloc, &mut out, "a", "after", model, after, before)?;
-    push_text(&mut out, "}\n")?;
-    Ok(out)
+    push_graph_head(out, "step", number)?;
+    push_side(alloc, out, "b", "before".as_bytes(), model, before, after)?;
+    push_side(alloc, out, "a", "after".as_bytes(), model, after, before)?;
+    push_text(out, "}\n")?;
+    Ok(())
 }
 
-/// The picture of a state.
+/// Adds the picture of a state, under a title.
 #[tactic(auto, using(std::proofs::Common::append_assoc), unfolding(crate::specs::GraphText::state_graph))]
-pub fn state_graph(alloc: Global, model: &Model, structure: &Structure) -> Mem<Vec<u8>>
+pub fn push_state_graph(
+    alloc: Global,
+    out: &mut Vec<u8>,
+    number: u64,
+    title: &[u8],
+    model: &Model,
+    structure: &Structure,
+) -> Mem<()>
     requires { FitsStructure (symbols model.now.signature) structure.now }
-    ensures { IfOk result (λ text. text.items ≡ state_graph model.now.names structure.now) }
+    ensures { OnOk result (out.new.items ≡ out.old.items
+        ++ state_graph number title.now model.now.names structure.now) }
 {
-    let mut out = Vec::new(alloc);
-    push_text(&mut out, "digraph state {\n")?;
-    push_side(alloc, &mut out, "s", "state", model, structure, structure)?;
-    push_text(&mut out, "}\n")?;
-    Ok(out)
+    push_graph_head(out, "state", number)?;
+    push_side(alloc, out, "s", title, model, structure, structure)?;
+    push_text(out, "}\n")?;
+    Ok(())
 }
 
-/// The picture of a counterexample: its step, or where it aborts the state in which it begins.
-pub fn counterexample_graph(
+/// Adds the picture of a counterexample: its step, or where it aborts the state in which it begins.
+pub fn push_counterexample_graph(
     alloc: Global,
+    out: &mut Vec<u8>,
+    number: u64,
     checked: &Checked,
     shown: &Counterexample,
-) -> Mem<Vec<u8>>
+) -> Mem<()>
     requires { IsExecution checked.now shown.now }
-    ensures { IfOk result (λ text. text.items ≡ counterexample_graph checked.now shown.now) }
+    ensures { OnOk result (out.new.items ≡ out.old.items ++ counterexample_graph number checked.now shown.now) }
 {
     end_law();
+    let model = checked.model();
     let path = checked.path(&shown.goal);
     match follow(alloc, checked, &path, &shown.trace, &shown.structure)? {
-        Followed::Ended(end) => step_graph(alloc, checked.model(), &shown.structure, &end),
-        Followed::Aborted | Followed::Blocked => {
-            state_graph(alloc, checked.model(), &shown.structure)
-        }
+        Followed::Ended(end) => push_step_graph(alloc, out, number, model, &shown.structure, &end),
+        Followed::Aborted | Followed::Blocked => push_state_graph(
+            alloc,
+            out,
+            number,
+            "state".as_bytes(),
+            model,
+            &shown.structure,
+        ),
     }
 }

@@ -1,20 +1,22 @@
 // The elements, in a frame for each sort.
 ghost use Rattle.std.specs.Prelude.{◌≡◌, ◌<◌, ◌==◌, ◌++◌, ◌&&◌, [], ◌∷◌, length, OnOk};
+ghost use Rattle.std.specs.List.{AllByRecursion, flat_map};
 ghost use Rattle.fol_sig.specs.Tables.{numbers, size_at};
 ghost use Rattle.fol_sig.specs.Symbols.{FitsStructure, symbols};
 ghost use Rattle.fol_sig.specs.Tuples.{join_below};
 ghost use Rattle.rml_report.specs.Words.{name_at};
-ghost use Rattle.told_report.specs.ChangeText.{AreAlike};
+ghost use Rattle.told_states.specs.SymbolText.{symbols_of, HasSymbol};
+ghost use Rattle.told_states.specs.Alike.{AreAlike};
 ghost use Rattle.dot_graph.specs.NodeText.{mark_text, so_text, is_only, is_none, relation_mark, variable_mark};
-ghost use Rattle.dot_graph.specs.NodeText.{marks_text, node_line, frame_title, frame_head};
-ghost use Rattle.dot_graph.specs.NodeText.{sort_frame, frames_text};
+ghost use Rattle.dot_graph.specs.NodeText.{symbol_mark, node_line, frame_title, frame_head, sort_frame, frames_text};
 
 use crate::lines::push_node_id;
 use base::{Mem, push_number, push_text};
 use fol_sig::{FunId, RelId, Sort, Structure};
 use rml_command::{Model, Name, Names};
 use rml_report::push_labelled;
-use told_report::push_element;
+use std::alloc::Global;
+use told_states::{Symbol, all_symbols, push_element};
 
 // A line of a node's label, red or not.
 fn push_mark(out: &mut Vec<u8>, names: &[Name], k: u32, changed: bool) -> Mem<()>
@@ -101,84 +103,48 @@ fn push_variable_mark(
     }
 }
 
-#[tactic(auto, using(std::proofs::Common::append_assoc))]
-fn push_relation_marks(
+fn push_symbol_mark(
     out: &mut Vec<u8>,
     names: &Names,
-    count: u32,
     now: &Structure,
     other: &Structure,
     sort: Sort,
     element: u32,
+    symbol: Symbol,
 ) -> Mem<()>
     requires alike { AreAlike now.now other.now }
-    requires count { count ≡ length now.now.relations }
+    requires known { HasSymbol now.now symbol }
     requires element { element < size_at now.now sort.0 }
     ensures { OnOk result (out.new.items ≡ out.old.items
-        ++ join_below count (relation_mark names.now now.now other.now sort.0 element)) }
+        ++ symbol_mark names.now now.now other.now sort.0 element symbol) }
 {
-    for rel in 0..count {
-        push_relation_mark(out, names, now, other, sort, element, RelId(rel))?;
+    match symbol {
+        Symbol::Relation(rel) => push_relation_mark(out, names, now, other, sort, element, rel),
+        Symbol::Function(fun) => push_variable_mark(out, names, now, other, sort, element, fun),
     }
-    Ok(())
 }
 
 #[tactic(auto, using(std::proofs::Common::append_assoc))]
-fn push_variable_marks(
-    out: &mut Vec<u8>,
-    names: &Names,
-    count: u32,
-    now: &Structure,
-    other: &Structure,
-    sort: Sort,
-    element: u32,
-) -> Mem<()>
-    requires alike { AreAlike now.now other.now }
-    requires count { count ≡ length now.now.functions }
-    ensures { OnOk result (out.new.items ≡ out.old.items
-        ++ join_below count (variable_mark names.now now.now other.now sort.0 element)) }
-{
-    for fun in 0..count {
-        push_variable_mark(out, names, now, other, sort, element, FunId(fun))?;
-    }
-    Ok(())
-}
-
-#[tactic(auto, using(std::proofs::Common::append_assoc), unfolding(crate::specs::NodeText::marks_text))]
 fn push_marks(
     out: &mut Vec<u8>,
-    model: &Model,
+    names: &Names,
+    symbols: &[Symbol],
     now: &Structure,
     other: &Structure,
     sort: Sort,
     element: u32,
 ) -> Mem<()>
-    requires structure { FitsStructure (symbols model.now.signature) now.now }
     requires alike { AreAlike now.now other.now }
+    requires known { AllByRecursion (HasSymbol now.now) symbols.now }
     requires element { element < size_at now.now sort.0 }
     ensures { OnOk result (out.new.items ≡ out.old.items
-        ++ marks_text model.now.names now.now other.now sort.0 element) }
+        ++ flat_map (symbol_mark names.now now.now other.now sort.0 element) symbols.now) }
 {
-    let names = model.names();
-    let signature = model.signature();
-    push_relation_marks(
-        out,
-        names,
-        signature.relation_count(),
-        now,
-        other,
-        sort,
-        element,
-    )?;
-    push_variable_marks(
-        out,
-        names,
-        signature.function_count(),
-        now,
-        other,
-        sort,
-        element,
-    )?;
+    let mut rest = symbols;
+    while let [symbol, after @ ..] = rest {
+        push_symbol_mark(out, names, now, other, sort, element, *symbol)?;
+        rest = after;
+    }
     Ok(())
 }
 
@@ -186,23 +152,25 @@ fn push_marks(
 fn push_node(
     out: &mut Vec<u8>,
     letter: &str,
-    model: &Model,
+    names: &Names,
+    symbols: &[Symbol],
     now: &Structure,
     other: &Structure,
     sort: Sort,
     element: u32,
 ) -> Mem<()>
-    requires structure { FitsStructure (symbols model.now.signature) now.now }
     requires alike { AreAlike now.now other.now }
+    requires symbols { symbols.now ≡ symbols_of now.now }
+    requires known { AllByRecursion (HasSymbol now.now) symbols.now }
     requires element { element < size_at now.now sort.0 }
     ensures { OnOk result (out.new.items ≡ out.old.items
-        ++ node_line letter.now model.now.names now.now other.now sort.0 element) }
+        ++ node_line letter.now names.now now.now other.now sort.0 element) }
 {
     push_text(out, "      ")?;
     push_node_id(out, letter, sort, element)?;
     push_text(out, " [label=<")?;
-    push_element(out, model.names(), sort, element)?;
-    push_marks(out, model, now, other, sort, element)?;
+    push_element(out, names, sort, element)?;
+    push_marks(out, names, symbols, now, other, sort, element)?;
     push_text(out, ">];\n")?;
     Ok(())
 }
@@ -211,19 +179,21 @@ fn push_node(
 fn push_nodes(
     out: &mut Vec<u8>,
     letter: &str,
-    model: &Model,
+    names: &Names,
+    symbols: &[Symbol],
     now: &Structure,
     other: &Structure,
     sort: Sort,
 ) -> Mem<()>
-    requires structure { FitsStructure (symbols model.now.signature) now.now }
     requires alike { AreAlike now.now other.now }
-    requires known { sort.0 < length now.now.sizes }
+    requires symbols { symbols.now ≡ symbols_of now.now }
+    requires known { AllByRecursion (HasSymbol now.now) symbols.now }
+    requires sort { sort.0 < length now.now.sizes }
     ensures { OnOk result (out.new.items ≡ out.old.items
-        ++ join_below (size_at now.now sort.0) (node_line letter.now model.now.names now.now other.now sort.0)) }
+        ++ join_below (size_at now.now sort.0) (node_line letter.now names.now now.now other.now sort.0)) }
 {
     for element in 0..now.size(sort) {
-        push_node(out, letter, model, now, other, sort, element)?;
+        push_node(out, letter, names, symbols, now, other, sort, element)?;
     }
     Ok(())
 }
@@ -252,19 +222,21 @@ fn push_frame_head(out: &mut Vec<u8>, letter: &str, names: &Names, sort: u32) ->
 fn push_frame(
     out: &mut Vec<u8>,
     letter: &str,
-    model: &Model,
+    names: &Names,
+    symbols: &[Symbol],
     now: &Structure,
     other: &Structure,
     sort: u32,
 ) -> Mem<()>
-    requires structure { FitsStructure (symbols model.now.signature) now.now }
     requires alike { AreAlike now.now other.now }
-    requires known { sort < length now.now.sizes }
+    requires symbols { symbols.now ≡ symbols_of now.now }
+    requires known { AllByRecursion (HasSymbol now.now) symbols.now }
+    requires sort { sort < length now.now.sizes }
     ensures { OnOk result (out.new.items ≡ out.old.items
-        ++ sort_frame letter.now model.now.names now.now other.now sort) }
+        ++ sort_frame letter.now names.now now.now other.now sort) }
 {
-    push_frame_head(out, letter, model.names(), sort)?;
-    push_nodes(out, letter, model, now, other, Sort(sort))?;
+    push_frame_head(out, letter, names, sort)?;
+    push_nodes(out, letter, names, symbols, now, other, Sort(sort))?;
     push_text(out, "    }\n")?;
     Ok(())
 }
@@ -272,6 +244,7 @@ fn push_frame(
 /// Adds the elements of all sorts.
 #[tactic(auto, using(std::proofs::Common::append_assoc))]
 pub fn push_frames(
+    alloc: Global,
     out: &mut Vec<u8>,
     letter: &str,
     model: &Model,
@@ -283,8 +256,10 @@ pub fn push_frames(
     ensures { OnOk result (out.new.items ≡ out.old.items
         ++ frames_text letter.now model.now.names now.now other.now) }
 {
+    let names = model.names();
+    let symbols = all_symbols(alloc, model, now)?;
     for sort in 0..model.signature().sorts() {
-        push_frame(out, letter, model, now, other, sort)?;
+        push_frame(out, letter, names, &symbols, now, other, sort)?;
     }
     Ok(())
 }

@@ -8,7 +8,7 @@ use Rattle.rml_bmc.specs.declared.answer.Length.TheVariants as length
 use Rattle.rml_bmc.specs.declared.answer.Bounded.{Bounded}
 use Rattle.told_fault.specs.declared.reading.Reading.{Reading}
 use Rattle.told_runs.specs.RunsText.{runs_text}
-use Rattle.dot_graph.specs.AnswerGraphs.{run_graphs}
+use Rattle.dot_answers.specs.AnswerGraphs.{run_graphs}
 use Rattle.json_outcome.specs.BoundedData.{bounded_members}
 use Rattle.commands.specs.Due.{Due}
 use Rattle.command_parts.specs.Saying.{on_out}

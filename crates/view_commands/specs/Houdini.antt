@@ -4,7 +4,7 @@ use Rattle.rml_command.specs.Models.{ModelTree}
 use Rattle.rml_houdini.specs.declared.houdini.Houdini.{Houdini}
 use Rattle.told_fault.specs.declared.reading.Reading.{Reading}
 use Rattle.told_subset.specs.SubsetText.{subset_text}
-use Rattle.dot_graph.specs.AnswerGraphs.{drop_graphs}
+use Rattle.dot_answers.specs.AnswerGraphs.{drop_graphs}
 use Rattle.json_outcome.specs.HoudiniData.{houdini_members}
 use Rattle.commands.specs.Due.{Due}
 use Rattle.command_parts.specs.Saying.{on_out}

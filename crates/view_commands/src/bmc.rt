@@ -15,7 +15,7 @@ use crate::ways::ways;
 use base::Mem;
 use command_parts::shown;
 use commands::{Command, Said};
-use dot_graph::run_graphs;
+use dot_answers::run_graphs;
 use json_outcome::bounded_object;
 use model_commands::{Bmc, BmcAnswer, bounded_status};
 use progress::Progress;

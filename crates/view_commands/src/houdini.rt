@@ -16,7 +16,7 @@ use crate::ways::{Ways, ways};
 use base::Mem;
 use command_parts::shown;
 use commands::{Command, Said};
-use dot_graph::drops_graphs;
+use dot_answers::drops_graphs;
 use json_outcome::houdini_object;
 use model_commands::{Houdini, HoudiniAnswer, houdini_status};
 use progress::Progress;

@@ -5,4 +5,4 @@ use Rattle.dot_graph.proofs.nodes.push_nodes.Given as goal
 
 abbrev pub invariant-loop-element : goal.invariant-loop-element
 invariant-loop-element l = l.out.items
-    ≡ l.initial.out.items ++ join_below l.element (node_line l.letter l.model.names l.now l.other l.sort.0)
+    ≡ l.initial.out.items ++ join_below l.element (node_line l.letter l.names l.now l.other l.sort.0)

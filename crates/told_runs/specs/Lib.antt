@@ -1,0 +1,2 @@
+pub mod RunsText
+pub mod Laws

@@ -1,0 +1,164 @@
+// A run that is broken.
+ghost use Rattle.std.specs.Prelude.{◌≡◌, ◌++◌, OnOk};
+ghost use Rattle.std.specs.List.{AllByRecursion};
+ghost use Rattle.fol_sig.specs.Symbols.{FitsStructure, symbols};
+ghost use Rattle.told_runs.specs.RunsText.{actions_text, part_head, changes_until, part_text, end_or, parts_text};
+ghost use Rattle.told_runs.specs.RunsText.{run_head, run_text, EndFits, CanShow};
+
+use base::{Mem, push_number, push_text};
+use fol_sig::Structure;
+use rml_bmc::{Part, Run};
+use rml_command::{About, Checked, Names};
+use rml_report::push_stage;
+use std::alloc::Global;
+use told_report::{Branches, push_after, push_fault, push_path, push_step};
+use told_states::{push_before, push_changes};
+
+/// Adds so many actions.
+#[tactic(auto, using(std::proofs::Common::append_assoc), unfolding(crate::specs::RunsText::actions_text))]
+pub fn push_actions(out: &mut Vec<u8>, actions: u64) -> Mem<()>
+    ensures { OnOk result (out.new.items ≡ out.old.items ++ actions_text actions) }
+{
+    push_number(out, actions)?;
+    if actions == 1 {
+        push_text(out, " action")?;
+    } else {
+        push_text(out, " actions")?;
+    }
+    Ok(())
+}
+
+// Which path of a block it is.
+#[tactic(auto, using(std::proofs::Common::append_assoc), unfolding(crate::specs::RunsText::part_head))]
+fn push_part_head(out: &mut Vec<u8>, checked: &Checked, part: &Part) -> Mem<()>
+    ensures { OnOk result (out.new.items ≡ out.old.items ++ part_head checked.now part.now) }
+{
+    let paths = checked.stage_paths(part.stage).len();
+    push_stage(out, checked.model().names(), part.stage)?;
+    push_path(out, part.trace.path, paths as u64)?;
+    Ok(())
+}
+
+// What has changed where a part ends.
+fn push_until(
+    alloc: Global,
+    out: &mut Vec<u8>,
+    checked: &Checked,
+    begin: &Structure,
+    end: &Option<Structure>,
+) -> Mem<()>
+    requires begin { FitsStructure (symbols checked.now.signature) begin.now }
+    requires end { EndFits checked.now begin.now.sizes end.now }
+    ensures { OnOk result (out.new.items ≡ out.old.items ++ changes_until checked.now.names begin.now end.now) }
+{
+    match end {
+        None => Ok(()),
+        Some(end) => push_changes(alloc, out, checked.model(), begin, end),
+    }
+}
+
+#[tactic(auto, using(std::proofs::Common::append_assoc), unfolding(crate::specs::RunsText::part_text))]
+fn push_part<B: Branches>(
+    alloc: Global,
+    out: &mut Vec<u8>,
+    checked: &Checked,
+    branches: &B,
+    begin: &Structure,
+    part: &Part,
+) -> Mem<()>
+    requires begin { FitsStructure (symbols checked.now.signature) begin.now }
+    requires end { EndFits checked.now begin.now.sizes part.now.end }
+    ensures { OnOk result (out.new.items ≡ out.old.items
+        ++ part_text checked.now (B.lines branches.now) begin.now part.now) }
+{
+    let elements = part.trace.havoc.as_slice();
+    push_part_head(out, checked, part)?;
+    push_step(
+        alloc,
+        out,
+        checked,
+        branches,
+        part.stage,
+        part.trace.path,
+        begin,
+        elements,
+    )?;
+    push_until(alloc, out, checked, begin, &part.end)?;
+    Ok(())
+}
+
+// The structure in which the next part begins.
+fn end_or<'a>(begin: &'a Structure, end: &'a Option<Structure>) -> &'a Structure
+    ensures { result.now ≡ end_or begin.now end.now }
+{
+    match end {
+        None => begin,
+        Some(end) => end,
+    }
+}
+
+// Each part from the end of the one before.
+#[tactic(auto, using(std::proofs::Common::append_assoc))]
+fn push_parts<B: Branches>(
+    alloc: Global,
+    out: &mut Vec<u8>,
+    checked: &Checked,
+    branches: &B,
+    start: &Structure,
+    parts: &[Part],
+) -> Mem<()>
+    requires start { FitsStructure (symbols checked.now.signature) start.now }
+    requires ends { AllByRecursion (λ part. EndFits checked.now start.now.sizes part.end) parts.now }
+    ensures { OnOk result (out.new.items ≡ out.old.items
+        ++ parts_text checked.now (B.lines branches.now) start.now parts.now) }
+{
+    let mut begin = start;
+    let mut rest = parts;
+    while let [part, after @ ..] = rest {
+        push_part(alloc, out, checked, branches, begin, part)?;
+        begin = end_or(begin, &part.end);
+        rest = after;
+    }
+    Ok(())
+}
+
+// How many actions the run has, and what it does.
+#[tactic(auto, using(std::proofs::Common::append_assoc), unfolding(crate::specs::RunsText::run_head))]
+fn push_run_head(out: &mut Vec<u8>, names: &Names, actions: u64, about: About) -> Mem<()>
+    ensures { OnOk result (out.new.items ≡ out.old.items ++ run_head names.now actions about) }
+{
+    push_text(out, "\na run with ")?;
+    push_actions(out, actions)?;
+    push_fault(out, names, about)?;
+    push_text(out, "\n")?;
+    Ok(())
+}
+
+/// Adds a run.
+#[tactic(auto, using(std::proofs::Common::append_assoc), unfolding(crate::specs::RunsText::run_text))]
+pub fn push_run<B: Branches>(
+    alloc: Global,
+    out: &mut Vec<u8>,
+    checked: &Checked,
+    branches: &B,
+    actions: u64,
+    run: &Run,
+) -> Mem<()>
+    requires { CanShow checked.now run.now }
+    ensures { OnOk result (out.new.items ≡ out.old.items
+        ++ run_text checked.now (B.lines branches.now) actions run.now) }
+{
+    let model = checked.model();
+    push_run_head(out, model.names(), actions, run.about)?;
+    push_before(alloc, out, model, &run.start)?;
+    push_parts(
+        alloc,
+        out,
+        checked,
+        branches,
+        &run.start,
+        run.parts.as_slice(),
+    )?;
+    push_after(out, model, run.about, run.values.as_slice())?;
+    Ok(())
+}
