@@ -77,8 +77,8 @@ fn judge_runs<P: Progress>(
     }
 }
 
-// The status that goes with a verdict.
-fn status_of(verdict: Verdict) -> u8
+/// The status that goes with a verdict.
+pub fn bounded_status(verdict: Verdict) -> u8
     ensures { result ≡ bounded_status verdict }
 {
     match verdict {
@@ -113,7 +113,7 @@ impl Command for Bmc {
                 let _model = model.model();
                 let text = render(alloc, model, bounded)?;
                 let verdict = verdict_for(bounded.lengths.as_slice());
-                Ok(shown(text, status_of(verdict)))
+                Ok(shown(text, bounded_status(verdict)))
             }
             BmcAnswer::Fault(fault) => say_model_fault(alloc, first, fault),
         }

@@ -81,7 +81,7 @@ fn judge_model<P: Progress>(
 }
 
 /// The status that goes with a verdict.
-pub fn status_of(verdict: Verdict) -> u8
+pub fn verdict_status(verdict: Verdict) -> u8
     ensures { result ≡ verdict_status verdict }
 {
     match verdict {
@@ -113,7 +113,7 @@ impl Command for Check {
         match answer {
             CheckAnswer::Checked { model, report } => {
                 let text = render(alloc, model, report)?;
-                Ok(shown(text, status_of(report.verdict)))
+                Ok(shown(text, verdict_status(report.verdict)))
             }
             CheckAnswer::Fault(fault) => say_model_fault(alloc, first, fault),
         }

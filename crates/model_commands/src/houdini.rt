@@ -76,8 +76,8 @@ fn judge_conjectures<P: Progress>(
     }
 }
 
-// The status that goes with what was found.
-fn status_of(houdini: &rml_houdini::Houdini) -> u8
+/// The status that goes with what was found.
+pub fn houdini_status(houdini: &rml_houdini::Houdini) -> u8
     ensures { result ≡ houdini_status houdini.now.dropped houdini.now.unsettled }
 {
     if houdini.unsettled.is_some() {
@@ -111,7 +111,7 @@ impl Command for Houdini {
         match answer {
             HoudiniAnswer::Found { model, houdini } => {
                 let text = render(alloc, model, houdini)?;
-                Ok(shown(text, status_of(houdini)))
+                Ok(shown(text, houdini_status(houdini)))
             }
             HoudiniAnswer::Fault(fault) => say_model_fault(alloc, first, fault),
         }

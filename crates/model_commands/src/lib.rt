@@ -7,7 +7,7 @@ mod check;
 mod houdini;
 mod sample;
 
-pub use bmc::{Bmc, BmcAnswer};
-pub use check::{Check, CheckAnswer};
-pub use houdini::{Houdini, HoudiniAnswer};
+pub use bmc::{Bmc, BmcAnswer, bounded_status};
+pub use check::{Check, CheckAnswer, verdict_status};
+pub use houdini::{Houdini, HoudiniAnswer, houdini_status};
 pub use sample::{Sample, SampleAnswer, Sampled};

@@ -6,7 +6,7 @@ ghost use Rattle.model_commands.specs.Sample.{IsSampled, IsSampleAnswer, count_l
 ghost use Rattle.command_parts.specs.Faults.{model_fault_due};
 ghost use Rattle.command_parts.specs.ModelTexts.{IsTheModel};
 
-use crate::check::{report_on, status_of};
+use crate::check::{report_on, verdict_status};
 use base::{Mem, Refused, push_number, push_text};
 use command_line::default_asked;
 use command_parts::{read_model, say_model_fault, shown};
@@ -161,7 +161,7 @@ impl Command for Sample {
         match answer {
             SampleAnswer::Sampled(sampled) => {
                 let text = sampled_lines(alloc, self.number, sampled)?;
-                Ok(shown(text, status_of(sampled.report.verdict)))
+                Ok(shown(text, verdict_status(sampled.report.verdict)))
             }
             SampleAnswer::Fault(fault) => say_fault(alloc, self.number, fault),
         }
