@@ -1,0 +1,113 @@
+// What is found, as it is told.
+ghost use Rattle.std.specs.Prelude.{◌≡◌, ◌++◌, OnOk, IfOk};
+ghost use Rattle.std.specs.List.{AllByRecursion, flat_map};
+ghost use Rattle.rml_houdini.specs.HoudiniText.{CanRender};
+ghost use Rattle.told_subset.specs.SubsetText.{count_text, settled_line, unsettled_line, verdict_line, keep_line};
+ghost use Rattle.told_subset.specs.SubsetText.{open_line, subset_text};
+
+use crate::drops::push_drops;
+use base::{Mem, push_number, push_text};
+use rml_command::{Checked, Goal, Names};
+use rml_houdini::Houdini;
+use rml_report::{Cause, push_labelled};
+use std::alloc::Global;
+use told_report::{Branches, push_undecided};
+
+#[tactic(auto, using(std::proofs::Common::append_assoc), unfolding(crate::specs::SubsetText::count_text))]
+fn push_count(out: &mut Vec<u8>, kept: u64, all: u64) -> Mem<()>
+    ensures { OnOk result (out.new.items ≡ out.old.items ++ count_text kept all) }
+{
+    push_text(out, "keeps ")?;
+    push_number(out, kept)?;
+    push_text(out, " of ")?;
+    push_number(out, all)?;
+    push_text(out, " conjectures")?;
+    Ok(())
+}
+
+#[tactic(auto, using(std::proofs::Common::append_assoc), unfolding(crate::specs::SubsetText::settled_line))]
+fn push_settled(out: &mut Vec<u8>, kept: u64, all: u64) -> Mem<()>
+    ensures { OnOk result (out.new.items ≡ out.old.items ++ settled_line kept all) }
+{
+    push_count(out, kept, all)?;
+    push_text(out, ", the greatest inductive set of them\n")?;
+    Ok(())
+}
+
+#[tactic(auto, using(std::proofs::Common::append_assoc), unfolding(crate::specs::SubsetText::unsettled_line))]
+fn push_unsettled(out: &mut Vec<u8>, kept: u64, all: u64) -> Mem<()>
+    ensures { OnOk result (out.new.items ≡ out.old.items ++ unsettled_line kept all) }
+{
+    push_text(out, "undecided: ")?;
+    push_count(out, kept, all)?;
+    push_text(out, "\n")?;
+    Ok(())
+}
+
+fn push_verdict(out: &mut Vec<u8>, kept: u64, all: u64, unsettled: Option<(Goal, Cause)>) -> Mem<()>
+    ensures { OnOk result (out.new.items ≡ out.old.items ++ verdict_line kept all unsettled) }
+{
+    match unsettled {
+        None => push_settled(out, kept, all),
+        Some(_) => push_unsettled(out, kept, all),
+    }
+}
+
+#[tactic(auto, using(std::proofs::Common::append_assoc))]
+fn push_kept(out: &mut Vec<u8>, names: &Names, kept: &[u32]) -> Mem<()>
+    ensures { OnOk result (out.new.items ≡ out.old.items ++ flat_map (keep_line names.now) kept.now) }
+{
+    let mut rest = kept;
+    while let [conjecture, after @ ..] = rest {
+        push_labelled(
+            out,
+            "keeps ",
+            names.conjectures.as_slice(),
+            *conjecture,
+            "\n",
+        )?;
+        rest = after;
+    }
+    Ok(())
+}
+
+fn push_open(out: &mut Vec<u8>, names: &Names, unsettled: Option<(Goal, Cause)>) -> Mem<()>
+    ensures { OnOk result (out.new.items ≡ out.old.items ++ open_line names.now unsettled) }
+{
+    match unsettled {
+        None => Ok(()),
+        Some((goal, cause)) => {
+            push_undecided(out, names, goal.stage, goal.about, goal.path, &cause)
+        }
+    }
+}
+
+/// The text of what is found, for a person: how many conjectures are kept, the drops with the branches that each
+/// execution takes, the conjectures that are kept, and the goal that is left open, if one is.
+#[tactic(auto, using(std::proofs::Common::append_assoc), unfolding(crate::specs::SubsetText::subset_text))]
+pub fn tell<B: Branches>(
+    alloc: Global,
+    checked: &Checked,
+    branches: &B,
+    houdini: &Houdini,
+) -> Mem<Vec<u8>>
+    requires { AllByRecursion (CanRender checked.now) houdini.now.dropped }
+    ensures { IfOk result (λ text. text.items ≡ subset_text checked.now (B.lines branches.now) houdini.now) }
+{
+    let model = checked.model();
+    let kept = houdini.kept.as_slice();
+    let all = model.conjectures().len() as u64;
+    let mut out = Vec::new(alloc);
+    push_verdict(&mut out, kept.len() as u64, all, houdini.unsettled)?;
+    push_drops(
+        alloc,
+        &mut out,
+        checked,
+        branches,
+        houdini.dropped.as_slice(),
+    )?;
+    push_text(&mut out, "\n")?;
+    push_kept(&mut out, model.names(), kept)?;
+    push_open(&mut out, model.names(), houdini.unsettled)?;
+    Ok(out)
+}
