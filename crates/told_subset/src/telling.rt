@@ -44,12 +44,7 @@ fn push_unsettled(out: &mut Vec<u8>, kept: u64, all: u64) -> Mem<()>
     Ok(())
 }
 
-fn push_verdict(
-    out: &mut Vec<u8>,
-    kept: u64,
-    all: u64,
-    unsettled: Option<(Goal, Cause)>,
-) -> Mem<()>
+fn push_verdict(out: &mut Vec<u8>, kept: u64, all: u64, unsettled: Option<(Goal, Cause)>) -> Mem<()>
     ensures { OnOk result (out.new.items ≡ out.old.items ++ verdict_line kept all unsettled) }
 {
     match unsettled {
