@@ -83,7 +83,7 @@ module _ (keep : UpdatesKeepSymbols) (followed : PathHasFollowedOutcomes) (fit :
   can_render (answer.Broken run) shown = can_show run (shown run refl)
 
 pub renderable : UpdatesKeepSymbols → PathHasFollowedOutcomes → GoalPathsFit → BoundedCanBeRendered
-renderable keep followed fit limits m steps b checked is =
+renderable keep followed fit counted limits m steps b checked is =
     all_entries (CanRender m) b.lengths
     (λ k l e. can_render keep followed fit m checked l
     (λ run same. (is.broken k run (subst (λ x. slice_get b.lengths k ≡ Some x) same e)).shown))

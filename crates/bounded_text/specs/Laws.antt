@@ -4,11 +4,12 @@ use Rattle.std.specs.List.{AllByRecursion}
 use Rattle.rml_command.specs.Models.{ModelTree}
 use Rattle.rml_command.specs.Fragment.{IsChecked}
 use Rattle.ea_decide.specs.Passing.{Ceilings}
+use Rattle.lean_decide.specs.declared.settling.Counted.{Counted}
 use Rattle.rml_bmc.specs.Bounds.{IsBounded}
 use Rattle.rml_bmc.specs.declared.answer.Bounded.{Bounded}
 use Rattle.bounded_text.specs.BoundedText.{CanRender}
 
 -- What is answered of bounded runs can be written out.
 abbrev pub BoundedCanBeRendered : Type 0
-BoundedCanBeRendered = (limits : Ceilings) (m : ModelTree) (steps : ℕ) (b : Bounded) → IsChecked m
-    → IsBounded limits m steps b → AllByRecursion (CanRender m) b.lengths
+BoundedCanBeRendered = (counted : Counted) (limits : Ceilings) (m : ModelTree) (steps : ℕ) (b : Bounded)
+    → IsChecked m → IsBounded counted limits m steps b → AllByRecursion (CanRender m) b.lengths

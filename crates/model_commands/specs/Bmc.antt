@@ -1,5 +1,6 @@
 -- `bmc FILE --steps K`: whether some run with at most K actions aborts or breaks a conjecture.
 use Rattle.std.specs.Prelude.{ℕ, List}
+use Rattle.lean_decide.specs.declared.settling.Counted.TheVariants.{Whole}
 use Rattle.rml_bmc.specs.Bounds.{IsBounded}
 use Rattle.rml_bmc.specs.Lengths.{verdict_of}
 use Rattle.rml_bmc.specs.declared.answer.Verdict.{Verdict}
@@ -17,7 +18,7 @@ use Rattle.model_commands.specs.declared.bmc.BmcAnswer.TheVariants.{Answered, Fa
 -- What is so of the runs of the text's one model with at most so many actions, or the text's one fault.
 abbrev pub IsBmcAnswer : Bound → List ℕ → BmcAnswer → Type 0
 IsBmcAnswer bound text (Answered model bounded) =
-    IsTheModel text model × IsBounded (ceilings_of bound.limits) model bound.steps bounded
+    IsTheModel text model × IsBounded Whole (ceilings_of bound.limits) model bound.steps bounded
 IsBmcAnswer bound text (Fault fault) = IsTheFault text fault
 
 -- 0 where each length is safe, 1 where one is broken, else 3

@@ -1,6 +1,7 @@
 // `bmc FILE --steps K`: whether some run with at most K actions aborts or breaks a conjecture.
 ghost use Rattle.std.specs.Prelude.{◌≡◌, ◌≤◌, IfOk};
 ghost use Rattle.command_line.specs.Asking.{IsInRange};
+ghost use Rattle.lean_decide.specs.declared.settling.Counted.TheVariants.{Whole};
 ghost use Rattle.rml_bmc.specs.Bounds.{IsBounded};
 ghost use Rattle.command_parts.specs.Limits.{ceilings_of};
 ghost use Rattle.model_commands.specs.Bmc.{IsBmcAnswer, bmc_due, bounded_status};
@@ -10,6 +11,8 @@ use bounded_text::render;
 use command_line::Bound;
 use command_parts::{limits_of, read_model, say_model_fault, shown};
 use commands::{Command, Said};
+use lean_decide::Counted;
+use progress::Silent;
 use rml_bmc::{Bounded, Verdict, bounded, verdict_for};
 use rml_command::Checked;
 use rml_lex::Fault;
@@ -36,10 +39,17 @@ pub enum BmcAnswer {
 fn bounded_on(alloc: Global, model: &Checked, bound: Bound) -> Mem<Bounded>
     requires steps { bound.steps ≤ 12 }
     requires limits { IsInRange bound.limits }
-    ensures { IfOk result (IsBounded (ceilings_of bound.limits) model.now bound.steps) }
+    ensures { IfOk result (IsBounded Whole (ceilings_of bound.limits) model.now bound.steps) }
 {
     let limits = limits_of(bound.limits);
-    let answer = bounded(alloc, model, bound.steps as u32, &limits)?;
+    let answer = bounded(
+        alloc,
+        model,
+        bound.steps as u32,
+        Counted::Whole,
+        &limits,
+        &mut Silent,
+    )?;
     Ok(answer)
 }
 

@@ -9,6 +9,7 @@ use base::{Mem, Refused};
 use command_line::Asked;
 use command_parts::{limits_of, read_model, say_model_fault, shown};
 use commands::{Command, Said};
+use progress::Silent;
 use rml_command::Checked;
 use rml_lex::Fault;
 use rml_report::{Report, Verdict, render};
@@ -41,7 +42,7 @@ pub fn report_on(alloc: Global, model: &Checked, asked: Asked) -> Mem<Report>
     // That the model is in the fragment is known where it is looked at.
     let _model = model.model();
     let limits = limits_of(asked);
-    let report = report(alloc, model, &limits)?;
+    let report = report(alloc, model, &limits, &mut Silent)?;
     Ok(report)
 }
 

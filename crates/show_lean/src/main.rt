@@ -13,6 +13,7 @@ use base::Mem;
 use call_files::status_of;
 use call_models::{ModelCall, limits_with, tell};
 use lrat_log::Limits;
+use progress::Silent;
 use rml_command::Checked;
 use std::alloc::Global;
 use std::process::ExitCode;
@@ -20,14 +21,14 @@ use telling::told;
 use verdicts::{lean_report, report};
 
 fn whole_told(alloc: Global, model: &Checked, limits: &Limits) -> Mem<String> {
-    let report = report(alloc, model, limits)?;
+    let report = report(alloc, model, limits, &mut Silent)?;
     let told = told(alloc, &report);
     drop(report);
     told
 }
 
 fn lean_told(alloc: Global, model: &Checked, limits: &Limits) -> Mem<String> {
-    let report = lean_report(alloc, model, limits)?;
+    let report = lean_report(alloc, model, limits, &mut Silent)?;
     let told = told(alloc, &report);
     drop(report);
     told

@@ -10,7 +10,9 @@ use crate::Seen;
 use base::Mem;
 use fol_eval::{Env, holds};
 use fol_sig::Structure;
+use lean_decide::Counted;
 use lrat_log::Limits;
+use progress::Silent;
 use rml_bmc::{Bounded, Length, Part, Run, bounded};
 use rml_command::{About, Checked, Path, Stage, goal_law};
 use rml_exec::{Followed, follow};
@@ -137,7 +139,7 @@ fn count_runs(alloc: Global, checked: &Checked, bounded: &Bounded, seen: Seen) -
 
 /// Adds what is seen of the runs of a model with up to two actions.
 pub fn follow_runs(alloc: Global, checked: &Checked, limits: &Limits, seen: Seen) -> Mem<Seen> {
-    let bounded = bounded(alloc, checked, 2, limits)?;
+    let bounded = bounded(alloc, checked, 2, Counted::Whole, limits, &mut Silent)?;
     let found = count_runs(alloc, checked, &bounded, seen);
     drop(bounded);
     found
