@@ -79,7 +79,7 @@ assert_found fails passes n k h = elim (cases_lt k 1) as
     (cond (nat_lt (k - 1) n) (found (passes ∷ []) (Some (k - 1))) (found [] None))) [
       | inl first ↦
           ap (λ t. cond t (found (fails ∷ []) None) (found (passes ∷ []) (Some (k - 1))))
-        (eq-eqb k 0 (omega (arith, first)))
+          (eq-eqb k 0 (omega (arith, first)))
           ∙ sym (cond_below k 1 _ _ first)
       | inr later ↦
           ap (λ t. cond t (found (fails ∷ []) None) (found (passes ∷ []) (Some (k - 1))))

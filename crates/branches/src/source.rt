@@ -14,6 +14,7 @@ use std::alloc::Global;
 use std::marker::Model;
 
 /// A text and its tree, which stands within the text and has no fault of names and sorts.
+#[derive(Drop)]
 pub struct Source<'a> {
     alloc: Global,
     text: &'a [u8],

@@ -55,9 +55,10 @@ module _ (alike : EndsAreAlike) (m : ModelTree) where
   all_told : (ls : List Length) → ((k : ℕ) (run : Run) → slice_get ls k ≡ Some (answer.Broken run) → ShowsBreak m run)
       → AllByRecursion (plain.CanRender m) ls → AllByRecursion (CanTell m) ls
   all_told [] each can = tt
-  all_told (l ∷ ls) each can =
-      (can_tell l (λ run is. each zero run (ap (λ x. Some x) is)) can.0,
-      all_told ls (λ k run is. each (suc k) run is) can.1)
+  all_told (l ∷ ls) each can = (
+    can_tell l (λ run is. each zero run (ap (λ x. Some x) is)) can.0,
+    all_told ls (λ k run is. each (suc k) run is) can.1,
+  )
 
 pub told : BoundedCanBeRendered → EndsAreAlike → BoundedCanBeTold
 told rendered alike counted limits m steps b checked bounded =
