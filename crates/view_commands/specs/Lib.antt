@@ -1,4 +1,5 @@
 pub mod Views
+pub mod Sources
 pub mod WayData
 pub mod Check
 pub mod Houdini

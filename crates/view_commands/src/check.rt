@@ -7,6 +7,7 @@ ghost use Rattle.command_parts.specs.ModelTexts.{IsTheModel};
 ghost use Rattle.model_commands.specs.Check.{IsCheckAnswerBy, IsCheckedBy, verdict_status};
 ghost use Rattle.told_fault.specs.Readings.{IsReading};
 ghost use Rattle.view_commands.specs.Views.{IsViewed, source_of, ways_at};
+ghost use Rattle.view_commands.specs.Sources.{source_by};
 ghost use Rattle.view_commands.specs.Check.{checked_line, checked_text, check_view};
 
 use crate::faults::{line_of, say_fault};
@@ -43,7 +44,7 @@ fn checked_line(
     report: &Report,
 ) -> Mem<Vec<u8>>
     requires { AllByRecursion (CanRender model.now) report.now.groups }
-    ensures { IfOk result (λ out. out.items ≡ checked_line file.now ways.now model.now report.now) }
+    ensures { IfOk result (λ out. out.items ≡ checked_line file.now (source_by ways.now) model.now report.now) }
 {
     let branches = group_ways(alloc, ways, report.groups.as_slice())?;
     let object = report_object(alloc, model, report, &branches)?;

@@ -7,6 +7,7 @@ ghost use Rattle.command_parts.specs.ModelTexts.{IsTheModel};
 ghost use Rattle.model_commands.specs.Houdini.{IsHoudiniAnswerBy};
 ghost use Rattle.told_fault.specs.Readings.{IsReading};
 ghost use Rattle.view_commands.specs.Views.{IsViewed, source_of, ways_at};
+ghost use Rattle.view_commands.specs.Sources.{source_by};
 ghost use Rattle.view_commands.specs.Houdini.{found_line, found_text, houdini_view};
 
 use crate::faults::{line_of, say_fault};
@@ -42,7 +43,7 @@ fn found_line(
     found: &rml_houdini::Houdini,
 ) -> Mem<Vec<u8>>
     requires { AllByRecursion (CanRender model.now) found.now.dropped }
-    ensures { IfOk result (λ out. out.items ≡ found_line file.now ways.now model.now found.now) }
+    ensures { IfOk result (λ out. out.items ≡ found_line file.now (source_by ways.now) model.now found.now) }
 {
     let branches = drop_ways(alloc, ways, found.dropped.as_slice())?;
     let object = houdini_object(alloc, model, found, &branches)?;

@@ -2,6 +2,7 @@
 ghost use Rattle.std.specs.Prelude.{◌≡◌, ◌≤◌, ◌++◌, length, map, IfOk, OnOk};
 ghost use Rattle.branches.specs.Within.{MarksWithin};
 ghost use Rattle.json_values.specs.Values.{set_each};
+ghost use Rattle.view_commands.specs.Sources.{source_by};
 ghost use Rattle.view_commands.specs.WayData.{turn_members, mark_data, ways_data, answer_ways, group_ways, drop_ways};
 
 use crate::ways::Ways;
@@ -83,7 +84,7 @@ pub fn marks_list(alloc: Global, text: &[u8], marks: &[Mark]) -> Mem<JsonList>
 
 // Of a group that fails.
 fn answer_ways(ways: &Ways, stage: Stage, answer: &Answer) -> Mem<Json>
-    ensures { IfOk result (λ j. j ≡ answer_ways ways.now stage answer.now) }
+    ensures { IfOk result (λ j. j ≡ answer_ways (source_by ways.now) stage answer.now) }
 {
     match answer {
         Answer::Fails { shown, .. } => ways.value(stage, shown.trace.path),
@@ -94,7 +95,7 @@ fn answer_ways(ways: &Ways, stage: Stage, answer: &Answer) -> Mem<Json>
 /// Those of the groups of a report.
 #[tactic(auto, using(std::proofs::Common::append_assoc))]
 pub fn group_ways(alloc: Global, ways: &Ways, groups: &[Group]) -> Mem<Vec<Json>>
-    ensures { IfOk result (λ l. l.items ≡ group_ways ways.now groups.now) }
+    ensures { IfOk result (λ l. l.items ≡ group_ways (source_by ways.now) groups.now) }
 {
     let mut list = Vec::new(alloc);
     let mut rest = groups;
@@ -108,7 +109,7 @@ pub fn group_ways(alloc: Global, ways: &Ways, groups: &[Group]) -> Mem<Vec<Json>
 /// Those of the executions that drop conjectures.
 #[tactic(auto, using(std::proofs::Common::append_assoc))]
 pub fn drop_ways(alloc: Global, ways: &Ways, drops: &[Dropped]) -> Mem<Vec<Json>>
-    ensures { IfOk result (λ l. l.items ≡ drop_ways ways.now drops.now) }
+    ensures { IfOk result (λ l. l.items ≡ drop_ways (source_by ways.now) drops.now) }
 {
     let mut list = Vec::new(alloc);
     let mut rest = drops;

@@ -2,7 +2,8 @@
 ghost use Rattle.std.specs.Prelude.{◌≡◌, ◌++◌, IfOk, OnOk};
 ghost use Rattle.command_parts.specs.ModelTexts.{IsTheModel};
 ghost use Rattle.told_fault.specs.Readings.{IsReading};
-ghost use Rattle.view_commands.specs.Views.{source_of, ways_at};
+ghost use Rattle.view_commands.specs.Views.{IsSource, source_in, source_of, ways_at};
+ghost use Rattle.view_commands.specs.Sources.{source_by};
 ghost use Rattle.view_commands.specs.WayData.{ways_data};
 
 use crate::json_ways::marks_list;
@@ -12,31 +13,20 @@ use json_values::{Json, JsonList};
 use rml_command::{Checked, Stage};
 use rml_syntax::Tree;
 use std::alloc::Global;
-use std::marker::Model;
 use told_fault::Reading;
 use told_report::Branches;
 
-/// The source of a model, where it is known.
+/// The source of a model, where it is known. Its tree has no fault of names and sorts.
 #[derive(Drop)]
 pub struct Ways<'a> {
     alloc: Global,
     text: &'a [u8],
     tree: Option<&'a Tree>,
-}
-
-impl<'a> Model for Ways<'a> {
-    ghost use Rattle.std.specs.Prelude.{Option};
-    ghost use Rattle.view_commands.specs.Views.{SourceTree, source_in, IsSource};
-
-    ghost Value = { Option SourceTree };
-
-    ghost view = { λ w. source_in w.text.now w.tree };
-
-    ghost invariant = { λ w. IsSource (source_in w.text.now w.tree) };
+    ghost known: { IsSource (source_in text.now tree) },
 }
 
 impl<'a> Branches for Ways<'a> {
-    ghost lines = { λ w stage path. ways_at w stage path };
+    ghost lines = { λ w stage path. ways_at (source_by w) stage path };
 
     fn push_lines(&self, out: &mut Vec<u8>, stage: Stage, path: u32) -> Mem<()> {
         match self.tree {
@@ -53,7 +43,7 @@ impl<'a> Branches for Ways<'a> {
 impl<'a> Ways<'a> {
     /// The branches that a path of a stage's block takes, as JSON.
     pub fn value(&self, stage: Stage, path: u32) -> Mem<Json>
-        ensures { IfOk result (λ j. j ≡ ways_data self.now stage path) }
+        ensures { IfOk result (λ j. j ≡ ways_data (source_by self.now) stage path) }
     {
         match self.tree {
             None => Ok(JsonList::new(self.alloc).into_json()),
@@ -70,7 +60,7 @@ impl<'a> Ways<'a> {
 pub fn ways<'a>(alloc: Global, text: &'a [u8], reading: &'a Reading, model: &Checked) -> Ways<'a>
     requires reading { IsReading text.now reading.now }
     requires model { IsTheModel text.now model.now }
-    ensures { result ≡ source_of text.now reading.now }
+    ensures { source_by result ≡ source_of text.now reading.now }
 {
     rml_lex::one_reading();
     rml_syntax::one_tree_or_fault();
