@@ -7,7 +7,7 @@ use Rattle.command_parts.specs.Limits.{ceilings_of}
 use Rattle.model_commands.proofs.check.report_on.Goals as goal
 
 pub returns : goal.returns
-returns c =
+returns g c =
     let m = c.args.model.now in
     let report = c.in_ok-report.report in
     let limits = ceilings_of c.args.asked in
