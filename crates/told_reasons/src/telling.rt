@@ -1,7 +1,7 @@
 // The lines of the groups, and of the conjectures that carry no other.
 ghost use Rattle.std.specs.Prelude.{◌≡◌, ◌++◌, OnOk, IfOk};
 ghost use Rattle.std.specs.List.{flat_map};
-ghost use Rattle.told_reasons.specs.ReasonsText.{listed_text, needs_text, lack_text, carried_text, reason_line};
+ghost use Rattle.told_reasons.specs.ReasonsText.{needs_text, lack_text, carried_text, reason_line};
 ghost use Rattle.told_reasons.specs.ReasonsText.{idle_line, reasons_text, more_names, more_needs, open_text};
 
 use base::{Mem, push_number, push_text};

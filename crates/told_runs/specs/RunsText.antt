@@ -72,8 +72,11 @@ broken_text m lines k answer.Safe = []
 broken_text m lines k (answer.Undecided c) = []
 broken_text m lines k (answer.Broken run) = run_text m lines k run
 
+unfoldable pub paths_words : ℕ → List ℕ
+paths_words n = codes "they have " ++ decimal n ++ codes " paths, more than are followed"
+
 abbrev pub bound_words : BoundCause → List ℕ
-bound_words (cause.Paths n) = codes "they have " ++ decimal n ++ codes " paths, more than are followed"
+bound_words (cause.Paths n) = paths_words n
 bound_words (cause.Goal place c) = cause_words c
 
 unfoldable pub open_line : ℕ → BoundCause → List ℕ

@@ -1,7 +1,7 @@
 // The lengths in order, and the verdict.
 ghost use Rattle.std.specs.Prelude.{◌≡◌, ◌-◌, ◌++◌, length, OnOk, IfOk};
 ghost use Rattle.std.specs.List.{AllByRecursion};
-ghost use Rattle.told_runs.specs.RunsText.{broken_text, bound_words, open_line, open_text, all_broken, all_open};
+ghost use Rattle.told_runs.specs.RunsText.{broken_text, paths_words, bound_words, open_line, open_text, all_broken, all_open};
 ghost use Rattle.told_runs.specs.RunsText.{set_off, safe_line, verdict_line, runs_text, CanTell};
 
 use crate::showing::{push_actions, push_run};
@@ -11,9 +11,9 @@ use rml_command::Checked;
 use std::alloc::Global;
 use told_report::{Branches, push_cause_words};
 
-#[tactic(auto, using(std::proofs::Common::append_assoc))]
+#[tactic(auto, using(std::proofs::Common::append_assoc), unfolding(crate::specs::RunsText::paths_words))]
 fn push_paths(out: &mut Vec<u8>, count: u64) -> Mem<()>
-    ensures { OnOk result (out.new.items ≡ out.old.items ++ bound_words (BoundCause.Paths count)) }
+    ensures { OnOk result (out.new.items ≡ out.old.items ++ paths_words count) }
 {
     push_text(out, "they have ")?;
     push_number(out, count)?;

@@ -53,7 +53,10 @@ fn push_until(
 {
     match end {
         None => Ok(()),
-        Some(end) => push_changes(alloc, out, checked.model(), begin, end),
+        Some(end) => {
+            push_changes(alloc, out, checked.model(), begin, end)?;
+            Ok(())
+        }
     }
 }
 
