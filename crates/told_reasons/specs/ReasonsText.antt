@@ -16,12 +16,15 @@ use Rattle.told_report.specs.CauseWords.{cause_words}
 use Rattle.model_reasons.specs.declared.reason.Reason.{Reason}
 use Rattle.model_reasons.specs.Idle.{idle_conjectures}
 
--- names of conjectures, each behind a comma
+-- the name of a conjecture, behind a comma
+unfoldable pub next_name : List (List ℕ) → ℕ → List ℕ
+next_name names k = codes ", " ++ name_at names k
+
 abbrev pub more_needs : List (List ℕ) → List Need → List ℕ
-more_needs names needs = flat_map (λ n. codes ", " ++ name_at names n.conjecture) needs
+more_needs names needs = flat_map (λ n. next_name names n.conjecture) needs
 
 abbrev pub more_names : List (List ℕ) → List ℕ → List ℕ
-more_names names ks = flat_map (λ k. codes ", " ++ name_at names k) ks
+more_names names ks = flat_map (λ k. next_name names k) ks
 
 -- linked_down, unique
 abbrev pub needs_text : List (List ℕ) → List Need → List ℕ

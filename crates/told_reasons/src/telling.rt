@@ -1,7 +1,7 @@
 // The lines of the groups, and of the conjectures that carry no other.
 ghost use Rattle.std.specs.Prelude.{◌≡◌, ◌++◌, OnOk, IfOk};
 ghost use Rattle.std.specs.List.{flat_map};
-ghost use Rattle.told_reasons.specs.ReasonsText.{needs_text, lack_text, carried_text, reason_line};
+ghost use Rattle.told_reasons.specs.ReasonsText.{next_name, needs_text, lack_text, carried_text, reason_line};
 ghost use Rattle.told_reasons.specs.ReasonsText.{idle_line, reasons_text, more_names, more_needs, open_text};
 
 use base::{Mem, push_number, push_text};
@@ -12,14 +12,24 @@ use rml_report::{Cause, push_head, push_name};
 use std::alloc::Global;
 use told_report::push_cause_words;
 
-// Each name behind a comma.
+// A name behind a comma.
+#[tactic(auto, using(std::proofs::Common::append_assoc), unfolding(crate::specs::ReasonsText::next_name))]
+fn push_next(out: &mut Vec<u8>, names: &[Name], conjecture: u32) -> Mem<()>
+    ensures { OnOk result (out.new.items ≡ out.old.items ++ next_name names.now conjecture) }
+{
+    push_text(out, ", ")?;
+    push_name(out, names, conjecture)?;
+    Ok(())
+}
+
 #[tactic(auto, using(std::proofs::Common::append_assoc))]
 fn push_more_needs(out: &mut Vec<u8>, names: &[Name], needs: &[Need]) -> Mem<()>
     ensures { OnOk result (out.new.items ≡ out.old.items ++ more_needs names.now needs.now) }
 {
-    for need in needs {
-        push_text(out, ", ")?;
-        push_name(out, names, need.conjecture)?;
+    let mut rest = needs;
+    while let [need, after @ ..] = rest {
+        push_next(out, names, need.conjecture)?;
+        rest = after;
     }
     Ok(())
 }
@@ -87,8 +97,10 @@ fn push_reason(out: &mut Vec<u8>, names: &Names, reason: &Reason) -> Mem<()>
 fn push_reasons(out: &mut Vec<u8>, names: &Names, reasons: &[Reason]) -> Mem<()>
     ensures { OnOk result (out.new.items ≡ out.old.items ++ flat_map (reason_line names.now) reasons.now) }
 {
-    for reason in reasons {
+    let mut rest = reasons;
+    while let [reason, after @ ..] = rest {
         push_reason(out, names, reason)?;
+        rest = after;
     }
     Ok(())
 }
@@ -97,9 +109,10 @@ fn push_reasons(out: &mut Vec<u8>, names: &Names, reasons: &[Reason]) -> Mem<()>
 fn push_more_names(out: &mut Vec<u8>, names: &[Name], conjectures: &[u32]) -> Mem<()>
     ensures { OnOk result (out.new.items ≡ out.old.items ++ more_names names.now conjectures.now) }
 {
-    for conjecture in conjectures {
-        push_text(out, ", ")?;
-        push_name(out, names, *conjecture)?;
+    let mut rest = conjectures;
+    while let [conjecture, after @ ..] = rest {
+        push_next(out, names, *conjecture)?;
+        rest = after;
     }
     Ok(())
 }
