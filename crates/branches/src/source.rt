@@ -1,11 +1,14 @@
 // The source of a model, as what tells the ways of its paths.
-ghost use Rattle.std.specs.Prelude.{◌≡◌, ◌++◌, length, None, OnOk};
+ghost use Rattle.std.specs.Prelude.{◌≡◌, ◌++◌, length, None, IfOk, OnOk};
 ghost use Rattle.rml_syntax.specs.Tree.{file_tree};
 ghost use Rattle.rml_syntax.specs.Within.{TreeWithin};
 ghost use Rattle.rml_sorts.specs.Items.{fault_of};
+ghost use Rattle.branches.specs.Stages.{marks_of};
+ghost use Rattle.branches.specs.Within.{MarksWithin};
 ghost use Rattle.branches.specs.MarkText.{branch_lines};
 
 use crate::lines::push_marks;
+use crate::mark::Mark;
 use crate::marked::marks_of;
 use base::Mem;
 use rml_command::Stage;
@@ -48,6 +51,23 @@ impl<'a> Source<'a> {
         ensures { result ≡ record { text = text.now; tree = tree.now } }
     {
         Source { alloc, text, tree }
+    }
+
+    /// The text.
+    pub fn text(&self) -> &[u8]
+        ensures { result.now ≡ self.now.text }
+    {
+        self.text
+    }
+
+    /// The marks of a path of a stage's block, by its number from 1; none where there is no such path.
+    pub fn marks(&self, stage: Stage, path: u32) -> Mem<Vec<Mark>>
+        ensures marks { IfOk result (λ marks.
+            marks.items ≡ marks_of self.now.text (file_tree self.now.tree) stage path) }
+        ensures within { IfOk result (λ marks. MarksWithin (length self.now.text) marks.items) }
+    {
+        let marks = marks_of(self.alloc, self.tree, stage, path)?;
+        Ok(marks)
     }
 
     /// Adds a line for each `if`, `choose` and `assert` on a path of a stage's block, by its number from 1: where it

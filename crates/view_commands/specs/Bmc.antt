@@ -6,6 +6,7 @@ use Rattle.rml_bmc.specs.Lengths.{verdict_of}
 use Rattle.rml_bmc.specs.declared.answer.Length.{Length}
 use Rattle.rml_bmc.specs.declared.answer.Length.TheVariants as length
 use Rattle.rml_bmc.specs.declared.answer.Bounded.{Bounded}
+use Rattle.branches.specs.Sources.{TextAndTree}
 use Rattle.told_fault.specs.declared.reading.Reading.{Reading}
 use Rattle.told_runs.specs.RunsText.{runs_text}
 use Rattle.dot_answers.specs.AnswerGraphs.{run_graphs}
@@ -18,7 +19,7 @@ use Rattle.model_commands.specs.declared.bmc.BmcAnswer.TheVariants.{Answered, Fa
 use Rattle.view_line.specs.declared.options.Form.{Form}
 use Rattle.view_line.specs.declared.options.Form.TheVariants.{Told, Dot, Json}
 use Rattle.view_commands.specs.declared.viewed.Viewed.{Viewed}
-use Rattle.view_commands.specs.Views.{SourceTree, source_of, ways_at, line_of, fault_view}
+use Rattle.view_commands.specs.Views.{source_of, ways_at, line_of, fault_view}
 
 -- the states of a run that goes wrong
 abbrev pub length_graphs : ModelTree → Length → List ℕ
@@ -30,7 +31,7 @@ unfoldable pub bounded_line : List ℕ → ModelTree → Bounded → List ℕ
 bounded_line file m b = line_of file (bounded_members m b)
 
 -- a text, pictures, or a JSON value
-abbrev pub bounded_view : Form → List ℕ → Option SourceTree → ModelTree → Bounded → List ℕ
+abbrev pub bounded_view : Form → List ℕ → Option TextAndTree → ModelTree → Bounded → List ℕ
 bounded_view Told file source m b = runs_text m (ways_at source) b
 bounded_view Dot file source m b = flat_map (length_graphs m) b.lengths
 bounded_view Json file source m b = bounded_line file m b

@@ -2,6 +2,7 @@
 use Rattle.std.specs.Prelude.{ℕ, List, Option, codes}
 use Rattle.rml_command.specs.Models.{ModelTree}
 use Rattle.rml_houdini.specs.declared.houdini.Houdini.{Houdini}
+use Rattle.branches.specs.Sources.{TextAndTree}
 use Rattle.told_fault.specs.declared.reading.Reading.{Reading}
 use Rattle.told_subset.specs.SubsetText.{subset_text}
 use Rattle.dot_answers.specs.AnswerGraphs.{drop_graphs}
@@ -14,14 +15,14 @@ use Rattle.model_commands.specs.declared.houdini.HoudiniAnswer.TheVariants.{Foun
 use Rattle.view_line.specs.declared.options.Form.{Form}
 use Rattle.view_line.specs.declared.options.Form.TheVariants.{Told, Dot, Json}
 use Rattle.view_commands.specs.declared.viewed.Viewed.{Viewed}
-use Rattle.view_commands.specs.Views.{SourceTree, source_of, ways_at, line_of, fault_view}
+use Rattle.view_commands.specs.Views.{source_of, ways_at, line_of, fault_view}
 use Rattle.view_commands.specs.WayData.{drop_ways}
 
-unfoldable pub found_line : List ℕ → Option SourceTree → ModelTree → Houdini → List ℕ
+unfoldable pub found_line : List ℕ → Option TextAndTree → ModelTree → Houdini → List ℕ
 found_line file source m h = line_of file (houdini_members m h (drop_ways source h.dropped))
 
 -- a text, pictures, or a JSON value
-abbrev pub found_text : Form → List ℕ → Option SourceTree → ModelTree → Houdini → List ℕ
+abbrev pub found_text : Form → List ℕ → Option TextAndTree → ModelTree → Houdini → List ℕ
 found_text Told file source m h = subset_text m (ways_at source) h
 found_text Dot file source m h = drop_graphs 1 m h.dropped
 found_text Json file source m h = found_line file source m h

@@ -1,5 +1,4 @@
 pub mod Views
-pub mod Sources
 pub mod WayData
 pub mod Check
 pub mod Houdini

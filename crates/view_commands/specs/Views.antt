@@ -1,13 +1,10 @@
 -- What all questions share: an answer with the text as far as it can be read, the branches of a path, and faults.
-use Rattle.std.specs.Prelude.{◌≡◌, ℕ, List, [], length, Option, Some, None, codes}
-use Rattle.std.specs.Borrow.{Bor}
+use Rattle.std.specs.Prelude.{ℕ, List, [], Option, Some, None, codes}
 use Rattle.serde_json.specs.Data.{Members, object, string}
 use Rattle.rml_lex.specs.declared.token.Fault.{Fault}
-use Rattle.rml_syntax.specs.Tree.{ItemTree, file_tree}
-use Rattle.rml_syntax.specs.Within.{TreeWithin}
-use Rattle.rml_syntax.specs.declared.tree.Tree.{Tree}
-use Rattle.rml_sorts.specs.Items.{fault_of}
+use Rattle.rml_syntax.specs.Tree.{file_tree}
 use Rattle.rml_command.specs.declared.goal.Stage.{Stage}
+use Rattle.branches.specs.Sources.{TextAndTree}
 use Rattle.branches.specs.MarkText.{branch_lines}
 use Rattle.json_values.specs.Values.{with_member, line_text}
 use Rattle.json_report.specs.FaultData.{faulty_members}
@@ -24,31 +21,17 @@ use Rattle.view_commands.specs.declared.viewed.Viewed.{Viewed}
 abbrev pub IsViewed : {A : Type 0} → (A → Type 0) → List ℕ → Viewed A → Type 0
 IsViewed P text v = P v.answer × IsReading text v.reading
 
--- a text and its tree
-pub record SourceTree : Type 0 where
-  pub text : List ℕ
-  pub items : List ItemTree
-
--- the tree stands within its text, and has no fault of names and sorts there
-abbrev pub IsSource : Option SourceTree → Type 0
-IsSource None = Unit {0}
-IsSource (Some s) = TreeWithin (length s.text) s.items × (fault_of s.text s.items ≡ None)
-
-abbrev pub source_in : List ℕ → Option (Bor Tree) → Option SourceTree
-source_in text None = None
-source_in text (Some tree) = Some (record { text = text; items = file_tree tree.now })
-
 -- the source of a text that has a tree
-abbrev pub source_of : List ℕ → Reading → Option SourceTree
+abbrev pub source_of : List ℕ → Reading → Option TextAndTree
 source_of text (NoTokens hint) = None
 source_of text (Unexpected kinds hint) = None
 source_of text TooDeep = None
-source_of text (Parsed tree) = Some (record { text = text; items = file_tree tree })
+source_of text (Parsed tree) = Some (record { text = text; tree = tree })
 
 -- the lines of the branches that a path takes
-abbrev pub ways_at : Option SourceTree → Stage → ℕ → List ℕ
+abbrev pub ways_at : Option TextAndTree → Stage → ℕ → List ℕ
 ways_at None s path = []
-ways_at (Some source) s path = branch_lines source.text source.items s path
+ways_at (Some source) s path = branch_lines source.text (file_tree source.tree) s path
 
 -- the line of a JSON value with the name of the file
 unfoldable pub line_of : List ℕ → Members → List ℕ

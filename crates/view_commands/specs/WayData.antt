@@ -7,7 +7,8 @@ use Rattle.rml_report.specs.declared.report.Answer.{Answer}
 use Rattle.rml_report.specs.declared.report.Answer.TheVariants as answer
 use Rattle.rml_report.specs.declared.report.Group.{Group}
 use Rattle.rml_houdini.specs.declared.houdini.Dropped.{Dropped}
-use Rattle.view_commands.specs.Views.{SourceTree}
+use Rattle.rml_syntax.specs.Tree.{file_tree}
+use Rattle.branches.specs.Sources.{TextAndTree}
 use Rattle.branches.specs.Stages.{marks_of}
 use Rattle.branches.specs.declared.mark.Mark.{Mark}
 use Rattle.branches.specs.declared.mark.Turn.{Turn}
@@ -31,19 +32,19 @@ mark_data text k =
     ∷ turn_members k.turn)
 
 -- those of a path of a stage's block; none where no source is known
-abbrev pub ways_data : Option SourceTree → Stage → ℕ → Data
+abbrev pub ways_data : Option TextAndTree → Stage → ℕ → Data
 ways_data None s path = list_data []
-ways_data (Some source) s path = list_data (map (mark_data source.text) (marks_of source.text source.items s path))
+ways_data (Some source) s path = list_data (map (mark_data source.text) (marks_of source.text (file_tree source.tree) s path))
 
 -- of a group that fails
-abbrev pub answer_ways : Option SourceTree → Stage → Answer → Data
+abbrev pub answer_ways : Option TextAndTree → Stage → Answer → Data
 answer_ways source s answer.Holds = null
 answer_ways source s (answer.Fails paths least shown) = ways_data source s shown.trace.path
 answer_ways source s (answer.Undecided path cause) = null
 
-abbrev pub group_ways : Option SourceTree → List Group → List Data
+abbrev pub group_ways : Option TextAndTree → List Group → List Data
 group_ways source groups = map (λ g. answer_ways source g.stage g.answer) groups
 
 -- of the execution that drops a conjecture
-abbrev pub drop_ways : Option SourceTree → List Dropped → List Data
+abbrev pub drop_ways : Option TextAndTree → List Dropped → List Data
 drop_ways source drops = map (λ d. ways_data source d.shown.goal.stage d.shown.trace.path) drops

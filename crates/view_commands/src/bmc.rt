@@ -11,7 +11,7 @@ ghost use Rattle.view_commands.specs.Bmc.{length_graphs, bounded_line, bounded_v
 
 use crate::faults::{line_of, say_fault};
 use crate::viewed::Viewed;
-use crate::ways::ways;
+use crate::ways::ways_of;
 use base::Mem;
 use command_parts::shown;
 use commands::{Command, Said};
@@ -55,13 +55,16 @@ fn lengths_graphs(alloc: Global, model: &Checked, lengths: &[Length]) -> Mem<Vec
     ensures { IfOk result (λ out. out.items ≡ flat_map (length_graphs model.now) lengths.now) }
 {
     let mut out = Vec::new(alloc);
-    for length in lengths {
+    let mut rest = lengths;
+    while let [length, after @ ..] = rest {
         push_length(alloc, &mut out, model, length)?;
+        rest = after;
     }
     Ok(out)
 }
 
 // The lengths as a JSON value.
+#[tactic(auto, unfolding(crate::specs::Bmc::bounded_line))]
 fn bounded_line(alloc: Global, file: &str, model: &Checked, bounded: &Bounded) -> Mem<Vec<u8>>
     requires { AllByRecursion (CanRender model.now) bounded.now.lengths }
     ensures { IfOk result (λ out. out.items ≡ bounded_line file.now model.now bounded.now) }
@@ -88,7 +91,7 @@ fn bounded_view(
     ensures { IfOk result (λ out. out.items
         ≡ bounded_view form file.now (source_of text.now reading.now) model.now bounded.now) }
 {
-    let ways = ways(alloc, text, reading, model);
+    let ways = ways_of(alloc, text, reading, model);
     match form {
         Form::Told => told_runs::tell(alloc, model, &ways, bounded),
         Form::Dot => lengths_graphs(alloc, model, bounded.lengths.as_slice()),

@@ -7,13 +7,12 @@ ghost use Rattle.command_parts.specs.ModelTexts.{IsTheModel};
 ghost use Rattle.model_commands.specs.Check.{IsCheckAnswerBy, IsCheckedBy, verdict_status};
 ghost use Rattle.told_fault.specs.Readings.{IsReading};
 ghost use Rattle.view_commands.specs.Views.{IsViewed, source_of, ways_at};
-ghost use Rattle.view_commands.specs.Sources.{source_by};
 ghost use Rattle.view_commands.specs.Check.{checked_line, checked_text, check_view};
 
 use crate::faults::{line_of, say_fault};
 use crate::json_ways::group_ways;
 use crate::viewed::Viewed;
-use crate::ways::{Ways, ways};
+use crate::ways::{Ways, ways_of};
 use base::Mem;
 use command_parts::shown;
 use commands::{Command, Said};
@@ -36,6 +35,7 @@ pub struct ViewCheck<'a> {
 }
 
 // The report as a JSON value.
+#[tactic(auto, unfolding(crate::specs::Check::checked_line))]
 fn checked_line(
     alloc: Global,
     file: &str,
@@ -44,7 +44,7 @@ fn checked_line(
     report: &Report,
 ) -> Mem<Vec<u8>>
     requires { AllByRecursion (CanRender model.now) report.now.groups }
-    ensures { IfOk result (λ out. out.items ≡ checked_line file.now (source_by ways.now) model.now report.now) }
+    ensures { IfOk result (λ out. out.items ≡ checked_line file.now ways.now.source model.now report.now) }
 {
     let branches = group_ways(alloc, ways, report.groups.as_slice())?;
     let object = report_object(alloc, model, report, &branches)?;
@@ -68,7 +68,7 @@ fn checked_text(
     ensures { IfOk result (λ out. out.items
         ≡ checked_text form file.now (source_of text.now reading.now) model.now report.now) }
 {
-    let ways = ways(alloc, text, reading, model);
+    let ways = ways_of(alloc, text, reading, model);
     match form {
         Form::Told => told_report::tell(alloc, model, &ways, report),
         Form::Dot => report_graphs(alloc, model, report.groups.as_slice()),

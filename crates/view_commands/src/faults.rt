@@ -15,7 +15,7 @@ use view_line::Form;
 /// The line of a JSON value with the name of the file.
 #[tactic(auto, unfolding(crate::specs::Views::line_of))]
 pub fn line_of(alloc: Global, file: &str, object: JsonObject) -> Mem<Vec<u8>>
-    ensures { IfOk result (λ out. out.items ≡ line_of file.now object.entry) }
+    ensures { IfOk result (λ out. out.items ≡ line_of file.now object) }
 {
     let mut object = object;
     object.set_word(alloc, "file", file)?;

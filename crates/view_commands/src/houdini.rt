@@ -7,13 +7,12 @@ ghost use Rattle.command_parts.specs.ModelTexts.{IsTheModel};
 ghost use Rattle.model_commands.specs.Houdini.{IsHoudiniAnswerBy};
 ghost use Rattle.told_fault.specs.Readings.{IsReading};
 ghost use Rattle.view_commands.specs.Views.{IsViewed, source_of, ways_at};
-ghost use Rattle.view_commands.specs.Sources.{source_by};
 ghost use Rattle.view_commands.specs.Houdini.{found_line, found_text, houdini_view};
 
 use crate::faults::{line_of, say_fault};
 use crate::json_ways::drop_ways;
 use crate::viewed::Viewed;
-use crate::ways::{Ways, ways};
+use crate::ways::{Ways, ways_of};
 use base::Mem;
 use command_parts::shown;
 use commands::{Command, Said};
@@ -35,6 +34,7 @@ pub struct ViewHoudini<'a> {
 }
 
 // What was found as a JSON value.
+#[tactic(auto, unfolding(crate::specs::Houdini::found_line))]
 fn found_line(
     alloc: Global,
     file: &str,
@@ -43,7 +43,7 @@ fn found_line(
     found: &rml_houdini::Houdini,
 ) -> Mem<Vec<u8>>
     requires { AllByRecursion (CanRender model.now) found.now.dropped }
-    ensures { IfOk result (λ out. out.items ≡ found_line file.now (source_by ways.now) model.now found.now) }
+    ensures { IfOk result (λ out. out.items ≡ found_line file.now ways.now.source model.now found.now) }
 {
     let branches = drop_ways(alloc, ways, found.dropped.as_slice())?;
     let object = houdini_object(alloc, model, found, &branches)?;
@@ -67,7 +67,7 @@ fn found_text(
     ensures { IfOk result (λ out. out.items
         ≡ found_text form file.now (source_of text.now reading.now) model.now found.now) }
 {
-    let ways = ways(alloc, text, reading, model);
+    let ways = ways_of(alloc, text, reading, model);
     match form {
         Form::Told => told_subset::tell(alloc, model, &ways, found),
         Form::Dot => drops_graphs(alloc, model, found.dropped.as_slice()),

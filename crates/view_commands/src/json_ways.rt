@@ -2,7 +2,6 @@
 ghost use Rattle.std.specs.Prelude.{◌≡◌, ◌≤◌, ◌++◌, length, map, IfOk, OnOk};
 ghost use Rattle.branches.specs.Within.{MarksWithin};
 ghost use Rattle.json_values.specs.Values.{set_each};
-ghost use Rattle.view_commands.specs.Sources.{source_by};
 ghost use Rattle.view_commands.specs.WayData.{turn_members, mark_data, ways_data, answer_ways, group_ways, drop_ways};
 
 use crate::ways::Ways;
@@ -83,11 +82,11 @@ pub fn marks_list(alloc: Global, text: &[u8], marks: &[Mark]) -> Mem<JsonList>
 }
 
 // Of a group that fails.
-fn answer_ways(ways: &Ways, stage: Stage, answer: &Answer) -> Mem<Json>
-    ensures { IfOk result (λ j. j ≡ answer_ways (source_by ways.now) stage answer.now) }
+fn answer_ways(alloc: Global, ways: &Ways, stage: Stage, answer: &Answer) -> Mem<Json>
+    ensures { IfOk result (λ j. j ≡ answer_ways ways.now.source stage answer.now) }
 {
     match answer {
-        Answer::Fails { shown, .. } => ways.value(stage, shown.trace.path),
+        Answer::Fails { shown, .. } => ways.value(alloc, stage, shown.trace.path),
         Answer::Holds | Answer::Undecided { .. } => Ok(Json::null()),
     }
 }
@@ -95,12 +94,12 @@ fn answer_ways(ways: &Ways, stage: Stage, answer: &Answer) -> Mem<Json>
 /// Those of the groups of a report.
 #[tactic(auto, using(std::proofs::Common::append_assoc))]
 pub fn group_ways(alloc: Global, ways: &Ways, groups: &[Group]) -> Mem<Vec<Json>>
-    ensures { IfOk result (λ l. l.items ≡ group_ways (source_by ways.now) groups.now) }
+    ensures { IfOk result (λ l. l.items ≡ group_ways ways.now.source groups.now) }
 {
     let mut list = Vec::new(alloc);
     let mut rest = groups;
     while let [group, after @ ..] = rest {
-        list.push(answer_ways(ways, group.stage, &group.answer)?)?;
+        list.push(answer_ways(alloc, ways, group.stage, &group.answer)?)?;
         rest = after;
     }
     Ok(list)
@@ -109,13 +108,13 @@ pub fn group_ways(alloc: Global, ways: &Ways, groups: &[Group]) -> Mem<Vec<Json>
 /// Those of the executions that drop conjectures.
 #[tactic(auto, using(std::proofs::Common::append_assoc))]
 pub fn drop_ways(alloc: Global, ways: &Ways, drops: &[Dropped]) -> Mem<Vec<Json>>
-    ensures { IfOk result (λ l. l.items ≡ drop_ways (source_by ways.now) drops.now) }
+    ensures { IfOk result (λ l. l.items ≡ drop_ways ways.now.source drops.now) }
 {
     let mut list = Vec::new(alloc);
     let mut rest = drops;
     while let [dropped, after @ ..] = rest {
         let shown = &dropped.shown;
-        list.push(ways.value(shown.goal.stage, shown.trace.path)?)?;
+        list.push(ways.value(alloc, shown.goal.stage, shown.trace.path)?)?;
         rest = after;
     }
     Ok(list)

@@ -1,5 +1,6 @@
 // `why FILE`: which conjectures carry which group of goals.
 ghost use Rattle.std.specs.Prelude.{◌≡◌, IfOk};
+ghost use Rattle.std.specs.List.{list_any};
 ghost use Rattle.command_line.specs.Asking.{IsInRange};
 ghost use Rattle.command_parts.specs.Limits.{ceilings_of};
 ghost use Rattle.model_reasons.specs.Reasons.{AreReasons};
@@ -95,13 +96,25 @@ fn is_open(carried: &Carried) -> bool
     matches!(carried, Carried::Not(Lack::Open(_, _)))
 }
 
+fn some_fails(reasons: &[Reason]) -> bool
+    ensures { result ≡ list_any (λ r. fails r.carried) reasons.now }
+{
+    reasons.iter().any(|reason| fails(&reason.carried))
+}
+
+fn some_is_open(reasons: &[Reason]) -> bool
+    ensures { result ≡ list_any (λ r. is_open r.carried) reasons.now }
+{
+    reasons.iter().any(|reason| is_open(&reason.carried))
+}
+
 // The status that goes with the reasons.
 fn why_status(reasons: &[Reason]) -> u8
     ensures { result ≡ why_status reasons.now }
 {
-    if reasons.iter().any(|reason| fails(&reason.carried)) {
+    if some_fails(reasons) {
         1
-    } else if reasons.iter().any(|reason| is_open(&reason.carried)) {
+    } else if some_is_open(reasons) {
         3
     } else {
         0
@@ -109,6 +122,7 @@ fn why_status(reasons: &[Reason]) -> u8
 }
 
 // The reasons as a JSON value.
+#[tactic(auto, unfolding(crate::specs::Why::reasons_line))]
 fn reasons_line(alloc: Global, file: &str, model: &Checked, reasons: &[Reason]) -> Mem<Vec<u8>>
     ensures { IfOk result (λ out. out.items ≡ reasons_line file.now model.now reasons.now) }
 {
