@@ -1,0 +1,44 @@
+-- What all questions share: an answer with the text as far as it can be read, the branches of a path, and faults.
+use Rattle.std.specs.Prelude.{ℕ, List, [], Option, Some, None, codes}
+use Rattle.serde_json.specs.Data.{Members, object, string}
+use Rattle.rml_lex.specs.declared.token.Fault.{Fault}
+use Rattle.rml_syntax.specs.Tree.{file_tree}
+use Rattle.rml_command.specs.declared.goal.Stage.{Stage}
+use Rattle.branches.specs.Sources.{TextAndTree}
+use Rattle.branches.specs.MarkText.{branch_lines}
+use Rattle.json_values.specs.Values.{with_member, line_text}
+use Rattle.json_report.specs.FaultData.{faulty_members}
+use Rattle.commands.specs.Due.{Due}
+use Rattle.command_parts.specs.Saying.{on_out, on_err}
+use Rattle.told_fault.specs.declared.reading.Reading.{Reading}
+use Rattle.told_fault.specs.declared.reading.Reading.TheVariants.{NoTokens, Unexpected, TooDeep, Parsed}
+use Rattle.told_fault.specs.Readings.{IsReading, fault_text}
+use Rattle.view_line.specs.declared.options.Form.{Form}
+use Rattle.view_line.specs.declared.options.Form.TheVariants.{Told, Dot, Json}
+use Rattle.view_commands.specs.declared.viewed.Viewed.{Viewed}
+
+-- the answer is so, and the text is read as far as it can be
+abbrev pub IsViewed : {A : Type 0} → (A → Type 0) → List ℕ → Viewed A → Type 0
+IsViewed P text v = P v.answer × IsReading text v.reading
+
+-- the source of a text that has a tree
+abbrev pub source_of : List ℕ → Reading → Option TextAndTree
+source_of text (NoTokens hint) = None
+source_of text (Unexpected kinds hint) = None
+source_of text TooDeep = None
+source_of text (Parsed tree) = Some (record { text = text; tree = tree })
+
+-- the lines of the branches that a path takes
+abbrev pub ways_at : Option TextAndTree → Stage → ℕ → List ℕ
+ways_at None s path = []
+ways_at (Some source) s path = branch_lines source.text (file_tree source.tree) s path
+
+-- the line of a JSON value with the name of the file
+unfoldable pub line_of : List ℕ → Members → List ℕ
+line_of file members = line_text (object (with_member members (codes "file") (string file)))
+
+-- a fault is told on the sink of complaints, or is a JSON value
+abbrev pub fault_view : Form → List ℕ → List ℕ → List ℕ → Fault → Reading → Due
+fault_view Told command file text fault reading = on_err (fault_text file text fault reading) 4
+fault_view Dot command file text fault reading = on_err (fault_text file text fault reading) 4
+fault_view Json command file text fault reading = on_out (line_of file (faulty_members command text fault)) 4

@@ -1,0 +1,157 @@
+// `bmc FILE --steps K`: whether a run with at most K actions goes wrong.
+ghost use Rattle.std.specs.Prelude.{◌≡◌, ◌++◌, IfOk, OnOk};
+ghost use Rattle.std.specs.List.{AllByRecursion, flat_map};
+ghost use Rattle.bounded_text.specs.BoundedText.{CanRender};
+ghost use Rattle.told_runs.specs.RunsText.{CanTell};
+ghost use Rattle.command_parts.specs.ModelTexts.{IsTheModel};
+ghost use Rattle.model_commands.specs.Bmc.{IsBmcAnswerBy};
+ghost use Rattle.told_fault.specs.Readings.{IsReading};
+ghost use Rattle.view_commands.specs.Views.{IsViewed, source_of, ways_at};
+ghost use Rattle.view_commands.specs.Bmc.{length_graphs, bounded_line, bounded_view, bmc_view};
+
+use crate::faults::{line_of, say_fault};
+use crate::viewed::Viewed;
+use crate::ways::ways_of;
+use base::Mem;
+use command_parts::shown;
+use commands::{Command, Said};
+use dot_answers::run_graphs;
+use json_outcome::bounded_object;
+use model_commands::{Bmc, BmcAnswer, bounded_status};
+use progress::Progress;
+use rml_bmc::{Bounded, Length, verdict_for};
+use rml_command::Checked;
+use std::alloc::Global;
+use told_fault::{Reading, read};
+use view_line::Form;
+
+/// The question, with the name of the file and how the answer is shown.
+#[derive(Drop)]
+pub struct ViewBmc<'a> {
+    pub file: &'a str,
+    pub bmc: Bmc,
+    pub form: Form,
+}
+
+// The states of a run that goes wrong.
+fn push_length(alloc: Global, out: &mut Vec<u8>, model: &Checked, length: &Length) -> Mem<()>
+    requires { CanTell model.now length.now }
+    ensures { OnOk result (out.new.items ≡ out.old.items ++ length_graphs model.now length.now) }
+{
+    match length {
+        Length::Safe | Length::Undecided(_) => Ok(()),
+        Length::Broken(run) => {
+            let graphs = run_graphs(alloc, model, run)?;
+            out.extend_from_slice(&graphs)?;
+            Ok(())
+        }
+    }
+}
+
+// The pictures of the lengths.
+#[tactic(auto, using(std::proofs::Common::append_assoc))]
+fn lengths_graphs(alloc: Global, model: &Checked, lengths: &[Length]) -> Mem<Vec<u8>>
+    requires { AllByRecursion (CanTell model.now) lengths.now }
+    ensures { IfOk result (λ out. out.items ≡ flat_map (length_graphs model.now) lengths.now) }
+{
+    let mut out = Vec::new(alloc);
+    let mut rest = lengths;
+    while let [length, after @ ..] = rest {
+        push_length(alloc, &mut out, model, length)?;
+        rest = after;
+    }
+    Ok(out)
+}
+
+// The lengths as a JSON value.
+#[tactic(auto, unfolding(crate::specs::Bmc::bounded_line))]
+fn bounded_line(alloc: Global, file: &str, model: &Checked, bounded: &Bounded) -> Mem<Vec<u8>>
+    requires { AllByRecursion (CanRender model.now) bounded.now.lengths }
+    ensures { IfOk result (λ out. out.items ≡ bounded_line file.now model.now bounded.now) }
+{
+    let object = bounded_object(alloc, model, bounded)?;
+    let line = line_of(alloc, file, object)?;
+    Ok(line)
+}
+
+// What is shown of the lengths.
+fn bounded_view(
+    alloc: Global,
+    form: Form,
+    file: &str,
+    text: &[u8],
+    reading: &Reading,
+    model: &Checked,
+    bounded: &Bounded,
+) -> Mem<Vec<u8>>
+    requires reading { IsReading text.now reading.now }
+    requires model { IsTheModel text.now model.now }
+    requires can_tell { AllByRecursion (CanTell model.now) bounded.now.lengths }
+    requires can_render { AllByRecursion (CanRender model.now) bounded.now.lengths }
+    ensures { IfOk result (λ out. out.items
+        ≡ bounded_view form file.now (source_of text.now reading.now) model.now bounded.now) }
+{
+    let ways = ways_of(alloc, text, reading, model);
+    match form {
+        Form::Told => told_runs::tell(alloc, model, &ways, bounded),
+        Form::Dot => lengths_graphs(alloc, model, bounded.lengths.as_slice()),
+        Form::Json => bounded_line(alloc, file, model, bounded),
+    }
+}
+
+impl<'a> Command for ViewBmc<'a> {
+    type Answer = Viewed<BmcAnswer>;
+
+    ghost is_answer = { λ c first second a. IsViewed (IsBmcAnswerBy c.bmc.counted c.bmc.bound first) first a };
+
+    ghost due = { λ c first second a. bmc_view c.form c.file.now first a };
+
+    fn judge<P: Progress>(
+        &self,
+        alloc: Global,
+        first: &[u8],
+        second: &[u8],
+        progress: &mut P,
+    ) -> Mem<Viewed<BmcAnswer>> {
+        let reading = read(alloc, first)?;
+        let answer = self.bmc.judge(alloc, first, second, progress)?;
+        Ok(Viewed { answer, reading })
+    }
+
+    fn say(
+        &self,
+        alloc: Global,
+        first: &[u8],
+        second: &[u8],
+        answer: &Viewed<BmcAnswer>,
+    ) -> Mem<Said> {
+        bounded_text::rendering_law();
+        told_runs::telling_law();
+        match &answer.answer {
+            BmcAnswer::Answered { model, bounded } => {
+                // That the model is in the fragment is known where it is looked at.
+                let _model = model.model();
+                let text = bounded_view(
+                    alloc,
+                    self.form,
+                    self.file,
+                    first,
+                    &answer.reading,
+                    model,
+                    bounded,
+                )?;
+                let verdict = verdict_for(bounded.lengths.as_slice());
+                Ok(shown(text, bounded_status(verdict)))
+            }
+            BmcAnswer::Fault(fault) => say_fault(
+                alloc,
+                self.form,
+                "bmc",
+                self.file,
+                first,
+                fault,
+                &answer.reading,
+            ),
+        }
+    }
+}

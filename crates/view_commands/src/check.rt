@@ -1,0 +1,131 @@
+// `check FILE`: whether the model is inductive.
+ghost use Rattle.std.specs.Prelude.{◌≡◌, IfOk};
+ghost use Rattle.std.specs.List.{AllByRecursion};
+ghost use Rattle.rml_report.specs.Reports.{CanRender};
+ghost use Rattle.command_parts.specs.Limits.{ceilings_of};
+ghost use Rattle.command_parts.specs.ModelTexts.{IsTheModel};
+ghost use Rattle.model_commands.specs.Check.{IsCheckAnswerBy, IsCheckedBy, verdict_status};
+ghost use Rattle.told_fault.specs.Readings.{IsReading};
+ghost use Rattle.view_commands.specs.Views.{IsViewed, source_of, ways_at};
+ghost use Rattle.view_commands.specs.Check.{checked_line, checked_text, check_view};
+
+use crate::faults::{line_of, say_fault};
+use crate::json_ways::group_ways;
+use crate::viewed::Viewed;
+use crate::ways::{Ways, ways_of};
+use base::Mem;
+use command_parts::shown;
+use commands::{Command, Said};
+use dot_graph::report_graphs;
+use json_report::report_object;
+use model_commands::{Check, CheckAnswer, verdict_status};
+use progress::Progress;
+use rml_command::Checked;
+use rml_report::Report;
+use std::alloc::Global;
+use told_fault::{Reading, read};
+use view_line::Form;
+
+/// The question, with the name of the file and how the answer is shown.
+#[derive(Drop)]
+pub struct ViewCheck<'a> {
+    pub file: &'a str,
+    pub check: Check,
+    pub form: Form,
+}
+
+// The report as a JSON value.
+#[tactic(auto, unfolding(crate::specs::Check::checked_line))]
+fn checked_line(
+    alloc: Global,
+    file: &str,
+    ways: &Ways,
+    model: &Checked,
+    report: &Report,
+) -> Mem<Vec<u8>>
+    requires { AllByRecursion (CanRender model.now) report.now.groups }
+    ensures { IfOk result (λ out. out.items ≡ checked_line file.now ways.now.source model.now report.now) }
+{
+    let branches = group_ways(alloc, ways, report.groups.as_slice())?;
+    let object = report_object(alloc, model, report, &branches)?;
+    let line = line_of(alloc, file, object)?;
+    Ok(line)
+}
+
+// What is shown of a report.
+fn checked_text(
+    alloc: Global,
+    form: Form,
+    file: &str,
+    text: &[u8],
+    reading: &Reading,
+    model: &Checked,
+    report: &Report,
+) -> Mem<Vec<u8>>
+    requires reading { IsReading text.now reading.now }
+    requires model { IsTheModel text.now model.now }
+    requires can { AllByRecursion (CanRender model.now) report.now.groups }
+    ensures { IfOk result (λ out. out.items
+        ≡ checked_text form file.now (source_of text.now reading.now) model.now report.now) }
+{
+    let ways = ways_of(alloc, text, reading, model);
+    match form {
+        Form::Told => told_report::tell(alloc, model, &ways, report),
+        Form::Dot => report_graphs(alloc, model, report.groups.as_slice()),
+        Form::Json => checked_line(alloc, file, &ways, model, report),
+    }
+}
+
+impl<'a> Command for ViewCheck<'a> {
+    type Answer = Viewed<CheckAnswer>;
+
+    ghost is_answer = { λ c first second a.
+        IsViewed (IsCheckAnswerBy c.check.counted (ceilings_of c.check.asked) first) first a };
+
+    ghost due = { λ c first second a. check_view c.form c.file.now first a };
+
+    fn judge<P: Progress>(
+        &self,
+        alloc: Global,
+        first: &[u8],
+        second: &[u8],
+        progress: &mut P,
+    ) -> Mem<Viewed<CheckAnswer>> {
+        let reading = read(alloc, first)?;
+        let answer = self.check.judge(alloc, first, second, progress)?;
+        Ok(Viewed { answer, reading })
+    }
+
+    fn say(
+        &self,
+        alloc: Global,
+        first: &[u8],
+        second: &[u8],
+        answer: &Viewed<CheckAnswer>,
+    ) -> Mem<Said> {
+        rml_report::rendering_law();
+        match &answer.answer {
+            CheckAnswer::Checked { model, report } => {
+                let text = checked_text(
+                    alloc,
+                    self.form,
+                    self.file,
+                    first,
+                    &answer.reading,
+                    model,
+                    report,
+                )?;
+                Ok(shown(text, verdict_status(report.verdict)))
+            }
+            CheckAnswer::Fault(fault) => say_fault(
+                alloc,
+                self.form,
+                "check",
+                self.file,
+                first,
+                fault,
+                &answer.reading,
+            ),
+        }
+    }
+}

@@ -1,0 +1,130 @@
+// `houdini FILE`: the greatest inductive set of the model's conjectures.
+ghost use Rattle.std.specs.Prelude.{◌≡◌, IfOk};
+ghost use Rattle.std.specs.List.{AllByRecursion};
+ghost use Rattle.rml_houdini.specs.HoudiniText.{CanRender};
+ghost use Rattle.command_parts.specs.Limits.{ceilings_of};
+ghost use Rattle.command_parts.specs.ModelTexts.{IsTheModel};
+ghost use Rattle.model_commands.specs.Houdini.{IsHoudiniAnswerBy};
+ghost use Rattle.told_fault.specs.Readings.{IsReading};
+ghost use Rattle.view_commands.specs.Views.{IsViewed, source_of, ways_at};
+ghost use Rattle.view_commands.specs.Houdini.{found_line, found_text, houdini_view};
+
+use crate::faults::{line_of, say_fault};
+use crate::json_ways::drop_ways;
+use crate::viewed::Viewed;
+use crate::ways::{Ways, ways_of};
+use base::Mem;
+use command_parts::shown;
+use commands::{Command, Said};
+use dot_answers::drops_graphs;
+use json_outcome::houdini_object;
+use model_commands::{Houdini, HoudiniAnswer, houdini_status};
+use progress::Progress;
+use rml_command::Checked;
+use std::alloc::Global;
+use told_fault::{Reading, read};
+use view_line::Form;
+
+/// The question, with the name of the file and how the answer is shown.
+#[derive(Drop)]
+pub struct ViewHoudini<'a> {
+    pub file: &'a str,
+    pub houdini: Houdini,
+    pub form: Form,
+}
+
+// What was found as a JSON value.
+#[tactic(auto, unfolding(crate::specs::Houdini::found_line))]
+fn found_line(
+    alloc: Global,
+    file: &str,
+    ways: &Ways,
+    model: &Checked,
+    found: &rml_houdini::Houdini,
+) -> Mem<Vec<u8>>
+    requires { AllByRecursion (CanRender model.now) found.now.dropped }
+    ensures { IfOk result (λ out. out.items ≡ found_line file.now ways.now.source model.now found.now) }
+{
+    let branches = drop_ways(alloc, ways, found.dropped.as_slice())?;
+    let object = houdini_object(alloc, model, found, &branches)?;
+    let line = line_of(alloc, file, object)?;
+    Ok(line)
+}
+
+// What is shown of what was found.
+fn found_text(
+    alloc: Global,
+    form: Form,
+    file: &str,
+    text: &[u8],
+    reading: &Reading,
+    model: &Checked,
+    found: &rml_houdini::Houdini,
+) -> Mem<Vec<u8>>
+    requires reading { IsReading text.now reading.now }
+    requires model { IsTheModel text.now model.now }
+    requires can { AllByRecursion (CanRender model.now) found.now.dropped }
+    ensures { IfOk result (λ out. out.items
+        ≡ found_text form file.now (source_of text.now reading.now) model.now found.now) }
+{
+    let ways = ways_of(alloc, text, reading, model);
+    match form {
+        Form::Told => told_subset::tell(alloc, model, &ways, found),
+        Form::Dot => drops_graphs(alloc, model, found.dropped.as_slice()),
+        Form::Json => found_line(alloc, file, &ways, model, found),
+    }
+}
+
+impl<'a> Command for ViewHoudini<'a> {
+    type Answer = Viewed<HoudiniAnswer>;
+
+    ghost is_answer = { λ c first second a.
+        IsViewed (IsHoudiniAnswerBy c.houdini.counted (ceilings_of c.houdini.asked) first) first a };
+
+    ghost due = { λ c first second a. houdini_view c.form c.file.now first a };
+
+    fn judge<P: Progress>(
+        &self,
+        alloc: Global,
+        first: &[u8],
+        second: &[u8],
+        progress: &mut P,
+    ) -> Mem<Viewed<HoudiniAnswer>> {
+        let reading = read(alloc, first)?;
+        let answer = self.houdini.judge(alloc, first, second, progress)?;
+        Ok(Viewed { answer, reading })
+    }
+
+    fn say(
+        &self,
+        alloc: Global,
+        first: &[u8],
+        second: &[u8],
+        answer: &Viewed<HoudiniAnswer>,
+    ) -> Mem<Said> {
+        rml_houdini::rendering_law();
+        match &answer.answer {
+            HoudiniAnswer::Found { model, houdini } => {
+                let text = found_text(
+                    alloc,
+                    self.form,
+                    self.file,
+                    first,
+                    &answer.reading,
+                    model,
+                    houdini,
+                )?;
+                Ok(shown(text, houdini_status(houdini)))
+            }
+            HoudiniAnswer::Fault(fault) => say_fault(
+                alloc,
+                self.form,
+                "houdini",
+                self.file,
+                first,
+                fault,
+                &answer.reading,
+            ),
+        }
+    }
+}
