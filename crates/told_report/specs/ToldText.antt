@@ -1,5 +1,5 @@
--- A report as it is told: the verdict, the axioms where they are in doubt, what fails, what is left open, and how much
--- holds.
+-- A report as it is told: the verdict, the axioms where they are in doubt, each counterexample, and at the end what
+-- fails, what is left open, and how much holds.
 use Rattle.std.specs.Prelude.{ℕ, ◌+◌, List, [], ◌∷◌, ◌++◌, length, codes}
 use Rattle.std.specs.List.{flat_map}
 use Rattle.std.specs.Fmt.{decimal}
@@ -63,14 +63,17 @@ unfoldable pub undecided_text : Names → Stage → About → ℕ → Cause → 
 undecided_text names s a path c =
     head_text names s a ++ codes " is left open at path " ++ decimal path ++ codes ": " ++ cause_words c ++ codes "\n"
 
--- a group that is left open
-abbrev pub open_text : Names → Stage → About → Answer → List ℕ
-open_text names s a answer.Holds = []
-open_text names s a (answer.Fails paths l shown) = []
-open_text names s a (answer.Undecided path c) = undecided_text names s a path c
+unfoldable pub failed_line : Names → Stage → About → List ℕ
+failed_line names s a = stage_text names s ++ fault_text names a ++ codes "\n"
 
-abbrev pub group_open : Names → Group → List ℕ
-group_open names g = open_text names g.stage g.about g.answer
+-- a group that does not hold, in a line
+abbrev pub summary_text : Names → Stage → About → Answer → List ℕ
+summary_text names s a answer.Holds = []
+summary_text names s a (answer.Fails paths l shown) = failed_line names s a
+summary_text names s a (answer.Undecided path c) = undecided_text names s a path c
+
+abbrev pub group_summary : Names → Group → List ℕ
+group_summary names g = summary_text names g.stage g.about g.answer
 
 abbrev pub held_by : Answer → ℕ
 held_by answer.Holds = 1
@@ -104,4 +107,4 @@ axioms_line (axioms.Undecided c) = axioms_open c
 unfoldable pub told_text : ModelTree → (Stage → ℕ → List ℕ) → Report → List ℕ
 told_text m lines r =
     verdict_line r.verdict ++ axioms_line r.axioms ++ flat_map (group_failing m lines) r.groups ++ codes "\n"
-    ++ flat_map (group_open m.names) r.groups ++ count_line r.groups
+    ++ flat_map (group_summary m.names) r.groups ++ count_line r.groups

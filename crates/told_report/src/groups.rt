@@ -1,10 +1,10 @@
-// The groups that fail, and those that are left open.
+// The groups that fail, and those that are left open: each with its counterexample, and in a line.
 ghost use Rattle.std.specs.Prelude.{◌≡◌, ◌++◌, OnOk};
 ghost use Rattle.rml_report.specs.Reports.{IsRefutation, ShowsRefutation, CanRender};
 ghost use Rattle.told_report.specs.CauseWords.{cause_words};
 ghost use Rattle.told_report.specs.ToldText.{fault_text, broken_text, path_text, doubt_text, least_text};
-ghost use Rattle.told_report.specs.ToldText.{failure_text, failing_text, group_failing, undecided_text, open_text};
-ghost use Rattle.told_report.specs.ToldText.{group_open};
+ghost use Rattle.told_report.specs.ToldText.{failure_text, failing_text, group_failing, undecided_text};
+ghost use Rattle.told_report.specs.ToldText.{failed_line, summary_text, group_summary};
 
 use crate::branches::Branches;
 use crate::causes::push_cause_words;
@@ -156,12 +156,23 @@ pub fn push_undecided(
     Ok(())
 }
 
-/// Adds a group that is left open; nothing of another.
-pub fn push_open(out: &mut Vec<u8>, names: &Names, group: &Group) -> Mem<()>
-    ensures { OnOk result (out.new.items ≡ out.old.items ++ group_open names.now group.now) }
+#[tactic(auto, using(std::proofs::Common::append_assoc), unfolding(crate::specs::ToldText::failed_line))]
+fn push_failed(out: &mut Vec<u8>, names: &Names, stage: Stage, about: About) -> Mem<()>
+    ensures { OnOk result (out.new.items ≡ out.old.items ++ failed_line names.now stage about) }
+{
+    push_stage(out, names, stage)?;
+    push_fault(out, names, about)?;
+    push_text(out, "\n")?;
+    Ok(())
+}
+
+/// Adds a group that does not hold, in a line; nothing of another.
+pub fn push_summary(out: &mut Vec<u8>, names: &Names, group: &Group) -> Mem<()>
+    ensures { OnOk result (out.new.items ≡ out.old.items ++ group_summary names.now group.now) }
 {
     match &group.answer {
-        Answer::Holds | Answer::Fails { .. } => Ok(()),
+        Answer::Holds => Ok(()),
+        Answer::Fails { .. } => push_failed(out, names, group.stage, group.about),
         Answer::Undecided { path, cause } => {
             push_undecided(out, names, group.stage, group.about, *path, cause)
         }

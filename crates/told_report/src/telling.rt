@@ -2,12 +2,12 @@
 ghost use Rattle.std.specs.Prelude.{◌≡◌, ◌≤◌, ◌++◌, length, OnOk, IfOk};
 ghost use Rattle.std.specs.List.{AllByRecursion, flat_map};
 ghost use Rattle.rml_report.specs.Reports.{CanRender};
-ghost use Rattle.told_report.specs.ToldText.{group_failing, group_open, held_by, held, count_line, verdict_line};
+ghost use Rattle.told_report.specs.ToldText.{group_failing, group_summary, held_by, held, count_line, verdict_line};
 ghost use Rattle.told_report.specs.ToldText.{axioms_open, axioms_line, told_text};
 
 use crate::branches::Branches;
 use crate::causes::push_cause_words;
-use crate::groups::{push_failing, push_open};
+use crate::groups::{push_failing, push_summary};
 use base::{Mem, push_number, push_text};
 use rml_command::{Checked, Names};
 use rml_report::{Answer, Axioms, Cause, Group, Report, Verdict};
@@ -72,12 +72,12 @@ fn push_all_failing<B: Branches>(
 }
 
 #[tactic(auto, using(std::proofs::Common::append_assoc))]
-fn push_all_open(out: &mut Vec<u8>, names: &Names, groups: &[Group]) -> Mem<()>
-    ensures { OnOk result (out.new.items ≡ out.old.items ++ flat_map (group_open names.now) groups.now) }
+fn push_summaries(out: &mut Vec<u8>, names: &Names, groups: &[Group]) -> Mem<()>
+    ensures { OnOk result (out.new.items ≡ out.old.items ++ flat_map (group_summary names.now) groups.now) }
 {
     let mut rest = groups;
     while let [group, after @ ..] = rest {
-        push_open(out, names, group)?;
+        push_summary(out, names, group)?;
         rest = after;
     }
     Ok(())
@@ -120,7 +120,7 @@ fn push_count(out: &mut Vec<u8>, groups: &[Group]) -> Mem<()>
 }
 
 /// The text of a report for a person: the verdict, the axioms where they are in doubt, each group that fails with its
-/// counterexample and the branches that it takes, the groups that are left open, and how many hold.
+/// counterexample and the branches that it takes, a line for each that fails or is left open, and how many hold.
 #[tactic(auto, using(std::proofs::Common::append_assoc), unfolding(crate::specs::ToldText::told_text))]
 pub fn tell<B: Branches>(
     alloc: Global,
@@ -137,7 +137,7 @@ pub fn tell<B: Branches>(
     push_axioms(&mut out, &report.axioms)?;
     push_all_failing(alloc, &mut out, checked, branches, groups)?;
     push_text(&mut out, "\n")?;
-    push_all_open(&mut out, checked.model().names(), groups)?;
+    push_summaries(&mut out, checked.model().names(), groups)?;
     push_count(&mut out, groups)?;
     Ok(out)
 }
