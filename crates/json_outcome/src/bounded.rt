@@ -27,7 +27,8 @@ fn end_value(alloc: Global, checked: &Checked, part: &Part) -> Mem<Json>
 
 // What the havocs of the part's path take.
 fn takes_value(alloc: Global, checked: &Checked, part: &Part) -> Mem<Json>
-    ensures { IfOk result (λ j. j ≡ takes_along checked.now.names (part_path checked.now part.now) part.now.trace.havoc) }
+    ensures { IfOk result
+        (λ j. j ≡ takes_along checked.now.names (part_path checked.now part.now) part.now.trace.havoc) }
 {
     let paths = checked.stage_paths(part.stage);
     let number = part.trace.path as usize;

@@ -1,5 +1,5 @@
-//! What else is found of a model, as JSON: its bounded runs, the greatest inductive set of its conjectures, which of them
-//! carry which group, and whether a printed report is right. Each value is the one that the definition names.
+//! What else is found of a model, as JSON: its bounded runs, the greatest inductive set of its conjectures, which of
+//! them carry which group, and whether a printed report is right. Each value is the one that the definition names.
 #![tactic(auto)]
 
 mod bounded;

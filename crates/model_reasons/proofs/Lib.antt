@@ -1,2 +1,3 @@
 mod Pieces
 mod Idleness
+mod Showing

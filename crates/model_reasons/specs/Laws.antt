@@ -1,14 +1,18 @@
--- What idle conjectures mean.
+-- What idle conjectures mean, and what is shown of a lack.
 use Rattle.std.specs.Prelude.{◌≡◌, ◌==◌, ℕ, not, List, length}
 use Rattle.std.specs.List.{AllByRecursion, filter, list_any}
 use Rattle.base.specs.Lists.{SomeOf, count_from}
 use Rattle.rml_command.specs.Models.{ModelTree}
 use Rattle.rml_command.specs.declared.goal.About.TheVariants as about
+use Rattle.rml_report.specs.Reports.{IsExecution}
 use Rattle.ea_decide.specs.Passing.{Ceilings}
 use Rattle.rml_houdini.specs.Subsets.{Has, IsWithin}
 use Rattle.rml_reasons.specs.Reasons.{IsReason, needed_conjectures}
 use Rattle.rml_reasons.specs.declared.reason.Need.{Need}
-use Rattle.rml_reasons.specs.declared.reason.Carried.TheVariants.{By}
+use Rattle.rml_reasons.specs.declared.reason.Lack.{Lack}
+use Rattle.rml_reasons.specs.declared.reason.Lack.TheVariants.{Fails, Open}
+use Rattle.rml_reasons.specs.declared.reason.Carried.{Carried}
+use Rattle.rml_reasons.specs.declared.reason.Carried.TheVariants.{By, Not}
 use Rattle.model_reasons.specs.Reasons.{head_of, AreReasons}
 use Rattle.model_reasons.specs.Idle.{idle_conjectures}
 use Rattle.model_reasons.specs.declared.reason.Reason.{Reason}
@@ -20,3 +24,17 @@ IdleCarryNoOther = (limits : Ceilings) (m : ModelTree) (reasons : List Reason) (
     → ((k : ℕ) → r.about ≡ about.Conjecture k → Has (idle_conjectures m reasons) k → ⊥)
     → IsReason limits m (head_of r) (needed_conjectures needs)
     × ((k : ℕ) → Has (needed_conjectures needs) k → Has (idle_conjectures m reasons) k → ⊥)
+
+-- what is shown of a lack is an execution of the model
+abbrev pub LackIsShown : ModelTree → Lack → Type 0
+LackIsShown m (Fails shown) = IsExecution m shown
+LackIsShown m (Open goal c) = Unit {0}
+
+abbrev pub CarriedIsShown : ModelTree → Carried → Type 0
+CarriedIsShown m (By needs) = AllByRecursion (λ n. LackIsShown m n.lack) needs
+CarriedIsShown m (Not lack) = LackIsShown m lack
+
+-- Each lack of the reasons is shown.
+abbrev pub ReasonsAreShown : Type 0
+ReasonsAreShown = (limits : Ceilings) (m : ModelTree) (reasons : List Reason) → AreReasons limits m reasons
+    → AllByRecursion (λ r. CarriedIsShown m r.carried) reasons

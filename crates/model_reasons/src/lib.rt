@@ -8,7 +8,7 @@ mod listing;
 mod reason;
 mod serving;
 
-pub use laws::idle_law;
+pub use laws::{idle_law, showing_law};
 pub use listing::reasons;
 pub use reason::Reason;
 pub use serving::idle;

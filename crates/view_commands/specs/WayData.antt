@@ -34,7 +34,8 @@ mark_data text k =
 -- those of a path of a stage's block; none where no source is known
 abbrev pub ways_data : Option TextAndTree → Stage → ℕ → Data
 ways_data None s path = list_data []
-ways_data (Some source) s path = list_data (map (mark_data source.text) (marks_of source.text (file_tree source.tree) s path))
+ways_data (Some source) s path = list_data
+    (map (mark_data source.text) (marks_of source.text (file_tree source.tree) s path))
 
 -- of a group that fails
 abbrev pub answer_ways : Option TextAndTree → Stage → Answer → Data

@@ -1,6 +1,6 @@
-//! What `ivyview` shows of an answer: a text, pictures, or a JSON value. The answers are those of `ivycheck`'s commands,
-//! with the text's tree beside, by which the branches of a path are told, or what may stand at its fault. Each question
-//! is a module, and a page of definitions, which say what is due.
+//! What `ivyview` shows of an answer: a text, pictures, or a JSON value. The answers are those of `ivycheck`'s
+//! commands, with the text's tree beside, by which the branches of a path are told, or what may stand at its fault.
+//! Each question is a module, and a page of definitions, which say what is due.
 #![tactic(auto)]
 
 mod bmc;

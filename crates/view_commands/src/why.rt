@@ -1,9 +1,10 @@
 // `why FILE`: which conjectures carry which group of goals.
 ghost use Rattle.std.specs.Prelude.{◌≡◌, IfOk};
-ghost use Rattle.std.specs.List.{list_any};
+ghost use Rattle.std.specs.List.{AllByRecursion, list_any};
 ghost use Rattle.command_line.specs.Asking.{IsInRange};
 ghost use Rattle.command_parts.specs.Limits.{ceilings_of};
 ghost use Rattle.model_reasons.specs.Reasons.{AreReasons};
+ghost use Rattle.model_reasons.specs.Laws.{CarriedIsShown};
 ghost use Rattle.told_fault.specs.Readings.{IsReading};
 ghost use Rattle.view_commands.specs.Views.{IsViewed};
 ghost use Rattle.view_commands.specs.Why.{IsWhyAnswer, fails, is_open, reasons_line, reasons_view};
@@ -124,6 +125,7 @@ fn why_status(reasons: &[Reason]) -> u8
 // The reasons as a JSON value.
 #[tactic(auto, unfolding(crate::specs::Why::reasons_line))]
 fn reasons_line(alloc: Global, file: &str, model: &Checked, reasons: &[Reason]) -> Mem<Vec<u8>>
+    requires { AllByRecursion (λ r. CarriedIsShown model.now r.carried) reasons.now }
     ensures { IfOk result (λ out. out.items ≡ reasons_line file.now model.now reasons.now) }
 {
     let object = reasons_object(alloc, model, reasons)?;
@@ -139,6 +141,7 @@ fn reasons_view(
     model: &Checked,
     reasons: &[Reason],
 ) -> Mem<Vec<u8>>
+    requires { AllByRecursion (λ r. CarriedIsShown model.now r.carried) reasons.now }
     ensures { IfOk result (λ out. out.items ≡ reasons_view form file.now model.now reasons.now) }
 {
     match form {
@@ -173,6 +176,7 @@ impl<'a> Command for ViewWhy<'a> {
         second: &[u8],
         answer: &Viewed<WhyAnswer>,
     ) -> Mem<Said> {
+        model_reasons::showing_law();
         match &answer.answer {
             WhyAnswer::Reasons { model, reasons } => {
                 let text = reasons_view(alloc, self.form, self.file, model, reasons.as_slice())?;

@@ -1,10 +1,15 @@
 -- The values so far, and behind them those of the rest.
 use Rattle.std.proofs.Common.{◌≡◌, ◌++◌, map, length}
+use Rattle.std.specs.List.{AllByRecursion}
+use Rattle.model_reasons.specs.Laws.{LackIsShown}
 use Rattle.json_outcome.specs.ReasonsData.{need_data}
 use Rattle.json_outcome.proofs.reasons.need_values.Given as goal
 
 abbrev pub invariant-loop-rest : goal.invariant-loop-rest
-invariant-loop-rest l = l.list ++ map (need_data l.names) l.rest ≡ map (need_data l.names) l.needs
+invariant-loop-rest l = record {
+  shown : AllByRecursion (λ n. LackIsShown l.checked n.lack) l.rest;
+  values : l.list ++ map (need_data l.checked) l.rest ≡ map (need_data l.checked) l.needs;
+}
 
 abbrev pub decreases-loop-rest : goal.decreases-loop-rest
 decreases-loop-rest l = length l.rest
