@@ -1,0 +1,47 @@
+// How the top call ends.
+ghost use Rattle.std.specs.Prelude.{◌≡◌};
+
+use commands::Written;
+use model_commands::{BmcAnswer, CheckAnswer, HoudiniAnswer};
+use replay_command::ReplayAnswer;
+use rml_bytes::{Bytes, LoadError};
+use view_commands::{Viewed, WhyAnswer};
+
+/// What is answered.
+#[derive(Drop)]
+pub enum Answer {
+    /// The words are no command line, or ask for words alone.
+    Words,
+    Check(Viewed<CheckAnswer>),
+    Houdini(Viewed<HoudiniAnswer>),
+    Bmc(Viewed<BmcAnswer>),
+    Why(Viewed<WhyAnswer>),
+    Replay(Viewed<ReplayAnswer>),
+}
+
+/// The bytes that were handed over. What was not loaded is empty.
+#[derive(Drop)]
+pub struct Loaded {
+    pub first: Bytes,
+    pub second: Bytes,
+}
+
+/// The answer, or why there is none; the status of the process, and what became of the text.
+#[derive(Drop)]
+pub struct Ended {
+    pub status: u8,
+    pub outcome: Result<Answer, LoadError>,
+    pub loaded: Loaded,
+    pub written: Written,
+}
+
+impl Ended {
+    /// The status, where nothing else is asked for.
+    pub fn into_status(self) -> u8
+        ensures { result ≡ self.status }
+    {
+        let status = self.status;
+        drop(self);
+        status
+    }
+}

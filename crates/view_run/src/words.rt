@@ -1,0 +1,90 @@
+// What is answered with words alone: what the words of a command line are, which version this is, and that these are
+// none.
+ghost use Rattle.std.specs.Prelude.{◌≡◌, IfOk};
+ghost use Rattle.view_run.specs.Words.{words_due, help_text, head_text, options_text, status_text};
+
+use base::{Mem, push_text};
+use command_parts::{complaint, shown};
+use commands::{Command, Said};
+use progress::Progress;
+use std::alloc::Global;
+
+/// Which words are asked for.
+#[derive(Clone, Copy, Debug, PartialEq, Eq)]
+pub enum Words {
+    Help,
+    Version,
+    Usage,
+}
+
+const HEAD: &str = "ivyview: what ivycheck finds of a protocol's model, as a person wants to see it
+
+    ivyview check FILE              is the model inductive?
+    ivyview bmc FILE --steps K      does a run with at most K actions go wrong?
+    ivyview houdini FILE            which of the conjectures are inductive together?
+    ivyview why FILE                which conjectures carry which group of goals?
+    ivyview replay MODEL REPORT     is a report that `ivycheck check` printed right?
+
+";
+
+const OPTIONS: &str = "A FILE may be -, for standard input. Options, anywhere among the words:
+
+    --terms N       a goal may have so many ground terms (400, up to 100000)
+    --ground N      its ground formulas may have this size (2000000, up to 50000000)
+    --conflicts N   so many clauses may be learnt for it (100000, up to 100000000)
+    --lean          the first two are on lean counts (check, bmc, houdini)
+    --dot           pictures (check, bmc, houdini): ivyview check FILE --dot | dot -Tsvg >FILE.svg
+    --json          the whole outcome as one JSON value
+    --help, --version
+
+";
+
+const STATUS: &str =
+    "The status is 0 where all is well, 1 where something fails, 2 for words that are no command line,
+3 where something is left open, 4 for a faulty or too long file, 5 where a file or a stream fails,
+7 for want of memory.
+";
+
+#[tactic(auto, using(std::proofs::Common::append_assoc), unfolding(crate::specs::Words::help_text))]
+fn help(alloc: Global) -> Mem<Vec<u8>>
+    ensures { IfOk result (λ text. text.items ≡ help_text) }
+{
+    let mut out = Vec::new(alloc);
+    push_text(&mut out, HEAD)?;
+    push_text(&mut out, OPTIONS)?;
+    push_text(&mut out, STATUS)?;
+    Ok(out)
+}
+
+impl Command for Words {
+    type Answer = ();
+
+    ghost is_answer = { λ c first second a. Unit {0} };
+
+    ghost due = { λ c first second a. words_due c };
+
+    fn judge<P: Progress>(
+        &self,
+        alloc: Global,
+        first: &[u8],
+        second: &[u8],
+        progress: &mut P,
+    ) -> Mem<()> {
+        Ok(())
+    }
+
+    fn say(&self, alloc: Global, first: &[u8], second: &[u8], answer: &()) -> Mem<Said> {
+        match self {
+            Words::Help => Ok(shown(help(alloc)?, 0)),
+            Words::Version => Ok(shown(
+                "ivyview 1, for models of rml 1\n".as_bytes().to_vec(alloc)?,
+                0,
+            )),
+            Words::Usage => {
+                let line =
+                    "ivyview: these words are no command line; ivyview --help says which are\n";
+                Ok(complaint(line.as_bytes().to_vec(alloc)?, 2))
+            }
+        }
+    }
+}
