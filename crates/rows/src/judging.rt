@@ -1,5 +1,5 @@
 // Whether a row is as expected: what its run leaves, or the runs on each prefix of one of its files.
-use crate::running::{Actual, Cut, run_on_disk, run_on_memory};
+use crate::running::{Actual, Cut, Program, run_on_disk, run_on_memory};
 use base::{Mem, Refused};
 use row_files::{Expected, Parsed, Prefixes, Report, Row};
 use std::alloc::Global;
@@ -78,9 +78,9 @@ fn text_of(alloc: Global, counts: &[u64]) -> Mem<String> {
     Ok(text)
 }
 
-// How the run on a front of a file ends, where it is answered.
+// How the run of `ivycheck` on a front of a file ends, where it is answered.
 fn status_on(alloc: Global, row: &Row, cut: Cut) -> Parsed<Option<u8>> {
-    let actual = run_on_memory(alloc, row, Some(cut))?;
+    let actual = run_on_memory(alloc, Program::IvyCheck, row, Some(cut))?;
     let status = if is_answered(&actual) {
         Some(actual.status)
     } else {
@@ -90,7 +90,8 @@ fn status_on(alloc: Global, row: &Row, cut: Cut) -> Parsed<Option<u8>> {
     Ok(status)
 }
 
-// How often the runs on the proper prefixes of a file end with each status, up to the first prefix that is not answered.
+// How often the runs on the proper prefixes of a file end with each status, up to the first prefix that is not
+// answered.
 #[derive(Drop)]
 struct Counted {
     statuses: Vec<u64>,
@@ -163,14 +164,14 @@ fn judge_prefixes(alloc: Global, row: &Row, prefixes: &Prefixes) -> Parsed<Repor
 }
 
 /// Runs a row, and says how it differs from what is expected of it.
-pub fn judge(alloc: Global, system: HostRuntime, row: &Row) -> Parsed<Report> {
+pub fn judge(alloc: Global, system: HostRuntime, program: Program, row: &Row) -> Parsed<Report> {
     if let Some(prefixes) = &row.prefixes {
         return judge_prefixes(alloc, row, prefixes);
     }
     let actual = if row.is_on_disk {
-        run_on_disk(alloc, system, row)?
+        run_on_disk(alloc, system, program, row)?
     } else {
-        run_on_memory(alloc, row, None)?
+        run_on_memory(alloc, program, row, None)?
     };
     let report = compare(alloc, row, &actual);
     drop(actual);

@@ -1,11 +1,13 @@
-//! Runs rows of the whole program (`ivy_run::run`) over files and sinks in memory, or over the files of a folder: words
-//! and files, and what is to come out, to the byte. It says how each row differs that does. The rows are data, so that
-//! a new one needs no proof. They show what no clause can: that the definitions are the language that docs/LANGUAGE.md
-//! and docs/FORMATS.md describe. Proved is that the program is safe, and that it does not call two words or texts the
-//! same that differ (`compare` and `compare_bytes` of `row_files`); not that it reads the rows as their format says.
+//! Runs rows of the whole programs (`ivy_run::run`, `view_run::view`) over files and sinks in memory, or over the
+//! files of a folder: words and files, and what is to come out, to the byte. It says how each row differs that does.
+//! The rows are data, so that a new one needs no proof. They show what no clause can: that the definitions are the
+//! language that docs/LANGUAGE.md and docs/FORMATS.md describe. Proved is that the program is safe, and that it does
+//! not call two words or texts the same that differ (`compare` and `compare_bytes` of `row_files`); not that it reads
+//! the rows as their format says.
 //!
-//! Each word of the command line names a file of rows; the head of data/rows.txt says their format. In the files behind
-//! the word `differ` each row has to differ: they show that this program tells, since what it says of them is compared.
+//! Each word of the command line names a file of rows; the head of data/rows.txt says their format. The files behind
+//! the word `ivyview` are rows of that program. In the files behind the word `differ` each row has to differ: they
+//! show that this program tells, since what it says of them is compared.
 //!
 //! - `rows.txt`: texts with the line of their fault (each code from F1 to F20; which one comes first where two meet;
 //!   the limits of a name's length, of nesting, of names and of paths from both sides), reports of models that are
@@ -14,6 +16,7 @@
 //!   be or a byte longer, and sinks that fail or have no room.
 //! - `examples.txt`: the report of each file of examples/. `prefixes.txt`: how many of the prefixes of each end with
 //!   which status. `samples.txt`: each sample that can be made.
+//! - `views.txt`: rows of `ivyview`, one at least for each outcome in each form.
 //! - `wrong.txt`: each row is wrong in one thing.
 //!
 //! By hand: `rt run -- data/rows.txt differ data/wrong.txt`. Want of memory at a given allocation is not a row: `rt try
@@ -24,10 +27,12 @@
 
 mod judging;
 mod running;
+mod viewing;
 
 use base::Refused;
 use judging::judge;
 use row_files::{Report, Row, Text, read_rows};
+use running::Program;
 use std::alloc::Global;
 use std::process::ExitCode;
 use std::{env, fs, io};
@@ -55,9 +60,18 @@ fn tell_report(rt: &impl Print, name: &str, row: &Row, report: &Report) -> io::R
     Ok(report.is_well)
 }
 
+/// A file of rows: its name, for which program they are, and whether each has to differ.
+#[derive(Clone, Copy)]
+struct Rows<'a> {
+    name: &'a str,
+    program: Program,
+    has_to_differ: bool,
+}
+
 // Says how a row differs, if it does.
-fn tell_row(rt: HostRuntime, alloc: Global, name: &str, row: &Row) -> io::Result<bool> {
-    match judge(alloc, rt, row) {
+fn tell_row(rt: HostRuntime, alloc: Global, of: Rows, row: &Row) -> io::Result<bool> {
+    let name = of.name;
+    match judge(alloc, rt, of.program, row) {
         Ok(report) => {
             let told = tell_report(&rt, name, row, &report);
             drop(report);
@@ -71,22 +85,17 @@ fn tell_row(rt: HostRuntime, alloc: Global, name: &str, row: &Row) -> io::Result
 }
 
 // Says which rows differ, and whether they are those that have to.
-fn tell_rows(
-    rt: HostRuntime,
-    alloc: Global,
-    name: &str,
-    rows: &[Row],
-    has_to_differ: bool,
-) -> io::Result<bool> {
+fn tell_rows(rt: HostRuntime, alloc: Global, of: Rows, rows: &[Row]) -> io::Result<bool> {
+    let name = of.name;
     let count = rows.len();
     let mut differ = 0usize;
     for row in rows {
-        if !tell_row(rt, alloc, name, row)? {
+        if !tell_row(rt, alloc, of, row)? {
             differ = differ.saturating_add(1);
         }
     }
     println!(&rt; "{name}: {count} rows, {differ} differ")?;
-    Ok(count > 0 && differ == if has_to_differ { count } else { 0 })
+    Ok(count > 0 && differ == if of.has_to_differ { count } else { 0 })
 }
 
 // Takes the files of the folder into memory of whose prefixes rows speak.
@@ -102,23 +111,18 @@ fn load_files(rt: HostRuntime, alloc: Global, rows: &mut [Row]) -> io::Result<()
     Ok(())
 }
 
-fn tell_read(
-    rt: HostRuntime,
-    alloc: Global,
-    name: &str,
-    rows: &mut [Row],
-    has_to_differ: bool,
-) -> io::Result<bool> {
+fn tell_read(rt: HostRuntime, alloc: Global, of: Rows, rows: &mut [Row]) -> io::Result<bool> {
     load_files(rt, alloc, &mut *rows)?;
-    tell_rows(rt, alloc, name, rows, has_to_differ)
+    tell_rows(rt, alloc, of, rows)
 }
 
-fn tell_file(rt: HostRuntime, alloc: Global, name: &str, has_to_differ: bool) -> io::Result<bool> {
+fn tell_file(rt: HostRuntime, alloc: Global, of: Rows) -> io::Result<bool> {
+    let name = of.name;
     let text = fs::read_to_string(&rt, name)?;
     match read_rows(alloc, text.as_str()) {
         Ok(rows) => {
             let mut rows = rows;
-            let told = tell_read(rt, alloc, name, &mut rows, has_to_differ);
+            let told = tell_read(rt, alloc, of, &mut rows);
             drop(rows);
             told
         }
@@ -132,12 +136,22 @@ fn tell_file(rt: HostRuntime, alloc: Global, name: &str, has_to_differ: bool) ->
 fn tell_files(rt: HostRuntime) -> io::Result<bool> {
     let alloc = rt.alloc();
     let mut are_well = true;
+    let mut program = Program::IvyCheck;
     let mut has_to_differ = false;
     for word in env::args(&rt)?.skip(1) {
-        if word.as_str() == "differ" {
-            has_to_differ = true;
-        } else {
-            are_well &= tell_file(rt, alloc, word.as_str(), has_to_differ)?;
+        let name = word.as_str();
+        match name {
+            "ivycheck" => program = Program::IvyCheck,
+            "ivyview" => program = Program::IvyView,
+            "differ" => has_to_differ = true,
+            _ => {
+                let of = Rows {
+                    name,
+                    program,
+                    has_to_differ,
+                };
+                are_well &= tell_file(rt, alloc, of)?;
+            }
         }
     }
     Ok(are_well)

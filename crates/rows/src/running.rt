@@ -2,6 +2,7 @@
 ghost use Rattle.std.specs.Prelude.{IsTrue, All, ◌≢◌};
 ghost use Rattle.rml_bytes.specs.Memory.{NamesDiffer, IncreaseAbove, firsts};
 
+use crate::viewing::view_between;
 use base::{Mem, Refused};
 use clause_commands::{EmitAnswer, Emitted, LratAnswer};
 use commands::Written;
@@ -23,6 +24,13 @@ pub struct Actual {
     pub stands_in_text: bool,
     pub out: MemSink,
     pub err: MemSink,
+}
+
+/// Which program a row is for.
+#[derive(Clone, Copy, Debug, PartialEq, Eq)]
+pub enum Program {
+    IvyCheck,
+    IvyView,
 }
 
 /// A front of a file that takes the file's place.
@@ -132,7 +140,8 @@ fn sink_of(alloc: Global, stream: &Stream) -> Parsed<MemSink> {
     Ok(MemSink::new(alloc, stream.room, failing)?)
 }
 
-fn name_of_check(answer: &CheckAnswer) -> &'static str {
+/// The names of answers.
+pub fn name_of_check(answer: &CheckAnswer) -> &'static str {
     match answer {
         CheckAnswer::Checked { .. } => "checked",
         CheckAnswer::Fault(_) => "fault",
@@ -160,21 +169,21 @@ fn name_of_emit(answer: &EmitAnswer) -> &'static str {
     }
 }
 
-fn name_of_houdini(answer: &HoudiniAnswer) -> &'static str {
+pub fn name_of_houdini(answer: &HoudiniAnswer) -> &'static str {
     match answer {
         HoudiniAnswer::Found { .. } => "found",
         HoudiniAnswer::Fault(_) => "fault",
     }
 }
 
-fn name_of_bmc(answer: &BmcAnswer) -> &'static str {
+pub fn name_of_bmc(answer: &BmcAnswer) -> &'static str {
     match answer {
         BmcAnswer::Answered { .. } => "bounded",
         BmcAnswer::Fault(_) => "fault",
     }
 }
 
-fn name_of_replay(answer: &ReplayAnswer) -> &'static str {
+pub fn name_of_replay(answer: &ReplayAnswer) -> &'static str {
     match answer {
         ReplayAnswer::Replayed(_) => "replayed",
         ReplayAnswer::Unread(_) => "unread",
@@ -192,9 +201,24 @@ fn name_of(outcome: &Result<Answer, LoadError>) -> &'static str {
         Ok(Answer::Bmc(answer)) => name_of_bmc(answer),
         Ok(Answer::Replay(answer)) => name_of_replay(answer),
         Ok(Answer::Sample(_)) => "sampled",
-        Err(LoadError::TooLong) => "too long",
-        Err(LoadError::Failed) => "read fault",
-        Err(LoadError::NoMemory) => "no memory",
+        Err(why) => name_of_stop(*why),
+    }
+}
+
+/// What became of the text.
+pub fn name_of_written(written: Written) -> &'static str {
+    match written {
+        Written::All => "all",
+        Written::Failed => "failed",
+    }
+}
+
+/// Why there is no answer.
+pub fn name_of_stop(why: LoadError) -> &'static str {
+    match why {
+        LoadError::TooLong => "too long",
+        LoadError::Failed => "read fault",
+        LoadError::NoMemory => "no memory",
     }
 }
 
@@ -223,10 +247,7 @@ fn run_between<F: Files>(
 ) -> Actual {
     let (mut out, mut err) = (out, err);
     let ended = run(alloc, &row.words, files, &mut out, &mut err);
-    let written = match ended.written {
-        Written::All => "all",
-        Written::Failed => "failed",
-    };
+    let written = name_of_written(ended.written);
     let outcome = name_of(&ended.outcome);
     let loads = (ended.loaded.first.len(), ended.loaded.second.len());
     let stands_in_text = stands_in_text(&ended);
@@ -241,10 +262,13 @@ fn run_between<F: Files>(
     }
 }
 
-fn run_over<F: Files>(alloc: Global, row: &Row, files: &mut F) -> Parsed<Actual> {
+fn run_over<F: Files>(alloc: Global, program: Program, row: &Row, files: &mut F) -> Parsed<Actual> {
     let out = sink_of(alloc, &row.out)?;
     match sink_of(alloc, &row.err) {
-        Ok(err) => Ok(run_between(alloc, row, files, out, err)),
+        Ok(err) => Ok(match program {
+            Program::IvyCheck => run_between(alloc, row, files, out, err),
+            Program::IvyView => view_between(alloc, row, files, out, err),
+        }),
         Err(cause) => {
             drop(out);
             Err(cause)
@@ -253,15 +277,25 @@ fn run_over<F: Files>(alloc: Global, row: &Row, files: &mut F) -> Parsed<Actual>
 }
 
 /// Runs the program on a row, with a front of one of its files in the place of this file.
-pub fn run_on_memory(alloc: Global, row: &Row, cut: Option<Cut>) -> Parsed<Actual> {
+pub fn run_on_memory(
+    alloc: Global,
+    program: Program,
+    row: &Row,
+    cut: Option<Cut>,
+) -> Parsed<Actual> {
     let mut files = files_of(alloc, row, cut)?;
-    let actual = run_over(alloc, row, &mut files);
+    let actual = run_over(alloc, program, row, &mut files);
     drop(files);
     actual
 }
 
 /// Runs the program on the files of the folder.
-pub fn run_on_disk(alloc: Global, system: HostRuntime, row: &Row) -> Parsed<Actual> {
+pub fn run_on_disk(
+    alloc: Global,
+    system: HostRuntime,
+    program: Program,
+    row: &Row,
+) -> Parsed<Actual> {
     let mut files = DiskFiles::new(system);
-    run_over(alloc, row, &mut files)
+    run_over(alloc, program, row, &mut files)
 }
