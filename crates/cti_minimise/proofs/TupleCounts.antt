@@ -76,7 +76,8 @@ module _ (sizes ks : List ℕ) (p : List ℕ → Bool) (numbered : AreNumbered s
 module _ (numbers : TuplesAreNumbered) (all : AllBelow) (any : AnyBelow) (t : Tables) (r : ℕ) where
   -- the number of true tuples, taken by their numbers
   counting : true_tuples t.sizes (relation_at t r)
-      ≡ count_by (rel_at t r) (take (tuple_count t.sizes (relation_at t r).sorts) (tuples t.sizes (relation_at t r).sorts))
+      ≡ count_by (rel_at t r)
+      (take (tuple_count t.sizes (relation_at t r).sorts) (tuples t.sizes (relation_at t r).sorts))
   counting =
       let ks = (relation_at t r).sorts in
       let numbered = numbers t.sizes ks in

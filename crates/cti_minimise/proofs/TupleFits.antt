@@ -1,5 +1,6 @@
 -- A bound on a relation is an exists-forall sentence of each signature that has the relation.
-use Rattle.std.proofs.Common.{◌≡◌, ℕ, zero, suc, ◌+◌, ◌*◌, ◌<◌, ◌≤◌, true, List, [], ◌∷◌, length, get_or, refl, sym, ap, ◌∙◌}
+use Rattle.std.proofs.Common.{◌≡◌, ℕ, zero, suc, ◌+◌, ◌*◌, ◌<◌, ◌≤◌, true, List, [], ◌∷◌, length, get_or, refl, sym}
+use Rattle.std.proofs.Common.{ap, ◌∙◌}
 use Rattle.std.proofs.Common.{subst, arith}
 use Rattle.std.proofs.Math.Nat.{suc-mul}
 use Rattle.std.specs.Prelude.{All}
@@ -61,7 +62,8 @@ some-plain : (ks : List ℕ) (p : FormTree) → HasPlainTerms p → HasPlainTerm
 some-plain [] p h = h
 some-plain (k ∷ ks) p h = some-plain ks p h
 
-tuples-exist : (n : ℕ) (ks : List ℕ) (p : FormTree) → IsExistsForall true p → IsExistsForall true (for_some_tuples n ks p)
+tuples-exist : (n : ℕ) (ks : List ℕ) (p : FormTree) → IsExistsForall true p
+    → IsExistsForall true (for_some_tuples n ks p)
 tuples-exist zero ks p h = h
 tuples-exist (suc n) ks p h = some-exists ks (for_some_tuples n ks p) (tuples-exist n ks p h)
 

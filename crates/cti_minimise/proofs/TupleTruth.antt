@@ -2,7 +2,8 @@
 use Rattle.std.proofs.Common.{◌≡◌, ◌⊎◌, ℕ, zero, suc, ◌+◌, ◌*◌, ◌<◌, ◌≤◌, ◌==◌, true, not, List, []}
 use Rattle.std.proofs.Common.{◌∷◌, length, get_or, inl, inr, refl, sym, ap, ◌∙◌, ⊎_elim, arith}
 use Rattle.std.proofs.Math.Nat.{suc-mul}
-use Rattle.std.proofs.lemmas.Bool.{eqb-true, eq-eqb, or_cases, or_left, or_right, and_parts, and_from, not-true, cases_lt}
+use Rattle.std.proofs.lemmas.Bool.{eqb-true, eq-eqb, or_cases, or_left, or_right, and_parts, and_from, not-true}
+use Rattle.std.proofs.lemmas.Bool.{cases_lt}
 use Rattle.std.proofs.lemmas.Bool.{false≢true, not_from_false, cases_Bool}
 use Rattle.fol_sig.specs.Tables.{Tables, InRange, Reading, reading, size_at, rel_at}
 use Rattle.fol_formula.specs.Syntax.{FormTree}

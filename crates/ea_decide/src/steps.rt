@@ -1,5 +1,6 @@
 // What leads from one step of a decision to the next. Each function is its contract, and does nothing.
-ghost use Rattle.ea_decide.specs.Steps.{RoomIsWithinLimits, StrataStay, ClausesRefute, ModelsGiveValues, ValuesAreReadable};
+ghost use Rattle.ea_decide.specs.Steps.{RoomIsWithinLimits, StrataStay, ClausesRefute, ModelsGiveValues};
+ghost use Rattle.ea_decide.specs.Steps.{ValuesAreReadable};
 
 /// Within the limits the terms can be numbered, and the clauses given to a solver.
 pub fn room_law()

@@ -64,9 +64,10 @@ pub fn run<F: Files, O: Sink, E: Sink>(
         result.loaded.first result.loaded.second
         (λ text other a. OfEmit (IsEmitAnswer emission text) a) result.outcome }
 
-    // `houdini FILE`: the conjectures of the text's one model are dropped one by one, each by an execution that breaks it
-    // from a structure that satisfies those held at that time. Every set of conjectures that is inductive apart from
-    // aborts is within those that are kept, and where no goal was left open, they are such a set themselves.
+    // `houdini FILE`: the conjectures of the text's one model are dropped one by one, each by an execution that
+    // breaks it from a structure that satisfies those held at that time. Every set of conjectures that is inductive
+    // apart from aborts is within those that are kept, and where no goal was left open, they are such a set
+    // themselves.
     ensures houdini { (file : List ℕ) (asked : Asked)
         → line_of (map (λ w. string_bytes w) words.now) ≡ Some (houdini file asked)
         → EndsOne (F.told files.old file) model_limit (F.faults files.old) (F.faults files.new)
@@ -84,10 +85,10 @@ pub fn run<F: Files, O: Sink, E: Sink>(
         result.loaded.first result.loaded.second
         (λ text other a. OfBmc (IsBmcAnswer bound text) a) result.outcome }
 
-    // `replay MODEL REPORT`: of the model that the first text has, the second is no printed report, and the first line is
-    // named that none has there; or it says one thing, and this is judged by truth and by following its executions. It
-    // is confirmed exactly where each execution that it shows is a counterexample of its goal and ends as is printed,
-    // and the verdict is that of its groups; else the least line is named that says what is not so.
+    // `replay MODEL REPORT`: of the model that the first text has, the second is no printed report, and the first
+    // line is named that none has there; or it says one thing, and this is judged by truth and by following its
+    // executions. It is confirmed exactly where each execution that it shows is a counterexample of its goal and ends
+    // as is printed, and the verdict is that of its groups; else the least line is named that says what is not so.
     ensures replay { (model report : List ℕ)
         → line_of (map (λ w. string_bytes w) words.now) ≡ Some (replay model report)
         → EndsTwo (F.told files.old model) (F.told files.old report) model_limit report_limit

@@ -14,7 +14,8 @@ use Rattle.json_report.specs.StructureData.{structure_data}
 
 -- {"variable":"m","element":1}
 unfoldable pub havoc_data : Names → ℕ → ℕ → Data
-havoc_data names v x = object_of ((codes "variable", name_data names.functions v) ∷ (codes "element", number_data x) ∷ [])
+havoc_data names v x = object_of
+    ((codes "variable", name_data names.functions v) ∷ (codes "element", number_data x) ∷ [])
 
 -- the havocs of a path, in order, with the elements that they take
 abbrev pub havocs_data : Names → List PrimitiveTree → List ℕ → List Data

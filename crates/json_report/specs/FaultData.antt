@@ -16,7 +16,8 @@ code_data code = text_data (codes "F" ++ decimal (number_of code))
 unfoldable pub fault_data : List ℕ → Fault → Data
 fault_data text fault =
     object_of ((codes "code", code_data fault.code) ∷ (codes "text", string (text_of fault.code))
-    ∷ (codes "line", number_data (line_of text fault.at)) ∷ (codes "column", number_data (column_of text fault.at)) ∷ [])
+    ∷ (codes "line", number_data (line_of text fault.at)) ∷ (codes "column", number_data (column_of text fault.at))
+    ∷ [])
 
 -- what a command answers to such a text
 unfoldable pub faulty_members : List ℕ → List ℕ → Fault → Members

@@ -1,5 +1,5 @@
-//! What was found of a model, as JSON: structures, executions, and the report of a check. Each value is the one that the
-//! definition names; how it is written is for `json_values`.
+//! What was found of a model, as JSON: structures, executions, and the report of a check. Each value is the one that
+//! the definition names; how it is written is for `json_values`.
 #![tactic(auto)]
 
 mod execution;

@@ -43,7 +43,8 @@ pub fn holds_alone(alloc: Global, checked: &Checked, goal: &Goal, limits: &Limit
     }
 }
 
-// Whether no step of the path changes a symbol of the formula. It says when trying is worth it, and no more rests on it.
+// Whether no step of the path changes a symbol of the formula. It says when trying is worth it, and no more rests on
+// it.
 fn leaves(path: &Path, formula: &Formula) -> bool {
     for primitive in path.primitives() {
         if let Some(symbol) = changed_by(primitive) {

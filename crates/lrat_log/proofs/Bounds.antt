@@ -138,7 +138,9 @@ same_digits (suc n) c d e v above most =
   where
     at : (b : Bool) → eqb v (suc n) ≡ b → digit (suc n) c ≡ digit (suc n) d
         → (v ≤ n → digit v c ≡ digit v d) → digit v c ≡ digit v d
-    at true q last r = let s : v ≡ suc n = grind (arith, common_steps, q) in subst (λ x. digit x c ≡ digit x d) (sym s) last
+    at true q last r =
+        let s : v ≡ suc n = grind (arith, common_steps, q) in
+        subst (λ x. digit x c ≡ digit x d) (sym s) last
     at false q last r = r (grind (arith, common_steps, q, most))
 
 member_literal : (n : ℕ) (ls : List ℕ) → AreLiterals n ls → (l : ℕ) → member l ls ≡ true → IsLiteral n l
@@ -289,7 +291,8 @@ module _ (laws : AreOpposites) where
       let held = held_of f in
       let last = length f.clauses in
       let bound = length-le_from_distinct_below (code n [] ∷ codes_of n lines) (3 ^ n)
-      (IsDistinct-cons eqb (code n []) (codes_of n lines) (not_empty n held last lines a) (distinct n held last lines a))
+      (IsDistinct-cons eqb (code n []) (codes_of n lines) (not_empty n held last lines a)
+      (distinct n held last lines a))
       (below_bound n (Add 0 [] [] ∷ lines)) in
       let same = length-codes_of n held last lines a in
       omega arith

@@ -20,8 +20,8 @@ use Rattle.model_commands.specs.declared.check.CheckAnswer.TheVariants.{Checked,
 
 -- The report has all groups of the model, and each of its lines says what is so. Where it says `inductive`, no run of
 -- the model aborts or breaks a conjecture. It is made of right answers to all goals under the limits, on the counts of
--- whole sentences or of lean ones: a group that fails is shown by its first failing path, and one of which no path fails
--- by its first path that was left open, if any was.
+-- whole sentences or of lean ones: a group that fails is shown by its first failing path, and one of which no path
+-- fails by its first path that was left open, if any was.
 pub record IsCheckedBy (counted : Counted) (limits : Ceilings) (model : ModelTree) (report : Report) : Type 0 where
   pub reports : Reports model report
   pub safe : report.verdict ≡ verdict.Inductive → Safe model

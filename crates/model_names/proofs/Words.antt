@@ -51,7 +51,8 @@ name_in_front (b ∷ bs) k e = by (is_letter b) (is_digit b) e
   where
     by : (l d : Bool)
         → cond l (word_front (b ∷ bs) (prefix_len goes_on (b ∷ bs)))
-        (cond d (number_front (prefix_len is_digit (b ∷ bs)) (prefix_len goes_on (b ∷ bs))) (sign_front (sign_at (b ∷ bs))))
+        (cond d (number_front (prefix_len is_digit (b ∷ bs)) (prefix_len goes_on (b ∷ bs)))
+        (sign_front (sign_at (b ∷ bs))))
         ≡ front.Token kind.Name k → IsWord (take k (b ∷ bs))
     by true d h =
         let n : k ≡ prefix_len goes_on (b ∷ bs) =
@@ -59,7 +60,8 @@ name_in_front (b ∷ bs) k e = by (is_letter b) (is_digit b) e
         subst (λ (i : ℕ). IsWord (take i (b ∷ bs))) (sym n) (all_go_on (b ∷ bs))
     by false true h =
         absurd (no_number (prefix_len is_digit (b ∷ bs)) k
-        (nat_lt 9 (prefix_len is_digit (b ∷ bs)) || nat_lt (prefix_len is_digit (b ∷ bs)) (prefix_len goes_on (b ∷ bs))) h)
+        (nat_lt 9 (prefix_len is_digit (b ∷ bs)) || nat_lt (prefix_len is_digit (b ∷ bs))
+        (prefix_len goes_on (b ∷ bs))) h)
     by false false h = absurd (no_sign (sign_at (b ∷ bs)) k h)
 
 -- the token is no name, or a word of the text
@@ -74,7 +76,8 @@ read_words text (t ∷ tokens) bs at rest end is (n, token, start, stop, more) =
       let here = name_in_front (drop (gap_len false bs) bs) n (token ∙ ap (λ k. front.Token k n) name) in
       let long : t.end - t.start ≡ n = omega (arith, stop) in
       let there : drop (gap_len false bs) bs ≡ drop t.start text =
-      ap (drop (gap_len false bs)) is ∙ drop-drop (gap_len false bs) at text ∙ ap (λ (k : ℕ). drop k text) (sym start) in
+      ap (drop (gap_len false bs)) is ∙ drop-drop (gap_len false bs) at text
+      ∙ ap (λ (k : ℕ). drop k text) (sym start) in
       subst (λ (k : ℕ). IsWord (take k (drop t.start text))) (sym long) (subst (λ xs. IsWord (take n xs)) there here),
   read_words text tokens (drop n (drop (gap_len false bs) bs)) t.end rest end
       (ap (drop n) (ap (drop (gap_len false bs)) is ∙ drop-drop (gap_len false bs) at text

@@ -21,8 +21,8 @@ use Rattle.replay_command.specs.declared.replay.ReplayAnswer.TheVariants.{Fault,
 abbrev pub report_limit : ℕ
 report_limit = 268435456
 
--- Confirmed: each execution that is shown is a counterexample of its goal and ends as is printed, and the verdict is that
--- of the groups. Denied: what the line says is not so, and no line before it says what is not so.
+-- Confirmed: each execution that is shown is a counterexample of its goal and ends as is printed, and the verdict is
+-- that of the groups. Denied: what the line says is not so, and no line before it says what is not so.
 abbrev pub IsJudged : ModelTree → Printed → Judged → Type 0
 IsJudged m p (Confirmed n) = IsConfirmed m p n
 IsJudged m p (Denied line code) = IsFirstBroken (demands m p) line code

@@ -296,7 +296,8 @@ module _ (cuts : LinesAreCut) (updates : UpdatesKeepSymbols) (law : GoalPathsFit
                   (all_append Whole (table_lines m.names s) (numbers_line (codes "  havoc:") shown.trace.havoc ∷ last)
                   (whole_tables s fs sizes) (
                     whole_numbers (codes "  havoc:") shown.trace.havoc refl
-                        (in_range_small s.sizes (small s fs sizes) (sorts_along (symbols m.signature) (goal_path m shown.goal))
+                        (in_range_small s.sizes (small s fs sizes)
+                        (sorts_along (symbols m.signature) (goal_path m shown.goal))
                         shown.trace.havoc in_range),
                     whole_end group.about (outcome_of m shown) refl fails (values_small group.about execution.end),
                   )),

@@ -75,12 +75,14 @@ tables_between m t s line lo le =
     let fs : ℕ = length m.signature.functions in
     let first : Between lo (relation_demands t s line 0 (length m.signature.relations))
     ((line + (0 + length m.signature.relations)) * 8 + 5) =
-    each_between (λ r. record { line = line + r; code = denial.WrongEnd; met = same_relation t s r }) line (λ i. refl) (λ i. refl) 0
+    each_between (λ r. record { line = line + r; code = denial.WrongEnd; met = same_relation t s r }) line (λ i. refl)
+    (λ i. refl) 0
     (length m.signature.relations) lo (omega (arith, le)) in
     let second : Between ((line + (0 + length m.signature.relations)) * 8 + 5)
     (function_demands t s (line + length m.signature.relations) 0 (length m.signature.functions))
     (((line + length m.signature.relations) + (0 + length m.signature.functions)) * 8 + 5) =
-    each_between (λ f. record { line = (line + length m.signature.relations) + f; code = denial.WrongEnd; met = same_function t s f })
+    each_between (λ f. record
+    { line = (line + length m.signature.relations) + f; code = denial.WrongEnd; met = same_function t s f })
     (line + length m.signature.relations) (λ i. refl) (λ i. refl) 0 (length m.signature.functions)
     ((line + (0 + length m.signature.relations)) * 8 + 5) (omega arith) in
     higher lo (table_demands m t s line)
@@ -222,7 +224,8 @@ denied_by p None line code e = absurd (cc e)
 denied_by p (Some f) line code e =
     let l : f.line ≡ line = cc e in
     let c : f.code ≡ code = cc e in
-    ap (λ n. Some (record { line = n; code = f.code })) l ∙ ap (λ (n : DenialCode). Some (record { line = line; code = n })) c
+    ap (λ n. Some (record { line = n; code = f.code })) l
+    ∙ ap (λ (n : DenialCode). Some (record { line = line; code = n })) c
 
 pub denied_is_least : DeniedIsLeast
 denied_is_least m p line code read e =

@@ -286,20 +286,30 @@ are_met : (m : ModelTree) (g : PrintedGroup) (shown : Counterexample) (after : O
     → first_unmet (execution_demands m g shown after) ≡ None → AreMet m g shown after
 are_met m g shown after met =
     let o : Option Outcome = outcome_of m shown in
-    let first = head_met (record { line = before_line g; code = denial.AxiomIsFalse; met = satisfies shown.structure m.axioms })
+    let first = head_met (record
+    { line = before_line g; code = denial.AxiomIsFalse; met = satisfies shown.structure m.axioms })
     (record { line = before_line g; code = denial.ConjectureIsFalse; met = is_kept_before m g.stage shown.structure }
     ∷ outcome_demands m g shown after (outcome_of m shown)) met in
-    let more = tail_met (record { line = before_line g; code = denial.AxiomIsFalse; met = satisfies shown.structure m.axioms })
+    let more = tail_met (record
+    { line = before_line g; code = denial.AxiomIsFalse; met = satisfies shown.structure m.axioms })
     (record { line = before_line g; code = denial.ConjectureIsFalse; met = is_kept_before m g.stage shown.structure }
     ∷ outcome_demands m g shown after (outcome_of m shown)) met in
-    let second = head_met (record { line = before_line g; code = denial.ConjectureIsFalse; met = is_kept_before m g.stage shown.structure })
+    let second = head_met
+    (record {
+      line = before_line g;
+      code = denial.ConjectureIsFalse;
+      met = is_kept_before m g.stage
+          shown.structure;
+    })
     (outcome_demands m g shown after (outcome_of m shown)) more in
-    let rest = tail_met (record { line = before_line g; code = denial.ConjectureIsFalse; met = is_kept_before m g.stage shown.structure })
+    let rest = tail_met (record
+    { line = before_line g; code = denial.ConjectureIsFalse; met = is_kept_before m g.stage shown.structure })
     (outcome_demands m g shown after (outcome_of m shown)) more in
     record {
       lawful = first;
       kept = second;
-      through = head_met (record { line = havoc_line m g; code = denial.Blocked; met = goes_through (outcome_of m shown) })
+      through = head_met (record
+          { line = havoc_line m g; code = denial.Blocked; met = goes_through (outcome_of m shown) })
           (end_demands m g g.about shown after (outcome_of m shown)) rest;
       last = tail_met (record { line = havoc_line m g; code = denial.Blocked; met = goes_through (outcome_of m shown) })
           (end_demands m g g.about shown after (outcome_of m shown)) rest;
@@ -330,7 +340,8 @@ module _ (numbered : TuplesAreNumbered) (by_paths : PathHasFollowedOutcomes) (ki
         (subst (λ a. is_for a exec.is_goal.path ≡ true) about_is exec.is_goal.kind)
         (λ t e. none_ends by_paths kinds m.axioms exec.is_goal.path shown.trace.havoc shown.structure count t
         (sym out ∙ e))
-        (λ e. one_aborts by_paths kinds m.axioms exec.is_goal.path shown.trace.havoc shown.structure count (sym out ∙ e))
+        (λ e. one_aborts by_paths kinds m.axioms exec.is_goal.path shown.trace.havoc shown.structure count (sym out
+        ∙ e))
         (λ t e. keeps_sizes m.axioms exec.is_goal.path shown.trace.havoc shown.structure t (sym out ∙ e))
         exec.end so.through so.last in
         record {

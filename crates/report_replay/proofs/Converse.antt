@@ -178,7 +178,12 @@ module _ (numbered : TuplesAreNumbered) (m : ModelTree) where
       first_met (record { line = before_line g; code = denial.AxiomIsFalse; met = satisfies shown.structure m.axioms })
       (record { line = before_line g; code = denial.ConjectureIsFalse; met = is_kept_before m g.stage shown.structure }
       ∷ outcome_demands m g shown after (outcome_of m shown)) lawful.axioms
-      (first_met (record { line = before_line g; code = denial.ConjectureIsFalse; met = is_kept_before m g.stage shown.structure })
+      (first_met (record {
+        line = before_line g;
+        code = denial.ConjectureIsFalse;
+        met = is_kept_before m g.stage
+            shown.structure;
+      })
       (outcome_demands m g shown after (outcome_of m shown)) lawful.conjectures
       (first_met (record { line = havoc_line m g; code = denial.Blocked; met = goes_through (outcome_of m shown) })
       (end_demands m g g.about shown after (outcome_of m shown)) (through m after (outcome_of m shown) ends)

@@ -44,7 +44,11 @@ fn fault_before(checked: &Checked, stage: Stage, structure: &Structure, line: u6
     requires { FitsStructure (symbols checked.now.signature) structure.now }
     ensures { result ≡ first_unmet (
         record { line = line; code = denial.AxiomIsFalse; met = satisfies structure.now checked.now.axioms }
-        ∷ record { line = line; code = denial.ConjectureIsFalse; met = is_kept_before checked.now stage structure.now } ∷ []) }
+        ∷ record {
+          line = line;
+          code = denial.ConjectureIsFalse;
+          met = is_kept_before checked.now stage structure.now;
+        } ∷ []) }
 {
     if !are_true(checked.model().axioms(), structure) {
         return Some(Fault {

@@ -100,7 +100,8 @@ module _ (d : Leg) (m : ModelTree) (rest legs : List Leg) (b : Bool) (some : 1 �
         ∙ same
 
     pub aborts_here : b ≡ true → true ≡ has_abort (joined m legs)
-    aborts_here yes_it = sym (ap (λ x. x || has_abort (joined m (take (length rest - 1) (drop 1 rest)))) yes_it) ∙ both_parts
+    aborts_here yes_it = sym
+        (ap (λ x. x || has_abort (joined m (take (length rest - 1) (drop 1 rest)))) yes_it) ∙ both_parts
 
     pub aborts_behind : b ≡ false
         → has_abort (joined m (take (length rest - 1) (drop 1 rest))) ≡ has_abort (joined m legs)
@@ -128,4 +129,5 @@ end_here d counted limits m P g whole old now rest w some is left =
     let leg = get_or rest 0 d in
     let after = take (length rest - 1) (drop 1 rest) in
     subst (λ r. Left counted limits m P whole old r now)
-    (ap (λ r. map g r) (first_leg rest leg some (head_is rest d leg some refl)) ∙ ap (λ x. x ∷ map g after) (sym is)) left
+    (ap (λ r. map g r) (first_leg rest leg some (head_is rest d leg some refl)) ∙ ap (λ x. x ∷ map g after) (sym is))
+    left

@@ -23,9 +23,11 @@ use Rattle.walks.specs.declared.leg.Walk.{Walk}
 use Rattle.walks.specs.Walks.{goals_of_length, count_of}
 use Rattle.walks.specs.Runs.{IsForbidden}
 use Rattle.walks.specs.Laws.{IsInit, IsAction, AreLater, AreInOrder, IsWalk, GoalsAreWalks}
-use Rattle.rml_bmc.specs.Shown.{outcome_of, IsPart, AreParts, last_from, leg_of, IsShownRun, IsRunAlong, step_before, steps_of}
+use Rattle.rml_bmc.specs.Shown.{outcome_of, IsPart, AreParts, last_from, leg_of, IsShownRun, IsRunAlong, step_before}
+use Rattle.rml_bmc.specs.Shown.{steps_of}
 use Rattle.rml_bmc.specs.Shown.{final_or, final_of, run_with, BreaksOff}
-use Rattle.rml_bmc.specs.Lengths.{AreDecisions, first_run, first_open, open_or_safe, broken_or, IsDecidedLength, IsLength}
+use Rattle.rml_bmc.specs.Lengths.{AreDecisions, first_run, first_open, open_or_safe, broken_or, IsDecidedLength}
+use Rattle.rml_bmc.specs.Lengths.{IsLength}
 use Rattle.rml_bmc.specs.Laws.{BrokenIsBroken, BrokenIsShown}
 use Rattle.rml_bmc.specs.declared.answer.Part.{Part}
 use Rattle.rml_bmc.specs.declared.answer.Run.{Run}
@@ -67,7 +69,8 @@ module _ (blocks : BlockHasPathOutcomes) (followed : PathHasFollowedOutcomes) (f
       ((followed m.axioms is.path s (outcome_of part.end)).1
       (record { elements = part.trace.havoc; count = is.count; ends = is.ends }))
 
-  init_outcome : (s : Stage) (from : Tables) (o : Outcome) → IsInit s → OfBlock s from o → HasOutcome m.axioms m.init from o
+  init_outcome : (s : Stage) (from : Tables) (o : Outcome) → IsInit s → OfBlock s from o
+      → HasOutcome m.axioms m.init from o
   init_outcome stage.Init from o is b =
       let same : b.block ≡ m.init = sym (cc b.is_block) in subst (λ c. HasOutcome m.axioms c from o) same b.outcome
   init_outcome (stage.Action a) from o is b = absurd is

@@ -18,8 +18,9 @@ pub record ShowsBreak (m : ModelTree) (run : Run) : Type 0 where
   pub breaks : BreaksOff m run
 
 -- The lengths 0, 1, .. are answered in order, up to the bound or to the first that is broken. Where the verdict is
--- safe, no run with at most so many actions aborts or breaks a conjecture; no goal of a length that is called safe has a
--- run; and a length that is broken shows a run of the model that aborts or breaks a conjecture at its last part.
+-- safe, no run with at most so many actions aborts or breaks a conjecture; no goal of a length that is called safe
+-- has a run; and a length that is broken shows a run of the model that aborts or breaks a conjecture at its last
+-- part.
 pub record IsBounded (counted : Counted) (limits : Ceilings) (m : ModelTree) (steps : ℕ) (b : Bounded) : Type 0 where
   pub lengths : AreLengths counted limits m 0 (steps + 1) b.lengths
   pub safe : verdict_of b.lengths ≡ verdict.Safe → SafeWithin m steps

@@ -48,8 +48,8 @@ fn begins_with_one(walks: &[Row<Leg>], legs: &[Leg]) -> bool
     false
 }
 
-/// What is known of a walk: that it begins with one of those that were found to be infeasible, or is found to be, and is
-/// one of them from now on; or nothing.
+/// What is known of a walk: that it begins with one of those that were found to be infeasible, or is found to be, and
+/// is one of them from now on; or nothing.
 pub fn look_at(
     alloc: Global,
     checked: &Checked,

@@ -2,8 +2,8 @@
 //!
 //! `Files` and `Sink` say what the outside may answer, by a count of its faults and by what it tells of
 //! its contents. `MemFiles` and `MemSink` stand in memory, tell all, and fail at the calls that they are
-//! told; `DiskFiles` and `StdSink` are the files and the streams of the system, and tell what these tell; `InputFiles` are the
-//! files with standard input among them.
+//! told; `DiskFiles` and `StdSink` are the files and the streams of the system, and tell what these tell;
+//! `InputFiles` are the files with standard input among them.
 #![tactic(auto)]
 
 mod bytes;

@@ -1,8 +1,8 @@
-//! Prints what `report` of `verdicts` says of worked models by whole and by lean counts, under the same limits, where goals pass the
-//! limit of the ground size by the counts of their whole refuting sentences, and not by those of their lean ones: the
-//! verdict, how many groups hold, and why groups are left open. The whole counts in `stdout` are those of the program,
-//! the lean ones were counted apart, and z3 says too that all goals of both models hold. The gate runs the program as
-//! two compilers make it, and compares what it writes to the byte.
+//! Prints what `report` of `verdicts` says of worked models by whole and by lean counts, under the same limits, where
+//! goals pass the limit of the ground size by the counts of their whole refuting sentences, and not by those of their
+//! lean ones: the verdict, how many groups hold, and why groups are left open. The whole counts in `stdout` are those
+//! of the program, the lean ones were counted apart, and z3 says too that all goals of both models hold. The gate
+//! runs the program as two compilers make it, and compares what it writes to the byte.
 //!
 //! Each line of `lean.txt` has a limit of the ground size and the file of a model.
 #![tactic(auto)]

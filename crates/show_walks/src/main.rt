@@ -1,7 +1,8 @@
 //! Follows each run that `bounded` of `rml_bmc` shows, part by part, with the code that follows paths (`rml_exec`), and
-//! says how many of them do what they are said to do: an abort at the last part, or an end where the conjecture is false.
-//! The models are 300, made by chance and always the same; their runs have up to two actions. All that `stdout` must say
-//! is that none differs. The gate runs the program as two compilers make it, and compares what it writes to the byte.
+//! says how many of them do what they are said to do: an abort at the last part, or an end where the conjecture is
+//! false. The models are 300, made by chance and always the same; their runs have up to two actions. All that
+//! `stdout` must say is that none differs. The gate runs the program as two compilers make it, and compares what it
+//! writes to the byte.
 #![tactic(auto)]
 
 mod following;

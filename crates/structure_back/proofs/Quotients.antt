@@ -1,11 +1,13 @@
 -- The structure of the classes, by its definition: its tables are read off the members of the classes.
-use Rattle.std.proofs.Common.{◌≡◌, ℕ, ◌<◌, Bool, true, false, List, [], length, get_or, map, refl, sym, ap, ◌∙◌, subst, arith, ⊎_elim}
+use Rattle.std.proofs.Common.{◌≡◌, ℕ, ◌<◌, Bool, true, false, List, [], length, get_or, map, refl, sym, ap, ◌∙◌}
+use Rattle.std.proofs.Common.{subst, arith, ⊎_elim}
 use Rattle.std.specs.Prelude.{All}
 use Rattle.std.proofs.lemmas.Bool.{cases_lt}
 use Rattle.std.proofs.lemmas.List.{length-map, get_or_past}
 use Rattle.std.proofs.lemmas.List.Elements.{All-from_get_or}
 use Rattle.fol_sig.specs.Symbols.{Symbols, FitsStructure, AreSorted}
-use Rattle.fol_sig.specs.Tables.{Tables, RelationTable, FunctionTable, InRange, IsFullRelation, IsFullFunction, tuple_count, place_of, rel_at}
+use Rattle.fol_sig.specs.Tables.{Tables, RelationTable, FunctionTable, InRange, IsFullRelation, IsFullFunction}
+use Rattle.fol_sig.specs.Tables.{tuple_count, place_of, rel_at}
 use Rattle.fol_sig.specs.Tuples.{TuplesAreNumbered, tuple_at}
 use Rattle.ground_terms.specs.Terms.{Lists, term_counts, AreTerms, StandOnce}
 use Rattle.ground_terms.specs.Numberings.{numbering, IsPlaced}

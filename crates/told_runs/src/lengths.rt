@@ -1,7 +1,8 @@
 // The lengths in order, and the verdict.
 ghost use Rattle.std.specs.Prelude.{◌≡◌, ◌-◌, ◌++◌, length, OnOk, IfOk};
 ghost use Rattle.std.specs.List.{AllByRecursion};
-ghost use Rattle.told_runs.specs.RunsText.{broken_text, paths_words, bound_words, open_line, open_text, all_broken, all_open};
+ghost use Rattle.told_runs.specs.RunsText.{broken_text, paths_words, bound_words, open_line, open_text, all_broken};
+ghost use Rattle.told_runs.specs.RunsText.{all_open};
 ghost use Rattle.told_runs.specs.RunsText.{set_off, safe_line, verdict_line, runs_text, CanTell};
 
 use crate::showing::{push_actions, push_run};

@@ -1,4 +1,5 @@
-// What is told of each cell of a structure's tables. The texts differ in what they say of a cell, so they share one walk.
+// What is told of each cell of a structure's tables. The texts differ in what they say of a cell, so they share one
+// walk.
 ghost use Rattle.std.specs.Prelude.{◌≡◌, ◌<◌, ◌^◌, ◌++◌, All, length, List, ℕ, OnOk, IfOk};
 ghost use Rattle.fol_sig.specs.Tables.{Tables, numbers, tuple_count};
 ghost use Rattle.fol_sig.specs.Symbols.{FitsStructure, symbols};

@@ -25,7 +25,8 @@ use Rattle.verdicts.specs.declared.deciding.OpenGoal.{OpenGoal}
 
 -- right answers to the goals that are left make an answer to all, with the first open goal so far
 abbrev pub Completes : Counted → Ceilings → ModelTree → ℕ → List Goal → Option OpenGoal → List Goal → Type 0
-Completes counted limits m paths goals earliest rest = (answers : List GoalAnswer) → AreAnswers counted limits m rest answers
+Completes counted limits m paths goals earliest rest = (answers : List GoalAnswer)
+    → AreAnswers counted limits m rest answers
     → IsAnswerTo counted limits m paths goals (fails_or paths (first_failing answers)
     (open_or earliest (open_or_holds rest answers)))
 

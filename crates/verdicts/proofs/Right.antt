@@ -176,7 +176,8 @@ module _ (counted : Counted) (limits : Ceilings) (m : ModelTree) (group : goals.
     are_goals : (g : Goal) → SomeOf (λ x. x ≡ g) (group_goals m group) → IsGoal m g
     are_goals g here = (listed m g).0 (some_flat (group_goals m) g group (groups_of m) among here)
 
-    left : (answers : List GoalAnswer) (path : ℕ) (c : Cause) → AreAnswers counted limits m (group_goals m group) answers
+    left : (answers : List GoalAnswer) (path : ℕ) (c : Cause)
+        → AreAnswers counted limits m (group_goals m group) answers
         → first_failing answers ≡ None
         → open_or_holds (group_goals m group) answers ≡ answer.Undecided path c → IsLeftOpen m group path
     left answers path c right e f = record {
@@ -233,10 +234,12 @@ module _ (counted : Counted) (limits : Ceilings) (m : ModelTree) (group : goals.
       (are_at counted limits m group 1 (stage_paths m group.stage)) h.right (first_failing h.answers) refl
       (open_or_holds (group_goals m group) h.answers) refl)
 
-each_least : (counted : Counted) (limits : Ceilings) (m : ModelTree) (gs : List Group) → AllByRecursion (IsGroupNow counted limits m) gs
+each_least : (counted : Counted) (limits : Ceilings) (m : ModelTree) (gs : List Group)
+    → AllByRecursion (IsGroupNow counted limits m) gs
     → AllByRecursion (λ g. IsLeastAsSaid limits m g.answer) gs
 each_least counted limits m [] h = tt
-each_least counted limits m (g ∷ gs) h = (answer_least counted limits m (head_of g) g.answer h.0, each_least counted limits m gs h.1)
+each_least counted limits m (g ∷ gs) h
+    = (answer_least counted limits m (head_of g) g.answer h.0, each_least counted limits m gs h.1)
 
 pub shown_are_least : ShownAreLeast
 shown_are_least counted limits m r h = each_least counted limits m r.groups h.answers

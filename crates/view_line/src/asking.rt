@@ -65,7 +65,8 @@ fn why_of<'a>(request: Option<Request<'a>>) -> Option<Question<'a>>
 
 // The question of the words that are left.
 fn read_question<'a>(alloc: Global, words: &'a [String]) -> Mem<Option<Question<'a>>>
-    ensures line { IfOk result (λ q. option_map question_line q ≡ asked_of (map (λ w. string_bytes w) words.entry.now)) }
+    ensures line { IfOk result
+        (λ q. option_map question_line q ≡ asked_of (map (λ w. string_bytes w) words.entry.now)) }
     ensures ranges { IfOk result (λ q. IfSome q HasQuestionRanges) }
 {
     let [command, ..] = words else {
@@ -104,8 +105,8 @@ fn offered<'a>(question: Option<Question<'a>>, options: Option<Options>) -> Opti
     }
 }
 
-/// What the words ask for, where `rest` are those without the options of `ivyview`; or nothing where they are no command
-/// line.
+/// What the words ask for, where `rest` are those without the options of `ivyview`; or nothing where they are no
+/// command line.
 pub fn read_ask<'a>(alloc: Global, words: &[String], rest: &'a [String]) -> Mem<Option<Ask<'a>>>
     requires { map (λ w. string_bytes w) rest.now ≡ others (map (λ w. string_bytes w) words.now) }
     ensures line { IfOk result (λ a. option_map ask_line a ≡ ask_of (map (λ w. string_bytes w) words.now)) }

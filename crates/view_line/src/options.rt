@@ -36,7 +36,8 @@ fn is_own(word: &str) -> bool
 /// The words without these options.
 #[tactic(auto, using(std::proofs::Common::append_assoc))]
 pub fn other_words(alloc: Global, words: &[String]) -> Mem<Vec<String>>
-    ensures { IfOk result (λ rest. map (λ w. string_bytes w) rest.items ≡ others (map (λ w. string_bytes w) words.now)) }
+    ensures { IfOk result
+        (λ rest. map (λ w. string_bytes w) rest.items ≡ others (map (λ w. string_bytes w) words.now)) }
 {
     let mut kept = Vec::new(alloc);
     let mut rest = words;

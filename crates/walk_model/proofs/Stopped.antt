@@ -33,7 +33,8 @@ module _ (ends : PathsEndAtAbort) (followed : PathHasFollowedOutcomes) (kinds : 
   stopped = joined m legs ++ abort ∷ []
 
   none_by : HasNone (stopped_model m legs) (walk_goal about.Abort) → (s : Tables) (o : Outcome)
-      → FitsStructure (symbols m.signature) s → satisfies s m.axioms ≡ true → PathHasOutcome m.axioms (joined m legs) s o
+      → FitsStructure (symbols m.signature) s → satisfies s m.axioms ≡ true
+      → PathHasOutcome m.axioms (joined m legs) s o
       → ⊥
   none_by none s aborted fits lawful h = cc (sym goes ∙ kinds.aborts m.axioms (joined m legs) s h)
   none_by none s (ended new) fits lawful h =

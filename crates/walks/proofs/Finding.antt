@@ -55,7 +55,8 @@ module _ (blocks : BlockHasPathOutcomes) (kinds : PathsKeepKind) (m : ModelTree)
   goals_aborted s legs e h =
       subst (λ b. SomeOf (RunFrom s) (cond b (goal_along legs about.Abort ∷ []) (open_goals m legs))) (sym e) (inl h)
 
-  goals_open : (s : Tables) (legs : List Leg) → has_abort (joined m legs) ≡ false → SomeOf (RunFrom s) (open_goals m legs)
+  goals_open : (s : Tables) (legs : List Leg) → has_abort (joined m legs) ≡ false
+      → SomeOf (RunFrom s) (open_goals m legs)
       → GoalsOf s legs
   goals_open s legs e h =
       subst (λ b. SomeOf (RunFrom s) (cond b (goal_along legs about.Abort ∷ []) (open_goals m legs))) (sym e) h
@@ -190,7 +191,8 @@ module _ (blocks : BlockHasPathOutcomes) (kinds : PathsKeepKind) (m : ModelTree)
       (goals_open s (leg ∷ []) (has_abort-one m leg ∙ kinds.ends m.axioms (leg_path m leg) s t h)
       (some_right (RunFrom s) broken stops
       (some_mapped (RunFrom s) (λ l. goal_along ((leg ∷ []) ++ l ∷ []) about.Abort) ends
-      (some_then (λ l. l ≡ leg_at stage.Final last.number) (λ l. RunFrom s (goal_along ((leg ∷ []) ++ l ∷ []) about.Abort))
+      (some_then (λ l. l ≡ leg_at stage.Final last.number)
+      (λ l. RunFrom s (goal_along ((leg ∷ []) ++ l ∷ []) about.Abort))
       ends (last.is_leg has_abort (kinds.aborts m.axioms last.path t last.outcome))
       (λ l e. subst (λ x. RunFrom s (goal_along (leg ∷ x ∷ []) about.Abort)) (sym e)
       (aborted, inr (t, h, inl (refl, aborts)), refl))))))

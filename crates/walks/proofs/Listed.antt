@@ -30,7 +30,8 @@ listed_among test s n i j [] p e at is = absurd (cc at)
 listed_among test s n zero j (q ∷ ps) p e at is =
     let same : q ≡ p = cc at in
     let here : n ≡ j = omega arith in
-    let first : SomeOf (λ leg. leg ≡ leg_at s j) (leg_at s n ∷ legs_among test s (suc n) ps) = inl (ap (leg_at s) here) in
+    let first : SomeOf (λ leg. leg ≡ leg_at s j) (leg_at s n ∷ legs_among test s (suc n) ps) = inl
+    (ap (leg_at s) here) in
     subst (λ b. SomeOf (λ leg. leg ≡ leg_at s j) (cond b (leg_at s n ∷ legs_among test s (suc n) ps)
     (legs_among test s (suc n) ps))) (sym (ap test same ∙ is)) first
 listed_among test s n (suc i) j (q ∷ ps) p e at is =

@@ -33,7 +33,8 @@ module _ (m : ModelTree) where
   among S test s is n [] at = tt
   among S test s is n (p ∷ ps) at = by (test p) refl (among S test s is (suc n) ps later)
     where
-      later : (j : ℕ) (q : List PrimitiveTree) → slice_get ps j ≡ Some q → numbered (stage_paths m s) (suc n + j) ≡ Some q
+      later : (j : ℕ) (q : List PrimitiveTree) → slice_get ps j ≡ Some q → numbered (stage_paths m s) (suc n + j)
+          ≡ Some q
       later j q here = let next : n + suc j ≡ suc n + j = omega arith in
           subst (λ i. numbered (stage_paths m s) i ≡ Some q) next (at (suc j) q here)
 

@@ -1,5 +1,6 @@
 -- The walks of a length, in order, and the goals along them.
-use Rattle.std.specs.Prelude.{ℕ, zero, suc, ◌+◌, ◌*◌, Bool, true, not, if◌then◌else◌, List, [], ◌∷◌, ◌++◌, length, map, Option, Some, None}
+use Rattle.std.specs.Prelude.{ℕ, zero, suc, ◌+◌, ◌*◌, Bool, true, not, if◌then◌else◌, List, [], ◌∷◌, ◌++◌, length}
+use Rattle.std.specs.Prelude.{map, Option, Some, None}
 use Rattle.std.specs.List.{flat_map}
 use Rattle.fol_formula.specs.Counts.{saturated}
 use Rattle.rml_command.specs.Trees.{PrimitiveTree}
@@ -80,8 +81,8 @@ joined m legs = flat_map (leg_path m) legs
 abbrev pub goal_along : List Leg → About → Walk
 goal_along legs a = record { parts = legs; about = a }
 
--- the goals of a walk that does not end in abort: each conjecture at its end, and then abort for each path of final that
--- ends in abort, as one more part
+-- the goals of a walk that does not end in abort: each conjecture at its end, and then abort for each path of final
+-- that ends in abort, as one more part
 abbrev pub open_goals : ModelTree → List Leg → List Walk
 open_goals m legs =
     map (λ k. goal_along legs (about.Conjecture k)) (count_from 0 (length m.conjectures))

@@ -14,5 +14,6 @@ returns c =
       universal = c.exactness-2.ensures.universal;
     } in
     λ sig p order lists s given closed fits holds.
-    gives-values rewriting c.instance_laws.ensures.structures c.axiom_laws.ensures.structures c.clause_laws.ensures.up sig
+    gives-values rewriting c.instance_laws.ensures.structures c.axiom_laws.ensures.structures c.clause_laws.ensures.up
+    sig
     p order lists given closed s fits holds

@@ -6,5 +6,6 @@ use Rattle.model_commands.proofs.houdini.greatest_of.Goals as goal
 
 pub returns : goal.returns
 returns g c =
-    subst (λ (l : Ceilings). IsFound c.args.counted l c.args.model.now c.in_ok-houdini.houdini) c.limits_of-limits.ensures
+    subst (λ (l : Ceilings). IsFound c.args.counted l c.args.model.now c.in_ok-houdini.houdini)
+    c.limits_of-limits.ensures
     c.in_ok-houdini.ensures

@@ -10,7 +10,12 @@ returns-then-not-same c =
     c.in_ok-same.ensures in
     let met : c.in_ok-same.same ≡ false = c.if-not-same.true in
     unmet_here
-    (λ r. record { line = c.args.line + r; code = denial.WrongEnd; met = same_relation c.args.after.now c.args.end.now r })
+    (λ r. record {
+      line = c.args.line + r;
+      code = denial.WrongEnd;
+      met = same_relation c.args.after.now c.args.end.now
+          r;
+    })
     c.loop-rel.rel c.relation_count-count.result _ c.loop-rel-test.true (sym told ∙ met)
     c.loop-rel.invariant.first
 
@@ -22,7 +27,12 @@ loop-rel-preserved c =
     record {
       count = c.loop-rel.invariant.count;
       first = unmet_met
-          (λ r. record { line = c.args.line + r; code = denial.WrongEnd; met = same_relation c.args.after.now c.args.end.now r })
+          (λ r. record {
+            line = c.args.line + r;
+            code = denial.WrongEnd;
+            met = same_relation c.args.after.now
+                c.args.end.now r;
+          })
           c.loop-rel.rel c.relation_count-count.result _ c.loop-rel-test.true (sym told ∙ met)
           c.loop-rel.invariant.first;
     }

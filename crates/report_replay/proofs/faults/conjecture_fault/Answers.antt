@@ -16,18 +16,38 @@ module _ (m : ModelTree) (t s : Tables) (k : ℕ) (values : List ℕ) (at line :
 
   in_tables : (f : Fault) → found ≡ Some f → Some f
       ≡ first_unmet (table_demands m t s line
-      ++ record { line = line + table_count m; code = denial.NotBroken; met = is_broken (slice_get m.conjectures k) s values } ∷ [])
+      ++ record {
+        line = line + table_count m;
+        code = denial.NotBroken;
+        met = is_broken (slice_get m.conjectures k) s
+            values;
+      } ∷ [])
   in_tables f e =
       unmet_first (table_demands m t s line)
-      (record { line = line + table_count m; code = denial.NotBroken; met = is_broken (slice_get m.conjectures k) s values } ∷ []) f
+      (record {
+        line = line + table_count m;
+        code = denial.NotBroken;
+        met = is_broken (slice_get m.conjectures k) s
+            values;
+      } ∷ []) f
       (sym tables_told ∙ e)
 
   is_met : found ≡ None → is_broken (slice_get m.conjectures k) s values ≡ true → None
       ≡ first_unmet (table_demands m t s line
-      ++ record { line = line + table_count m; code = denial.NotBroken; met = is_broken (slice_get m.conjectures k) s values } ∷ [])
+      ++ record {
+        line = line + table_count m;
+        code = denial.NotBroken;
+        met = is_broken (slice_get m.conjectures k) s
+            values;
+      } ∷ [])
   is_met e met =
       unmet_second (table_demands m t s line)
-      (record { line = line + table_count m; code = denial.NotBroken; met = is_broken (slice_get m.conjectures k) s values } ∷ []) None
+      (record {
+        line = line + table_count m;
+        code = denial.NotBroken;
+        met = is_broken (slice_get m.conjectures k) s
+            values;
+      } ∷ []) None
       (sym tables_told ∙ e)
       (met_one (record {
         line = line + table_count m;
@@ -38,11 +58,21 @@ module _ (m : ModelTree) (t s : Tables) (k : ℕ) (values : List ℕ) (at line :
   is_unmet : (count : ℕ) → count ≡ table_count m → found ≡ None → is_broken (slice_get m.conjectures k) s values ≡ false
       → Some (record { line = at + count; code = denial.NotBroken })
       ≡ first_unmet (table_demands m t s line
-      ++ record { line = line + table_count m; code = denial.NotBroken; met = is_broken (slice_get m.conjectures k) s values } ∷ [])
+      ++ record {
+        line = line + table_count m;
+        code = denial.NotBroken;
+        met = is_broken (slice_get m.conjectures k) s
+            values;
+      } ∷ [])
   is_unmet count c e met =
       let l : at + count ≡ line + table_count m = omega (arith, is, c) in
       unmet_second (table_demands m t s line)
-      (record { line = line + table_count m; code = denial.NotBroken; met = is_broken (slice_get m.conjectures k) s values } ∷ [])
+      (record {
+        line = line + table_count m;
+        code = denial.NotBroken;
+        met = is_broken (slice_get m.conjectures k) s
+            values;
+      } ∷ [])
       (Some (record { line = at + count; code = denial.NotBroken }))
       (sym tables_told ∙ e)
       (ap (λ (n : ℕ). Some (record { line = n; code = denial.NotBroken })) l

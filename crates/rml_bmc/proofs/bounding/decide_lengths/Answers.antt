@@ -20,7 +20,8 @@ loop-k-preserved g c =
       answered = next c.args.counted (ceilings c.args.limits.now) c.args.checked.now (c.args.steps + 1) c.loop-k.k
           c.loop-k.lengths
           c.push.new.self c.in_ok-answer.answer c.loop-k-test.true c.in_ok-push.ensures.pushed
-          (sym c.is_broken-broken.ensures ∙ c.if-broken.false) c.in_ok-answer.ensures.decided c.loop-k.invariant.answered;
+          (sym c.is_broken-broken.ensures ∙ c.if-broken.false) c.in_ok-answer.ensures.decided
+          c.loop-k.invariant.answered;
       known = c.decide_length.ensures.after;
     }
 

@@ -169,7 +169,8 @@ command-returns-in_ok-command-in-If-clause-conditions t c =
     ∙ ap (λ cs. c.block.new.conditions.items ++ conditions_of_block text m (tree_of cs))
     c.deref-in-If.ensures.value))
 
-pub command-returns-in_err-commands-in-Choose-clause-command : goal.command-returns-in_err-commands-in-Choose-clause-command
+pub command-returns-in_err-commands-in-Choose-clause-command :
+    goal.command-returns-in_err-commands-in-Choose-clause-command
 command-returns-in_err-commands-in-Choose-clause-command t c =
     let m = model_in c.args.draft.now in
     let text = c.args.text.now in

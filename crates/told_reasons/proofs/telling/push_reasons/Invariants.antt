@@ -5,7 +5,8 @@ use Rattle.told_reasons.specs.ReasonsText.{reason_line}
 use Rattle.told_reasons.proofs.telling.push_reasons.Given as goal
 
 abbrev pub invariant-loop-rest : goal.invariant-loop-rest
-invariant-loop-rest l = l.out.items ++ flat_map (reason_line l.names) l.rest ≡ l.fn.out.items ++ flat_map (reason_line l.names) l.reasons
+invariant-loop-rest l = l.out.items ++ flat_map (reason_line l.names) l.rest
+    ≡ l.fn.out.items ++ flat_map (reason_line l.names) l.reasons
 
 abbrev pub decreases-loop-rest : goal.decreases-loop-rest
 decreases-loop-rest l = length l.rest

@@ -6,5 +6,6 @@ use Rattle.told_subset.proofs.telling.push_unsettled.Goals as goal
 pub returns : goal.returns
 unfolding unsettled_line
 returns c =
-    three (codes "undecided: ") (count_text c.args.kept c.args.all) (codes "\n") _ _ _ _ c.in_ok-push_text.ensures.pushed
+    three (codes "undecided: ") (count_text c.args.kept c.args.all) (codes "\n") _ _ _ _
+    c.in_ok-push_text.ensures.pushed
     c.in_ok-push_count.ensures c.in_ok-push_text-2.ensures.pushed

@@ -18,7 +18,8 @@ none = record { stage = stage.Init; path = 0; about = about.Abort }
 pub returns-in-Fails : goal.returns-in-Fails
 returns-in-Fails c =
     let limits = ceilings c.args.limits.now in
-    let here = next c.args.counted limits c.args.checked.now c.args.paths c.args.goals.now c.loop-goal.earliest c.loop-goal.goal-index
+    let here = next c.args.counted limits c.args.checked.now c.args.paths c.args.goals.now c.loop-goal.earliest
+    c.loop-goal.goal-index
     none c.loop-goal-test.true c.loop-goal.invariant.whole in
     let decided = rw c.in-Fails.is at c.in_ok-settle.ensures in
     let sized = c.in_ok-shown-in-Fails.ensures in
@@ -32,7 +33,8 @@ loop-goal-preserved c =
     let m = c.args.checked.now in
     let next_goal = get_or c.args.goals.now c.loop-goal.goal-index none in
     let rest = drop (c.loop-goal.goal-index + 1) c.args.goals.now in
-    let here = next c.args.counted limits m c.args.paths c.args.goals.now c.loop-goal.earliest c.loop-goal.goal-index none
+    let here = next c.args.counted limits m c.args.paths c.args.goals.now c.loop-goal.earliest c.loop-goal.goal-index
+    none
     c.loop-goal-test.true c.loop-goal.invariant.whole in
     record {
       each = next_each c.args.counted limits m c.args.paths c.args.goals.now
@@ -40,19 +42,24 @@ loop-goal-preserved c =
       whole = elim c.match-branch-2.branch [
         | in-Holds w ↦
             let is = rw w.in-Holds.is at c.in_ok-settle.ensures in
-            subst (λ (e : Option OpenGoal). Completes c.args.counted limits m c.args.paths c.args.goals.now e rest) (sym w.earliest-is)
-            (behind_safe c.args.counted limits m c.args.paths c.args.goals.now c.loop-goal.earliest next_goal rest here (is.0, is.1))
+            subst (λ (e : Option OpenGoal). Completes c.args.counted limits m c.args.paths c.args.goals.now e rest)
+            (sym w.earliest-is)
+            (behind_safe c.args.counted limits m c.args.paths c.args.goals.now c.loop-goal.earliest next_goal rest
+            here (is.0, is.1))
         | in-Undecided w ↦
             subst (λ (e : Option OpenGoal). Completes c.args.counted limits m c.args.paths c.args.goals.now e rest)
             (sym (w.earliest-is ∙ w.earlier_of-earliest.ensures))
-            (behind_open c.args.counted limits m c.args.paths c.args.goals.now c.loop-goal.earliest next_goal rest w.in-Undecided.cause
+            (behind_open c.args.counted limits m c.args.paths c.args.goals.now c.loop-goal.earliest next_goal rest
+            w.in-Undecided.cause
             here (rw w.in-Undecided.is at c.in_ok-settle.ensures))
       ];
     }
 
 pub returns : goal.returns
 returns c =
-    subst (λ (a : Answer). IsAnswerTo c.args.counted (ceilings c.args.limits.now) c.args.checked.now c.args.paths c.args.goals.now a)
+    subst (λ (a : Answer). IsAnswerTo c.args.counted (ceilings c.args.limits.now) c.args.checked.now c.args.paths
+    c.args.goals.now a)
     (sym c.answer_of.ensures)
-    (at_last c.args.counted (ceilings c.args.limits.now) c.args.checked.now c.args.paths c.args.goals.now c.loop-goal.earliest
+    (at_last c.args.counted (ceilings c.args.limits.now) c.args.checked.now c.args.paths c.args.goals.now
+    c.loop-goal.earliest
     c.loop-goal.goal-index c.loop-goal-test.false c.loop-goal.invariant.whole)

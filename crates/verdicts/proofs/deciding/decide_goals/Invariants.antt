@@ -8,5 +8,6 @@ use Rattle.verdicts.proofs.deciding.decide_goals.Given as goal
 abbrev pub invariant-loop-goal : goal.invariant-loop-goal
 invariant-loop-goal l = record {
   each : AllByRecursion (IsGoal l.checked) (drop l.goal-index l.goals);
-  whole : Completes l.fn.counted (ceilings l.limits) l.checked l.fn.paths l.goals l.earliest (drop l.goal-index l.goals);
+  whole : Completes l.fn.counted (ceilings l.limits) l.checked l.fn.paths l.goals l.earliest
+      (drop l.goal-index l.goals);
 }
