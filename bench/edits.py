@@ -1,9 +1,9 @@
 #!/usr/bin/env python3
 """Looks whether each must-fail edit can be applied: bench/edits.py [FOLDER]
 
-The gate counts an edit for nothing whose old line does not stand exactly once in its file, and passes: such an edit shows
-no more that a wrong body is refused. This script names each such edit of the tree in FOLDER (this one), and each that
-changes nothing. Its last line is `N edits, M cannot be applied`; the status is 1 where one cannot.
+The gate counts an edit for nothing whose old line does not stand exactly once in its file, and passes: such an edit
+shows no more that a wrong body is refused. This script names each such edit of the tree in FOLDER (this one), and
+each that changes nothing. Its last line is `N edits, M cannot be applied`; the status is 1 where one cannot.
 """
 import glob
 import os

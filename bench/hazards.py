@@ -3,11 +3,11 @@
 
     bench/hazards.py [--scale S] [-- WORD ..]    IVYCHECK is the program (the one that ./ivycheck runs)
 
-Each text has at most 1 MiB, times S (1). The words go behind `check FILE`; without any they are `--terms 1 --ground 1`, so that the
-time is that of reading, of the paths and of the sentences, and nothing is decided. The stack is held to 512 KB. Time
-and memory should be at most double at double size, and below a second and a gigabyte; where the number of paths times
-their lengths is more, the language makes it so (docs/LANGUAGE.md), and the line has a note. The status is 1 where a run ends by a signal, or at half size otherwise than
-at full size.
+Each text has at most 1 MiB, times S (1). The words go behind `check FILE`; without any they are `--terms 1 --ground
+1`, so that the time is that of reading, of the paths and of the sentences, and nothing is decided. The stack is held
+to 512 KB. Time and memory should be at most double at double size, and below a second and a gigabyte; where the
+number of paths times their lengths is more, the language makes it so (docs/LANGUAGE.md), and the line has a note. The
+status is 1 where a run ends by a signal, or at half size otherwise than at full size.
 """
 import argparse
 import os

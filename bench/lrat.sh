@@ -2,8 +2,8 @@
 # Times the checking of logs of 1 and 10 million hints, from their two texts, beside a plain checker in C.
 #   bench/lrat.sh [TIMES ..]            times the command `lrat` of the program that IVYCHECK names (the one that
 #                                       ./ivycheck runs)
-#   bench/lrat.sh library [TIMES ..]    times a small program of the library's calls, which is proved and built in a copy
-#                                       of the crates that it stands on (minutes)
+#   bench/lrat.sh library [TIMES ..]    times a small program of the library's calls, which is proved and built in
+#                                       a copy of the crates that it stands on (minutes)
 # A log has 100,000 hints, so many TIMES (10 and 100). Times of the whole process, three of each: `real` hangs on what
 # else runs, so compare `user` and `sys`. Each has to take the log, or the script ends with 1.
 set -e

@@ -1,6 +1,7 @@
 #!/usr/bin/env python3
 """Names the program that the scripts of this folder run: the one that the variable IVYCHECK names, or else the one that
-./ivycheck would run. As a script it prints its path. It ends with 2 where there is none.
+./ivycheck would run; so IVYVIEW and ./ivyview. As a script it prints its path, with the word `ivyview` that of the
+other. It ends with 2 where there is none.
 """
 import functools
 import os
@@ -11,15 +12,15 @@ HERE = os.path.dirname(os.path.dirname(os.path.abspath(__file__)))
 
 
 @functools.lru_cache(maxsize=None)
-def program():
+def program(name="ivycheck"):
     """Gives the program's path."""
-    named = os.environ.get("IVYCHECK")
+    named = os.environ.get(name.upper())
     if named:
         found = os.path.abspath(named)
         if not os.path.isfile(found) or not os.access(found, os.X_OK):
-            stop(f"IVYCHECK names {named}, and no program stands there")
+            stop(f"{name.upper()} names {named}, and no program stands there")
         return found
-    asked = subprocess.run([f"{HERE}/ivycheck", "--which"], capture_output=True, text=True)
+    asked = subprocess.run([f"{HERE}/{name}", "--which"], capture_output=True, text=True)
     if asked.returncode:
         stop(asked.stderr.strip())
     return asked.stdout.strip()
@@ -42,4 +43,4 @@ def examples():
 
 
 if __name__ == "__main__":
-    print(program())
+    print(program(*sys.argv[1:]))

@@ -1,7 +1,7 @@
 #!/bin/sh
 # The released programs, release/ivycheck and release/ivyview, and their sums.
-#   bench/release.sh [CRATES]             makes them from the programs that `rt ci` built in this checkout, or in CRATES,
-#                                         the folder crates/ of another one
+#   bench/release.sh [CRATES]             makes them from the programs that `rt ci` built in this checkout, or
+#                                         in CRATES, the folder crates/ of another one
 #   bench/release.sh --check [CRATES]     fails where they are not of these sources and of this kit, or where a released
 #                                         program is not to the byte the one that `rt ci` built in this checkout
 # So a change of the sources brings its release with it: `rt ci`, then this, then `.ci/run`, which checks it.

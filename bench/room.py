@@ -5,8 +5,8 @@
 
 What a check proved it keeps as files in crates/NAME/out/incremental, and the steps of a function's body are its module
 `Lts`. Most have 0.1 to 3 MB. One that holds the drop of a struct of structs of lists, since such a value ends in place,
-has 11 MB for one such end and 25 for two, and takes minutes (docs/PROOFS.md, "Time"). Sizes are those of the last check;
-a function that is gone since may still be listed. Printed are the N (20) largest.
+has 11 MB for one such end and 25 for two, and takes minutes (docs/PROOFS.md, "Time"). Sizes are those of the last
+check; a function that is gone since may still be listed. Printed are the N (20) largest.
 """
 import argparse
 import os

@@ -1,15 +1,17 @@
 #!/bin/bash
 # Runs each script of this folder on a small input, and on cases that are easy to get wrong: bench/scripts_test.sh
 #
-# IVYCHECK is the program (the one that ./ivycheck runs; with none, what needs one is skipped). Where an answer of the
-# program has to be wrong, or one that it seldom gives, a stand-in gives it; stand-ins for `rt` and minisat are there too.
-# A tool that is missing is named, and what needs it is skipped. The last line is `N passed, M failed`.
+# IVYCHECK is the program (the one that ./ivycheck runs; with none, what needs one is skipped), and IVYVIEW the one for
+# a person (the one that ./ivyview runs). Where an answer of the program has to be wrong, or one that it seldom gives, a
+# stand-in gives it; stand-ins for `rt` and minisat are there too. A tool that is missing is named, and what needs it is
+# skipped. The last line is `N passed, M failed`.
 here=$(cd "$(dirname "$0")/.." && pwd)
 room=$(mktemp -d)
 trap 'rm -rf "$room"' EXIT
 export FAKE="$room/fake" PYTHONDONTWRITEBYTECODE=1
 mkdir -p "$room/bin" "$FAKE"
 program=$("$here/bench/program.py" 2>/dev/null)
+viewer=$("$here/bench/program.py" ivyview 2>/dev/null)
 passed=0
 failed=0
 skipped=0
@@ -507,6 +509,43 @@ else
     if has acl2 'others.py'; then
         bench others.py "$examples/lock_server.rml"
         expect 'others: as ACL2 has it' ended 0
+    fi
+fi
+
+# --- the program for a person
+
+# It answers as the other does but for one change of what it writes: `view_liar FILTER`.
+view_liar() {
+    printf '#!/bin/bash\n"%s" "$@" | %s\nexit "${PIPESTATUS[0]}"\n' "$viewer" "$1" >"$room/bin/view-liar"
+    chmod +x "$room/bin/view-liar"
+}
+
+if [ -z "$program" ] || [ -z "$viewer" ]; then
+    skipped=$((skipped + 1))
+    echo 'skipped, since there is no ivyview of these sources: what runs it'
+else
+    export IVYVIEW=$viewer
+    bench views.py
+    expect 'views: the rows that stand there' diff "$room/out" "$here/crates/rows/data/views.txt"
+    bench tutorial.py
+    expect 'tutorial: each command prints what the page shows' ended 0
+    sed 's/^verdict: .*/verdict: unknown/; s/^not inductive.*/unknown/' "$here/docs/TUTORIAL.md" >"$room/page.md"
+    bench tutorial.py "$room/page.md"
+    expect 'tutorial: a page that shows something else is told' ended 1
+    for name in flag lock_server-weak peterson_flat-weak lock_server-bug; do
+        bench json_report.py "$examples/$name.rml"
+        expect "json_report: the value of $name says what the report does" ended 0
+    done
+    view_liar "sed 's/\"element\":0/\"element\":1/'"
+    IVYVIEW=$room/bin/view-liar bench json_report.py "$examples/lock_server-weak.rml"
+    expect 'json_report: another element is told' wrote 'element: 0 in the text, 1 in the JSON'
+    expect 'json_report: and ends it' ended 1
+    if has dot 'the pictures of examples'; then
+        bench pictures.sh
+        expect 'pictures: Graphviz takes each' ended 0
+        view_liar "sed 's/->/-/'"
+        IVYVIEW=$room/bin/view-liar bench pictures.sh "$examples/lock_server-weak.rml"
+        expect 'pictures: one that it does not take is told' ended 1
     fi
 fi
 

@@ -3,8 +3,8 @@
 # bench/solve.sh [FILE.cnf ..]
 # With no file: pigeon holes 6 and 7, five random 3-SAT formulas of 150 variables, a chain of 100,000 clauses.
 # REPEAT (9) is how often each is run; the least processor time counts.
-# WORK is where the program is proved and built, in a copy of the crates that it stands on; with none that is a folder of
-# its own. Needs `rt` and minisat.
+# WORK is where the program is proved and built, in a copy of the crates that it stands on; with none that is a folder
+# of its own. Needs `rt` and minisat.
 set -e
 here=$(cd "$(dirname "$0")" && pwd)
 work=${WORK:-$(mktemp -d)}

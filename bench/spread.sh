@@ -2,12 +2,13 @@
 # Decides the goals of a model side by side: bench/spread.sh FILE [PROCESSES [WORD ..]]
 #
 # Each goal is a call `emit FILE GOAL lrat WORD ..`; the log of one that holds is checked again by `lrat` against the
-# clauses of `emit FILE GOAL cnf`. Printed are the axioms' line of `check`, each goal that fails or is left open, how many
-# hold, and the verdict; the status is that of `check` too. Where a goal has no answer (its log is not taken, say, or a
-# call is killed) the verdict is not told, and the status is 5. A text that has no goals goes to `check` as it is.
+# clauses of `emit FILE GOAL cnf`. Printed are the axioms' line of `check`, each goal that fails or is left open, how
+# many hold, and the verdict; the status is that of `check` too. Where a goal has no answer (its log is not taken,
+# say, or a call is killed) the verdict is not told, and the status is 5. A text that has no goals goes to `check` as
+# it is.
 #
-# IVYCHECK is the program that is run (the one that ./ivycheck runs; it is proved and built first if need be). WORK is the
-# folder for clauses and logs (one that goes at the end).
+# IVYCHECK is the program that is run (the one that ./ivycheck runs; it is proved and built first if need be). WORK is
+# the folder for clauses and logs (one that goes at the end).
 here=$(cd "$(dirname "$0")/.." && pwd) || exit 5
 [ $# != 0 ] || { echo 'usage: bench/spread.sh FILE [PROCESSES [WORD ..]]' >&2; exit 2; }
 program=$IVYCHECK
@@ -45,7 +46,8 @@ LC_ALL=C awk '
     }' "$file" >"$work/axioms.rml"
 "$program" check "$work/axioms.rml" "$@" 2>&1 | head -n 1
 
-# One goal, the last of the words: prints its number and holds, fails, undecided with its cause, or that it has no answer.
+# One goal, the last of the words: prints its number and holds, fails, undecided with its cause, or that it has no
+# answer.
 one='
 program=$1 file=$2 work=$3
 shift 3

@@ -4,8 +4,9 @@
     editors/test.py     the status is 1 where something differs; without vim its part is skipped
 
 Of each file the words and signs outside comments are coloured as the grammar of VS Code has it; each must have the
-class of its kind, and names and brackets none. Vim is asked the same of every place, and what `:IvyCheck` does with a
-fault and with none. bash is asked what it completes.
+class of its kind, and names and brackets none. Vim is asked the same of every place, what `:IvyCheck` does with a fault
+and with none, and what `:make` does with one where `ivyview` is the compiler. bash is asked what it completes, and zsh
+whether it can read its part.
 """
 import json
 import pathlib
@@ -79,6 +80,12 @@ def vim(paths, room):
     asked += [f"edit {bad}", "IvyCheck", "call add(g:told, line('.') . ':' . col('.') . ':' . getqflist()[0].text)",
               f"edit {good}", "IvyCheck", "call add(g:told, string(getqflist()))"]
     expected += ["3:3:unknown name", "[]"]
+    # (as `ivyview` prints the fault, with the line and a caret behind it)
+    said = f"{bad}:3:3: F7 unknown name", "  q", "  ^"
+    asked += [f"edit {bad}", "compiler ivyview", "let &g:errorformat = &l:errorformat", f"cgetexpr {list(said)}",
+              "call add(g:told, join(map(getqflist(), "
+              "'v:val.lnum . \":\" . v:val.col . \" \" . v:val.nr . v:val.text')))"]
+    expected += ["3:3 7unknown name"]
     script = room / "test.vim"
     script.write_text("\n".join(
         ["set nocompatible", f"set runtimepath^={HERE}/vim", "filetype plugin on", "syntax on", "set hidden",
@@ -104,13 +111,29 @@ COMPLETED = {
 }
 
 
+VIEWED = {
+    "": "check bmc houdini why replay --help --version",
+    "w": "why",
+    "check fl": "flag.rml",
+    "check flag.rml --l": "--lean",
+    "check flag.rml --terms ": "",
+    "bmc flag.rml --": "--steps --terms --ground --conflicts --lean --dot --json",
+    "why flag.rml --": "--terms --ground --conflicts --json",
+    "replay flag.rml --": "--json",
+}
+
+
 def bash():
     """How many beginnings of a command line bash completes otherwise."""
+    return completed("ivycheck", COMPLETED) + completed("ivyview", VIEWED)
+
+
+def completed(name, table):
     wrong = 0
-    for begun, expected in COMPLETED.items():
-        words = ["ivycheck", *begun.split(" ")]
-        script = f"""shopt -s progcomp; . {HERE}/completion/ivycheck.bash
-            COMP_WORDS=("$@"); COMP_CWORD=$(($# - 1)); _ivycheck; echo "${{COMPREPLY[*]}}" """
+    for begun, expected in table.items():
+        words = [name, *begun.split(" ")]
+        script = f"""shopt -s progcomp; . {HERE}/completion/{name}.bash
+            COMP_WORDS=("$@"); COMP_CWORD=$(($# - 1)); _{name}; echo "${{COMPREPLY[*]}}" """
         told = subprocess.run(["bash", "-c", script, "bash", *words], capture_output=True, text=True,
                               cwd=HERE.parent / "examples").stdout
         wrong += told != expected + "\n"
@@ -132,6 +155,12 @@ def main():
     differ = bash()
     print(f"bash: {differ} differ")
     wrong += differ
+    if shutil.which("zsh"):
+        differ = subprocess.run(["zsh", "-n", HERE / "completion/_ivycheck"]).returncode
+        print(f"zsh: {differ} differ")
+        wrong += differ
+    else:
+        print("skipped, since there is no zsh: its completion")
     if has_vim():
         with tempfile.TemporaryDirectory() as room:
             differ = vim(paths, pathlib.Path(room))
