@@ -9,7 +9,6 @@ use Rattle.rml_command.specs.Goals.{stage_paths}
 use Rattle.rml_command.specs.declared.names.Names.{Names}
 use Rattle.rml_bmc.specs.Lengths.{verdict_of}
 use Rattle.rml_bmc.specs.declared.answer.Part.{Part}
-use Rattle.rml_bmc.specs.declared.answer.Run.{Run}
 use Rattle.rml_bmc.specs.declared.answer.BoundCause.{BoundCause}
 use Rattle.rml_bmc.specs.declared.answer.BoundCause.TheVariants as cause
 use Rattle.rml_bmc.specs.declared.answer.Length.{Length}

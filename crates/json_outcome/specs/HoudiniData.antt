@@ -20,11 +20,11 @@ names_data names ks = list_data (map (name_data names.conjectures) ks)
 -- a dropped conjecture, those that were held, and the execution that breaks it
 unfoldable pub dropped_data : ModelTree → Dropped → Data → Data
 dropped_data m d branches =
-    object_of ((codes "conjecture", name_data m.names.conjectures d.conjecture)
-    ∷ (codes "held", names_data m.names d.held) ∷ (codes "stage", stage_data m.names d.shown.goal.stage)
-    ∷ (codes "about", about_data m.names d.shown.goal.about) ∷ (codes "path", number_data d.shown.trace.path)
-    ∷ (codes "paths", number_data (length (stage_paths m d.shown.goal.stage)))
-    ∷ (codes "execution", execution_data m d.shown branches) ∷ [])
+    object_of ((codes "execution", execution_data m d.shown branches)
+    ∷ (codes "conjecture", name_data m.names.conjectures d.conjecture) ∷ (codes "held", names_data m.names d.held)
+    ∷ (codes "stage", stage_data m.names d.shown.goal.stage) ∷ (codes "about", about_data m.names d.shown.goal.about)
+    ∷ (codes "path", number_data d.shown.trace.path)
+    ∷ (codes "paths", number_data (length (stage_paths m d.shown.goal.stage))) ∷ [])
 
 -- the drops in order, each with what is told of its execution
 abbrev pub drops_data : ModelTree → List Dropped → List Data → List Data

@@ -18,8 +18,8 @@ use Rattle.json_outcome.specs.HoudiniData.{names_data}
 -- branches of the path are not told.
 unfoldable pub lack_data : ModelTree → Lack → Data
 lack_data m (Fails shown) =
-    object_of ((codes "answer", string (codes "fails")) ∷ (codes "path", number_data shown.goal.path)
-    ∷ (codes "execution", execution_data m shown null) ∷ [])
+    object_of ((codes "execution", execution_data m shown null) ∷ (codes "answer", string (codes "fails"))
+    ∷ (codes "path", number_data shown.goal.path) ∷ [])
 lack_data m (Open goal c) =
     object_of ((codes "answer", string (codes "undecided")) ∷ (codes "path", number_data goal.path)
     ∷ (codes "cause", cause_data c) ∷ [])

@@ -7,7 +7,7 @@ ghost use Rattle.json_outcome.specs.HoudiniData.{verdict_data, houdini_members};
 
 use base::Mem;
 use json_report::{
-    about_value, behind_first, cause_value, execution_value, first_given, name_value, stage_value,
+    behind_first, execution_value, first_given, name_value, set_cause, set_group, set_name,
 };
 use json_values::{Json, JsonList, JsonObject};
 use rml_command::{Checked, Goal, Names};
@@ -38,23 +38,21 @@ fn dropped_value(alloc: Global, checked: &Checked, dropped: &Dropped, branches: 
     let names = checked.model().names();
     let goal = dropped.shown.goal;
     let paths = checked.stage_paths(goal.stage).len();
+    let execution = execution_value(alloc, checked, &dropped.shown, branches)?;
     let mut object = JsonObject::new(alloc);
-    let name = name_value(alloc, names.conjectures.as_slice(), dropped.conjecture)?;
-    object.set(alloc, "conjecture", name)?;
-    object.set(
+    object.set(alloc, "execution", execution)?;
+    set_name(
         alloc,
-        "held",
-        names_value(alloc, names, dropped.held.as_slice())?,
+        &mut object,
+        "conjecture",
+        names.conjectures.as_slice(),
+        dropped.conjecture,
     )?;
-    object.set(alloc, "stage", stage_value(alloc, names, goal.stage)?)?;
-    object.set(alloc, "about", about_value(alloc, names, goal.about)?)?;
+    let held = names_value(alloc, names, dropped.held.as_slice())?;
+    object.set(alloc, "held", held)?;
+    set_group(alloc, &mut object, names, goal.stage, goal.about)?;
     object.set_number(alloc, "path", dropped.shown.trace.path as u64)?;
     object.set_number(alloc, "paths", paths as u64)?;
-    object.set(
-        alloc,
-        "execution",
-        execution_value(alloc, checked, &dropped.shown, branches)?,
-    )?;
     Ok(object.into_json())
 }
 
@@ -87,10 +85,9 @@ fn open_value(alloc: Global, names: &Names, goal: &Goal, cause: &Cause) -> Mem<J
     ensures { IfOk result (λ j. j ≡ open_data names.now goal.now cause.now) }
 {
     let mut object = JsonObject::new(alloc);
-    object.set(alloc, "stage", stage_value(alloc, names, goal.stage)?)?;
-    object.set(alloc, "about", about_value(alloc, names, goal.about)?)?;
+    set_group(alloc, &mut object, names, goal.stage, goal.about)?;
     object.set_number(alloc, "path", goal.path as u64)?;
-    object.set(alloc, "cause", cause_value(alloc, cause)?)?;
+    set_cause(alloc, &mut object, cause)?;
     Ok(object.into_json())
 }
 

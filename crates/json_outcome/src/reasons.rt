@@ -1,5 +1,5 @@
 // Which conjectures carry which group, as JSON.
-ghost use Rattle.std.specs.Prelude.{◌≡◌, ◌++◌, map, IfOk, OnOk};
+ghost use Rattle.std.specs.Prelude.{◌≡◌, map, IfOk, OnOk};
 ghost use Rattle.std.specs.List.{AllByRecursion};
 ghost use Rattle.rml_report.specs.Reports.{IsExecution};
 ghost use Rattle.model_reasons.specs.Laws.{LackIsShown, CarriedIsShown};
@@ -8,7 +8,7 @@ ghost use Rattle.json_outcome.specs.ReasonsData.{lack_data, need_data, carried_m
 
 use crate::houdini::names_value;
 use base::Mem;
-use json_report::{about_value, cause_value, execution_value, name_value, stage_value};
+use json_report::{execution_value, set_cause, set_group, set_name};
 use json_values::{Json, JsonList, JsonObject};
 use model_reasons::{Reason, idle};
 use rml_command::{Checked, Goal};
@@ -24,7 +24,7 @@ fn open_value(alloc: Global, checked: &Checked, goal: &Goal, cause: &Cause) -> M
     let mut object = JsonObject::new(alloc);
     object.set_word(alloc, "answer", "undecided")?;
     object.set_number(alloc, "path", goal.path as u64)?;
-    object.set(alloc, "cause", cause_value(alloc, cause)?)?;
+    set_cause(alloc, &mut object, cause)?;
     Ok(object.into_json())
 }
 
@@ -33,11 +33,11 @@ fn failing_value(alloc: Global, checked: &Checked, shown: &Counterexample) -> Me
     requires { IsExecution checked.now shown.now }
     ensures { IfOk result (λ j. j ≡ lack_data checked.now (Lack.Fails shown.now)) }
 {
+    let execution = execution_value(alloc, checked, shown, Json::null())?;
     let mut object = JsonObject::new(alloc);
+    object.set(alloc, "execution", execution)?;
     object.set_word(alloc, "answer", "fails")?;
     object.set_number(alloc, "path", shown.goal.path as u64)?;
-    let execution = execution_value(alloc, checked, shown, Json::null())?;
-    object.set(alloc, "execution", execution)?;
     Ok(object.into_json())
 }
 
@@ -59,10 +59,12 @@ fn need_value(alloc: Global, checked: &Checked, need: &Need) -> Mem<Json>
 {
     let conjectures = checked.model().names().conjectures.as_slice();
     let mut object = JsonObject::new(alloc);
-    object.set(
+    set_name(
         alloc,
+        &mut object,
         "conjecture",
-        name_value(alloc, conjectures, need.conjecture)?,
+        conjectures,
+        need.conjecture,
     )?;
     object.set(alloc, "without", lack_value(alloc, checked, &need.lack)?)?;
     Ok(object.into_json())
@@ -113,8 +115,7 @@ fn reason_value(alloc: Global, checked: &Checked, reason: &Reason) -> Mem<Json>
 {
     let names = checked.model().names();
     let mut object = JsonObject::new(alloc);
-    object.set(alloc, "stage", stage_value(alloc, names, reason.stage)?)?;
-    object.set(alloc, "about", about_value(alloc, names, reason.about)?)?;
+    set_group(alloc, &mut object, names, reason.stage, reason.about)?;
     set_carried(alloc, &mut object, checked, &reason.carried)?;
     Ok(object.into_json())
 }

@@ -37,10 +37,16 @@ end_data names None = null
 end_data names (Some aborted) = null
 end_data names (Some (ended s)) = structure_data names s
 
+-- the structures in which it begins and ends
+abbrev pub end_members : ModelTree → Counterexample → List (List ℕ × Data)
+end_members m shown =
+    (codes "before", structure_data m.names shown.structure)
+    ∷ (codes "after", end_data m.names (outcome_of m shown)) ∷ []
+
 -- what else is told of it stands under "branches"
 unfoldable pub execution_data : ModelTree → Counterexample → Data → Data
 execution_data m shown branches =
-    object_of ((codes "before", structure_data m.names shown.structure)
-    ∷ (codes "takes", takes_along m.names (goal_path m shown.goal) shown.trace.havoc)
+    object_of ((codes "branches", branches) ∷ (codes "before", structure_data m.names shown.structure)
     ∷ (codes "after", end_data m.names (outcome_of m shown))
-    ∷ (codes "values", numbers_data shown.values) ∷ (codes "branches", branches) ∷ [])
+    ∷ (codes "takes", takes_along m.names (goal_path m shown.goal) shown.trace.havoc)
+    ∷ (codes "values", numbers_data shown.values) ∷ [])

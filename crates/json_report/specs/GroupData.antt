@@ -28,6 +28,9 @@ abbrev pub about_data : Names → About → Data
 about_data names about.Abort = kind_data (codes "abort")
 about_data names (about.Conjecture k) = named_data (codes "conjecture") (name_data names.conjectures k)
 
+abbrev pub group_members : Names → Stage → About → List (List ℕ × Data)
+group_members names s a = (codes "stage", stage_data names s) ∷ (codes "about", about_data names a) ∷ []
+
 abbrev pub cause_data : Cause → Data
 cause_data cause.Formula = kind_data (codes "formula")
 cause_data (cause.Terms n) = counted_data (codes "terms") n

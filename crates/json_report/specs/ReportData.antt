@@ -20,9 +20,9 @@ use Rattle.json_report.specs.ExecutionData.{execution_data}
 -- the shown path, whether its structure is least, and the execution
 abbrev pub failing_members : ModelTree → ℕ → Least → Counterexample → Data → List (List ℕ × Data)
 failing_members m paths l shown branches =
-    (codes "answer", string (codes "fails")) ∷ (codes "path", number_data shown.trace.path)
-    ∷ (codes "paths", number_data paths) ∷ (codes "least", least_data m.names l)
-    ∷ (codes "execution", execution_data m shown branches) ∷ []
+    (codes "execution", execution_data m shown branches) ∷ (codes "answer", string (codes "fails"))
+    ∷ (codes "path", number_data shown.trace.path) ∷ (codes "paths", number_data paths)
+    ∷ (codes "least", least_data m.names l) ∷ []
 
 -- the path that is left open, and why
 abbrev pub undecided_members : ℕ → Cause → List (List ℕ × Data)

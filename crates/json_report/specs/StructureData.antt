@@ -1,56 +1,67 @@
 -- A structure as data. Elements are numbers from 0.
 use Rattle.std.specs.Prelude.{ℕ, if◌then◌else◌, List, [], ◌∷◌, length, codes}
-use Rattle.fol_sig.specs.Tables.{Tables, tuple_count, relation_at, function_at, size_at, rel_at, fun_at}
+use Rattle.fol_sig.specs.Tables.{Tables, tuple_count, size_at, rel_at, fun_at}
 use Rattle.fol_sig.specs.Tuples.{join_below, tuple_at}
 use Rattle.serde_json.specs.Data.{Data}
 use Rattle.rml_command.specs.declared.names.Names.{Names}
+use Rattle.told_states.specs.SymbolText.{arguments_of, relation_symbol, function_symbol}
+use Rattle.told_states.specs.declared.symbols.Symbol.{Symbol}
+use Rattle.told_states.specs.declared.symbols.Symbol.TheVariants as symbol
 use Rattle.json_values.specs.Values.{list_data, number_data, numbers_data, object_of}
 use Rattle.json_report.specs.GroupData.{name_data}
-
--- the tuple, if the relation is true of it
-abbrev pub true_data : Tables → ℕ → List ℕ → List Data
-true_data s r xs = if rel_at s r xs then numbers_data xs ∷ [] else []
-
--- the tuples of which a relation is true, in lexicographic order
-abbrev pub tuples_data : Tables → ℕ → List Data
-tuples_data s r =
-    join_below (tuple_count s.sizes (relation_at s r).sorts)
-    (λ n. true_data s r (tuple_at s.sizes (relation_at s r).sorts n))
-
--- {"name":"linked","tuples":[[0,1],[1,0]]}
-unfoldable pub relation_data : Names → Tables → ℕ → Data
-relation_data names s r =
-    object_of ((codes "name", name_data names.relations r) ∷ (codes "tuples", list_data (tuples_data s r)) ∷ [])
+use Rattle.json_report.specs.declared.structure.Listed.{Listed}
+use Rattle.json_report.specs.declared.structure.Listed.TheVariants as listed
 
 -- {"at":[0],"is":1}
-unfoldable pub value_data : Tables → ℕ → List ℕ → Data
-value_data s f xs = object_of ((codes "at", numbers_data xs) ∷ (codes "is", number_data (fun_at s f xs)) ∷ [])
+unfoldable pub value_data : List ℕ → ℕ → Data
+value_data xs value = object_of ((codes "at", numbers_data xs) ∷ (codes "is", number_data value) ∷ [])
 
--- the values of a function at each tuple, in lexicographic order
-abbrev pub values_data : Tables → ℕ → List Data
-values_data s f =
-    join_below (tuple_count s.sizes (function_at s f).sorts)
-    (λ n. value_data s f (tuple_at s.sizes (function_at s f).sorts n) ∷ [])
+-- the tuple, if the relation is true of it; the tuple with the function's value
+abbrev pub cell_data : Tables → Symbol → List ℕ → List Data
+cell_data s (symbol.Relation r) xs = if rel_at s r.0 xs then numbers_data xs ∷ [] else []
+cell_data s (symbol.Function f) xs = value_data xs (fun_at s f.0 xs) ∷ []
+
+-- the tuples of which a relation is true, or the values of a function at each tuple, in lexicographic order
+abbrev pub cells_data : Tables → Symbol → List Data
+cells_data s q =
+    join_below (tuple_count s.sizes (arguments_of s q))
+    (λ n. cell_data s q (tuple_at s.sizes (arguments_of s q) n))
+
+-- a symbol's name, and its cells under this word
+unfoldable pub symbol_data : Data → List ℕ → List Data → Data
+symbol_data name word cells = object_of ((word, list_data cells) ∷ (codes "name", name) ∷ [])
+
+-- {"name":"linked","tuples":[[0,1],[1,0]]}
+abbrev pub relation_data : Names → Tables → ℕ → Data
+relation_data names s r =
+    symbol_data (name_data names.relations r) (codes "tuples") (cells_data s (relation_symbol r))
 
 -- {"name":"next","values":[..]}; a variable is a function without arguments, and has one value, at []
-unfoldable pub function_data : Names → Tables → ℕ → Data
+abbrev pub function_data : Names → Tables → ℕ → Data
 function_data names s f =
-    object_of ((codes "name", name_data names.functions f) ∷ (codes "values", list_data (values_data s f)) ∷ [])
+    symbol_data (name_data names.functions f) (codes "values") (cells_data s (function_symbol f))
 
 -- {"name":"node","size":2}
 unfoldable pub sort_data : Names → ℕ → ℕ → Data
 sort_data names k size = object_of ((codes "name", name_data names.sorts k) ∷ (codes "size", number_data size) ∷ [])
 
-abbrev pub sorts_data : Names → Tables → Data
-sorts_data names s = list_data (join_below (length s.sizes) (λ k. sort_data names k (size_at s k) ∷ []))
+-- how many sorts, relations or functions there are, and the one of this number
+abbrev pub count_of : Tables → Listed → ℕ
+count_of s listed.Sorts = length s.sizes
+count_of s listed.Relations = length s.relations
+count_of s listed.Functions = length s.functions
 
-abbrev pub relations_data : Names → Tables → Data
-relations_data names s = list_data (join_below (length s.relations) (λ r. relation_data names s r ∷ []))
+abbrev pub item_data : Names → Tables → Listed → ℕ → Data
+item_data names s listed.Sorts k = sort_data names k (size_at s k)
+item_data names s listed.Relations r = relation_data names s r
+item_data names s listed.Functions f = function_data names s f
 
-abbrev pub functions_data : Names → Tables → Data
-functions_data names s = list_data (join_below (length s.functions) (λ f. function_data names s f ∷ []))
+-- all of them, in order
+abbrev pub items_data : Names → Tables → Listed → Data
+items_data names s l = list_data (join_below (count_of s l) (λ k. item_data names s l k ∷ []))
 
 unfoldable pub structure_data : Names → Tables → Data
 structure_data names s =
-    object_of ((codes "sorts", sorts_data names s) ∷ (codes "relations", relations_data names s)
-    ∷ (codes "functions", functions_data names s) ∷ [])
+    object_of ((codes "sorts", items_data names s listed.Sorts)
+    ∷ (codes "relations", items_data names s listed.Relations)
+    ∷ (codes "functions", items_data names s listed.Functions) ∷ [])

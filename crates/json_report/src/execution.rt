@@ -1,11 +1,13 @@
 // An execution.
-ghost use Rattle.std.specs.Prelude.{◌≡◌, IfOk};
+ghost use Rattle.std.specs.Prelude.{◌≡◌, IfOk, OnOk};
 ghost use Rattle.rml_command.specs.Goals.{goal_path};
 ghost use Rattle.rml_report.specs.Reports.{IsExecution};
 ghost use Rattle.rml_report.specs.ReportText.{outcome_of};
-ghost use Rattle.json_report.specs.ExecutionData.{havoc_data, havocs_data, takes_along, end_data, execution_data};
+ghost use Rattle.json_values.specs.Values.{set_each};
+ghost use Rattle.json_report.specs.ExecutionData.{havoc_data, havocs_data, takes_along, end_data, end_members};
+ghost use Rattle.json_report.specs.ExecutionData.{execution_data};
 
-use crate::group::name_value;
+use crate::group::set_name;
 use crate::structure::structure_value;
 use base::Mem;
 use fol_sig::FunId;
@@ -20,10 +22,12 @@ fn havoc_value(alloc: Global, names: &Names, variable: FunId, element: u32) -> M
     ensures { IfOk result (λ j. j ≡ havoc_data names.now variable.0 element) }
 {
     let mut object = JsonObject::new(alloc);
-    object.set(
+    set_name(
         alloc,
+        &mut object,
         "variable",
-        name_value(alloc, names.functions.as_slice(), variable.0)?,
+        names.functions.as_slice(),
+        variable.0,
     )?;
     object.set_number(alloc, "element", element as u64)?;
     Ok(object.into_json())
@@ -72,6 +76,22 @@ fn end_value(alloc: Global, checked: &Checked, shown: &Counterexample) -> Mem<Js
     }
 }
 
+// Sets the structures in which the execution begins and ends.
+fn set_ends(
+    alloc: Global,
+    object: &mut JsonObject,
+    checked: &Checked,
+    shown: &Counterexample,
+) -> Mem<()>
+    requires { IsExecution checked.now shown.now }
+    ensures { OnOk result (object.new ≡ set_each object.old (end_members checked.now shown.now)) }
+{
+    let before = structure_value(alloc, checked.model(), &shown.structure)?;
+    object.set(alloc, "before", before)?;
+    object.set(alloc, "after", end_value(alloc, checked, shown)?)?;
+    Ok(())
+}
+
 /// An execution. What else is told of it is given, and stands under "branches".
 #[tactic(auto, unfolding(crate::specs::ExecutionData::execution_data))]
 pub fn execution_value(
@@ -84,14 +104,9 @@ pub fn execution_value(
     ensures { IfOk result (λ j. j ≡ execution_data checked.now shown.now branches) }
 {
     let mut object = JsonObject::new(alloc);
-    object.set(
-        alloc,
-        "before",
-        structure_value(alloc, checked.model(), &shown.structure)?,
-    )?;
-    object.set(alloc, "takes", takes_value(alloc, checked, shown)?)?;
-    object.set(alloc, "after", end_value(alloc, checked, shown)?)?;
-    object.set(alloc, "values", numbers(alloc, shown.values.as_slice())?)?;
     object.set(alloc, "branches", branches)?;
+    set_ends(alloc, &mut object, checked, shown)?;
+    object.set(alloc, "takes", takes_value(alloc, checked, shown)?)?;
+    object.set(alloc, "values", numbers(alloc, shown.values.as_slice())?)?;
     Ok(object.into_json())
 }

@@ -1,9 +1,9 @@
 // Names, and what a group is about.
-ghost use Rattle.std.specs.Prelude.{◌≡◌, IfOk};
+ghost use Rattle.std.specs.Prelude.{◌≡◌, codes, IfOk, OnOk};
 ghost use Rattle.rml_report.specs.Words.{name_at};
-ghost use Rattle.json_values.specs.Values.{named_data};
+ghost use Rattle.json_values.specs.Values.{named_data, with_member, set_each};
 ghost use Rattle.json_report.specs.GroupData.{name_data, stage_data, about_data, cause_data, bound_data, stopped_data};
-ghost use Rattle.json_report.specs.GroupData.{least_data};
+ghost use Rattle.json_report.specs.GroupData.{least_data, group_members};
 
 use base::Mem;
 use json_values::{Json, JsonObject, counted, kind, named};
@@ -28,6 +28,21 @@ pub fn name_value(alloc: Global, names: &[Name], k: u32) -> Mem<Json>
 {
     let value = Json::text(alloc, name_of(names, k))?;
     Ok(value)
+}
+
+/// Sets a member to the name of this number.
+pub fn set_name(
+    alloc: Global,
+    object: &mut JsonObject,
+    word: &str,
+    names: &[Name],
+    k: u32,
+) -> Mem<()>
+    ensures { OnOk result (object.new ≡ with_member object.old word.now (name_data names.now k)) }
+{
+    let name = name_value(alloc, names, k)?;
+    object.set(alloc, word, name)?;
+    Ok(())
 }
 
 // What something is, and the name of this number.
@@ -67,6 +82,21 @@ pub fn about_value(alloc: Global, names: &Names, about: About) -> Mem<Json>
     }
 }
 
+/// Sets what a group is about.
+pub fn set_group(
+    alloc: Global,
+    object: &mut JsonObject,
+    names: &Names,
+    stage: Stage,
+    about: About,
+) -> Mem<()>
+    ensures { OnOk result (object.new ≡ set_each object.old (group_members names.now stage about)) }
+{
+    object.set(alloc, "stage", stage_value(alloc, names, stage)?)?;
+    object.set(alloc, "about", about_value(alloc, names, about)?)?;
+    Ok(())
+}
+
 /// Why a question was left open.
 pub fn cause_value(alloc: Global, cause: &Cause) -> Mem<Json>
     ensures { IfOk result (λ j. j ≡ cause_data cause.now) }
@@ -77,6 +107,15 @@ pub fn cause_value(alloc: Global, cause: &Cause) -> Mem<Json>
         Cause::Ground(n) => counted(alloc, "ground", *n),
         Cause::Conflicts(n) => counted(alloc, "conflicts", *n),
     }
+}
+
+/// Sets why a question was left open.
+pub fn set_cause(alloc: Global, object: &mut JsonObject, cause: &Cause) -> Mem<()>
+    ensures { OnOk result (object.new ≡ with_member object.old (codes "cause") (cause_data cause.now)) }
+{
+    let value = cause_value(alloc, cause)?;
+    object.set(alloc, "cause", value)?;
+    Ok(())
 }
 
 // What a trial bounds.
@@ -96,7 +135,7 @@ fn stopped_value(alloc: Global, names: &Names, bound: Bound, size: u64, cause: &
     let mut object = JsonObject::new(alloc);
     object.set(alloc, "at", bound_value(alloc, names, bound)?)?;
     object.set_number(alloc, "size", size)?;
-    object.set(alloc, "cause", cause_value(alloc, cause)?)?;
+    set_cause(alloc, &mut object, cause)?;
     Ok(object.into_json())
 }
 

@@ -8,7 +8,7 @@ ghost use Rattle.json_report.specs.ReportData.{first_or_null, groups_data, open_
 ghost use Rattle.json_report.specs.ReportData.{settled_data, axioms_data, verdict_data, report_members, report_data};
 
 use crate::execution::execution_value;
-use crate::group::{about_value, cause_value, least_value, stage_value};
+use crate::group::{least_value, set_cause, set_group};
 use base::Mem;
 use json_values::{Json, JsonList, JsonObject};
 use rml_command::Checked;
@@ -29,19 +29,13 @@ fn set_failing(
     ensures { OnOk result (object.new ≡ set_each object.old
         (failing_members checked.now paths least.now shown.now branches)) }
 {
+    let execution = execution_value(alloc, checked, shown, branches)?;
+    object.set(alloc, "execution", execution)?;
     object.set_word(alloc, "answer", "fails")?;
     object.set_number(alloc, "path", shown.trace.path as u64)?;
     object.set_number(alloc, "paths", paths as u64)?;
-    object.set(
-        alloc,
-        "least",
-        least_value(alloc, checked.model().names(), least)?,
-    )?;
-    object.set(
-        alloc,
-        "execution",
-        execution_value(alloc, checked, shown, branches)?,
-    )?;
+    let least = least_value(alloc, checked.model().names(), least)?;
+    object.set(alloc, "least", least)?;
     Ok(())
 }
 
@@ -50,7 +44,7 @@ fn set_open(alloc: Global, object: &mut JsonObject, path: u32, cause: &Cause) ->
 {
     object.set_word(alloc, "answer", "undecided")?;
     object.set_number(alloc, "path", path as u64)?;
-    object.set(alloc, "cause", cause_value(alloc, cause)?)?;
+    set_cause(alloc, object, cause)?;
     Ok(())
 }
 
@@ -90,8 +84,7 @@ pub fn group_value(alloc: Global, checked: &Checked, group: &Group, branches: Js
 {
     let names = checked.model().names();
     let mut object = JsonObject::new(alloc);
-    object.set(alloc, "stage", stage_value(alloc, names, group.stage)?)?;
-    object.set(alloc, "about", about_value(alloc, names, group.about)?)?;
+    set_group(alloc, &mut object, names, group.stage, group.about)?;
     set_answer(alloc, &mut object, checked, &group.answer, branches)?;
     Ok(object.into_json())
 }
@@ -156,7 +149,7 @@ fn open_value(alloc: Global, cause: &Cause) -> Mem<Json>
 {
     let mut object = JsonObject::new(alloc);
     object.set_word(alloc, "answer", "undecided")?;
-    object.set(alloc, "cause", cause_value(alloc, cause)?)?;
+    set_cause(alloc, &mut object, cause)?;
     Ok(object.into_json())
 }
 

@@ -1,127 +1,94 @@
 // A structure.
-ghost use Rattle.std.specs.Prelude.{◌≡◌, ◌<◌, ◌++◌, length, IfOk, OnOk};
-ghost use Rattle.fol_sig.specs.Tables.{IsStructure, InRange, relation_at, function_at};
+ghost use Rattle.std.specs.Prelude.{◌≡◌, ◌<◌, ◌++◌, IfOk, OnOk};
+ghost use Rattle.fol_sig.specs.Tables.{IsStructure};
 ghost use Rattle.fol_sig.specs.Symbols.{FitsStructure, symbols};
-ghost use Rattle.json_report.specs.StructureData.{true_data, tuples_data, relation_data, value_data, values_data};
-ghost use Rattle.json_report.specs.StructureData.{function_data, sort_data, sorts_data, relations_data, functions_data};
-ghost use Rattle.json_report.specs.StructureData.{structure_data};
+ghost use Rattle.told_states.specs.SymbolText.{HasSymbol, IsCell};
+ghost use Rattle.json_values.specs.Values.{with_member};
+ghost use Rattle.json_report.specs.GroupData.{name_data};
+ghost use Rattle.json_report.specs.StructureData.{value_data, cell_data, cells_data, symbol_data, sort_data};
+ghost use Rattle.json_report.specs.StructureData.{count_of, item_data, items_data, structure_data};
 
-use crate::group::name_value;
+use crate::group::set_name;
 use base::Mem;
 use fol_sig::{FunId, RelId, Sort, Structure, tuple_of_number};
 use json_values::{Json, JsonList, JsonObject, numbers};
-use rml_command::{Model, Names};
+use rml_command::{Model, Name, Names};
 use std::alloc::Global;
-use told_states::{sizes, tuples};
+use told_states::{Symbol, arguments, sizes, tuples};
 
-// Adds the tuple, if the relation is true of it.
-fn push_true(
+/// What a structure has a list of.
+#[derive(Clone, Copy)]
+pub enum Listed {
+    Sorts,
+    Relations,
+    Functions,
+}
+
+// A tuple, with the value of a function there.
+#[tactic(auto, unfolding(crate::specs::StructureData::value_data))]
+fn value_at(alloc: Global, tuple: &[u32], value: u32) -> Mem<Json>
+    ensures { IfOk result (λ j. j ≡ value_data tuple.now value) }
+{
+    let mut object = JsonObject::new(alloc);
+    object.set(alloc, "at", numbers(alloc, tuple)?)?;
+    object.set_number(alloc, "is", value as u64)?;
+    Ok(object.into_json())
+}
+
+// Adds what is told of a cell: the tuple, if the relation is true of it, or the tuple with the function's value.
+fn push_cell(
     alloc: Global,
     list: &mut JsonList,
     structure: &Structure,
-    rel: RelId,
+    symbol: Symbol,
     tuple: &[u32],
 ) -> Mem<()>
-    requires known { rel.0 < length structure.now.relations }
-    requires in_range { InRange structure.now.sizes (relation_at structure.now rel.0).sorts tuple.now }
-    ensures { OnOk result (list.new ≡ list.old ++ true_data structure.now rel.0 tuple.now) }
+    requires { IsCell structure.now symbol tuple.now }
+    ensures { OnOk result (list.new ≡ list.old ++ cell_data structure.now symbol tuple.now) }
 {
-    if structure.rel(rel, tuple) {
-        list.push(numbers(alloc, tuple)?)?;
+    match symbol {
+        Symbol::Relation(rel) => {
+            if structure.rel(rel, tuple) {
+                list.push(numbers(alloc, tuple)?)?;
+            }
+        }
+        Symbol::Function(fun) => {
+            list.push(value_at(alloc, tuple, structure.fun(fun, tuple))?)?;
+        }
     }
     Ok(())
 }
 
-// The tuples of which a relation is true.
-fn true_tuples(alloc: Global, structure: &Structure, sizes: &[u32], rel: RelId) -> Mem<JsonList>
+// What is told of the cells of a symbol.
+fn cells(alloc: Global, structure: &Structure, sizes: &[u32], symbol: Symbol) -> Mem<JsonList>
     requires whole { IsStructure structure.now }
     requires sizes { sizes.now ≡ structure.now.sizes }
-    requires known { rel.0 < length structure.now.relations }
-    ensures { IfOk result (λ l. l ≡ tuples_data structure.now rel.0) }
+    requires known { HasSymbol structure.now symbol }
+    ensures { IfOk result (λ l. l ≡ cells_data structure.now symbol) }
 {
     let mut list = JsonList::new(alloc);
-    let sorts = structure.relation_sorts(rel);
+    let sorts = arguments(structure, symbol);
     for number in 0..tuples(sizes, sorts)? {
         let tuple = tuple_of_number(alloc, sizes, sorts, number);
-        push_true(alloc, &mut list, structure, rel, tuple.as_slice())?;
+        push_cell(alloc, &mut list, structure, symbol, tuple.as_slice())?;
     }
     Ok(list)
 }
 
-#[tactic(auto, unfolding(crate::specs::StructureData::relation_data))]
-fn relation_value(
+// The symbol of this name and number, with what is told of its cells under the word.
+#[tactic(auto, unfolding(crate::specs::StructureData::symbol_data))]
+fn symbol_value(
     alloc: Global,
-    names: &Names,
-    structure: &Structure,
-    sizes: &[u32],
-    rel: RelId,
+    names: &[Name],
+    number: u32,
+    word: &str,
+    cells: JsonList,
 ) -> Mem<Json>
-    requires whole { IsStructure structure.now }
-    requires sizes { sizes.now ≡ structure.now.sizes }
-    requires known { rel.0 < length structure.now.relations }
-    ensures { IfOk result (λ j. j ≡ relation_data names.now structure.now rel.0) }
+    ensures { IfOk result (λ j. j ≡ symbol_data (name_data names.now number) word.now cells) }
 {
     let mut object = JsonObject::new(alloc);
-    object.set(
-        alloc,
-        "name",
-        name_value(alloc, names.relations.as_slice(), rel.0)?,
-    )?;
-    let tuples = true_tuples(alloc, structure, sizes, rel)?;
-    object.set(alloc, "tuples", tuples.into_json())?;
-    Ok(object.into_json())
-}
-
-// The value of a function at a tuple.
-#[tactic(auto, unfolding(crate::specs::StructureData::value_data))]
-fn cell_value(alloc: Global, structure: &Structure, fun: FunId, tuple: &[u32]) -> Mem<Json>
-    requires known { fun.0 < length structure.now.functions }
-    requires in_range { InRange structure.now.sizes (function_at structure.now fun.0).sorts tuple.now }
-    ensures { IfOk result (λ j. j ≡ value_data structure.now fun.0 tuple.now) }
-{
-    let mut object = JsonObject::new(alloc);
-    object.set(alloc, "at", numbers(alloc, tuple)?)?;
-    object.set_number(alloc, "is", structure.fun(fun, tuple) as u64)?;
-    Ok(object.into_json())
-}
-
-// The values of a function.
-fn all_values(alloc: Global, structure: &Structure, sizes: &[u32], fun: FunId) -> Mem<JsonList>
-    requires whole { IsStructure structure.now }
-    requires sizes { sizes.now ≡ structure.now.sizes }
-    requires known { fun.0 < length structure.now.functions }
-    ensures { IfOk result (λ l. l ≡ values_data structure.now fun.0) }
-{
-    let mut list = JsonList::new(alloc);
-    let sorts = structure.function_sorts(fun);
-    for number in 0..tuples(sizes, sorts)? {
-        let tuple = tuple_of_number(alloc, sizes, sorts, number);
-        list.push(cell_value(alloc, structure, fun, tuple.as_slice())?)?;
-    }
-    Ok(list)
-}
-
-#[tactic(auto, unfolding(crate::specs::StructureData::function_data))]
-fn function_value(
-    alloc: Global,
-    names: &Names,
-    structure: &Structure,
-    sizes: &[u32],
-    fun: FunId,
-) -> Mem<Json>
-    requires whole { IsStructure structure.now }
-    requires sizes { sizes.now ≡ structure.now.sizes }
-    requires known { fun.0 < length structure.now.functions }
-    ensures { IfOk result (λ j. j ≡ function_data names.now structure.now fun.0) }
-{
-    let mut object = JsonObject::new(alloc);
-    object.set(
-        alloc,
-        "name",
-        name_value(alloc, names.functions.as_slice(), fun.0)?,
-    )?;
-    let values = all_values(alloc, structure, sizes, fun)?;
-    object.set(alloc, "values", values.into_json())?;
+    object.set(alloc, word, cells.into_json())?;
+    set_name(alloc, &mut object, "name", names, number)?;
     Ok(object.into_json())
 }
 
@@ -130,62 +97,73 @@ fn sort_value(alloc: Global, names: &Names, sort: u32, size: u32) -> Mem<Json>
     ensures { IfOk result (λ j. j ≡ sort_data names.now sort size) }
 {
     let mut object = JsonObject::new(alloc);
-    object.set(
-        alloc,
-        "name",
-        name_value(alloc, names.sorts.as_slice(), sort)?,
-    )?;
+    set_name(alloc, &mut object, "name", names.sorts.as_slice(), sort)?;
     object.set_number(alloc, "size", size as u64)?;
     Ok(object.into_json())
 }
 
-fn sorts_value(alloc: Global, model: &Model, structure: &Structure) -> Mem<Json>
+// The sort, relation or function of this number.
+fn item_value(
+    alloc: Global,
+    names: &Names,
+    structure: &Structure,
+    sizes: &[u32],
+    listed: Listed,
+    number: u32,
+) -> Mem<Json>
+    requires whole { IsStructure structure.now }
+    requires sizes { sizes.now ≡ structure.now.sizes }
+    requires known { number < count_of structure.now listed }
+    ensures { IfOk result (λ j. j ≡ item_data names.now structure.now listed number) }
+{
+    match listed {
+        Listed::Sorts => sort_value(alloc, names, number, structure.size(Sort(number))),
+        Listed::Relations => {
+            let tuples = cells(alloc, structure, sizes, Symbol::Relation(RelId(number)))?;
+            symbol_value(alloc, names.relations.as_slice(), number, "tuples", tuples)
+        }
+        Listed::Functions => {
+            let values = cells(alloc, structure, sizes, Symbol::Function(FunId(number)))?;
+            symbol_value(alloc, names.functions.as_slice(), number, "values", values)
+        }
+    }
+}
+
+// How many there are.
+fn count(model: &Model, structure: &Structure, listed: Listed) -> u32
     requires { FitsStructure (symbols model.now.signature) structure.now }
-    ensures { IfOk result (λ j. j ≡ sorts_data model.now.names structure.now) }
+    ensures { result ≡ count_of structure.now listed }
 {
-    let mut list = JsonList::new(alloc);
-    for sort in 0..model.signature().sorts() {
-        list.push(sort_value(alloc, model.names(), sort, structure.size(Sort(sort)))?)?;
+    let signature = model.signature();
+    match listed {
+        Listed::Sorts => signature.sorts(),
+        Listed::Relations => signature.relation_count(),
+        Listed::Functions => signature.function_count(),
     }
-    Ok(list.into_json())
 }
 
-fn relations_value(
+// Sets a member to the list of all sorts, relations or functions.
+fn set_items(
     alloc: Global,
-    names: &Names,
-    count: u32,
+    object: &mut JsonObject,
+    word: &str,
+    model: &Model,
     structure: &Structure,
     sizes: &[u32],
-) -> Mem<Json>
-    requires whole { IsStructure structure.now }
+    listed: Listed,
+) -> Mem<()>
+    requires fits { FitsStructure (symbols model.now.signature) structure.now }
     requires sizes { sizes.now ≡ structure.now.sizes }
-    requires count { count ≡ length structure.now.relations }
-    ensures { IfOk result (λ j. j ≡ relations_data names.now structure.now) }
+    ensures { OnOk result (object.new
+        ≡ with_member object.old word.now (items_data model.now.names structure.now listed)) }
 {
+    let names = model.names();
     let mut list = JsonList::new(alloc);
-    for rel in 0..count {
-        list.push(relation_value(alloc, names, structure, sizes, RelId(rel))?)?;
+    for number in 0..count(model, structure, listed) {
+        list.push(item_value(alloc, names, structure, sizes, listed, number)?)?;
     }
-    Ok(list.into_json())
-}
-
-fn functions_value(
-    alloc: Global,
-    names: &Names,
-    count: u32,
-    structure: &Structure,
-    sizes: &[u32],
-) -> Mem<Json>
-    requires whole { IsStructure structure.now }
-    requires sizes { sizes.now ≡ structure.now.sizes }
-    requires count { count ≡ length structure.now.functions }
-    ensures { IfOk result (λ j. j ≡ functions_data names.now structure.now) }
-{
-    let mut list = JsonList::new(alloc);
-    for fun in 0..count {
-        list.push(function_value(alloc, names, structure, sizes, FunId(fun))?)?;
-    }
-    Ok(list.into_json())
+    object.set(alloc, word, list.into_json())?;
+    Ok(())
 }
 
 /// A structure of the model.
@@ -194,14 +172,34 @@ pub fn structure_value(alloc: Global, model: &Model, structure: &Structure) -> M
     requires { FitsStructure (symbols model.now.signature) structure.now }
     ensures { IfOk result (λ j. j ≡ structure_data model.now.names structure.now) }
 {
-    let signature = model.signature();
-    let names = model.names();
     let sizes = sizes(alloc, model, structure)?;
     let mut object = JsonObject::new(alloc);
-    object.set(alloc, "sorts", sorts_value(alloc, model, structure)?)?;
-    let relations = relations_value(alloc, names, signature.relation_count(), structure, &sizes)?;
-    object.set(alloc, "relations", relations)?;
-    let functions = functions_value(alloc, names, signature.function_count(), structure, &sizes)?;
-    object.set(alloc, "functions", functions)?;
+    set_items(
+        alloc,
+        &mut object,
+        "sorts",
+        model,
+        structure,
+        &sizes,
+        Listed::Sorts,
+    )?;
+    set_items(
+        alloc,
+        &mut object,
+        "relations",
+        model,
+        structure,
+        &sizes,
+        Listed::Relations,
+    )?;
+    set_items(
+        alloc,
+        &mut object,
+        "functions",
+        model,
+        structure,
+        &sizes,
+        Listed::Functions,
+    )?;
     Ok(object.into_json())
 }
