@@ -1,18 +1,16 @@
 -- The text of the reasons of a model's groups.
 use Rattle.std.specs.Prelude.{ℕ, List, [], ◌∷◌, ◌++◌, codes}
 use Rattle.std.specs.List.{flat_map}
-use Rattle.std.specs.Fmt.{decimal}
 use Rattle.rml_command.specs.Models.{ModelTree}
 use Rattle.rml_command.specs.declared.names.Names.{Names}
 use Rattle.rml_report.specs.Words.{name_at}
 use Rattle.rml_report.specs.ReportText.{head_text}
-use Rattle.rml_report.specs.declared.cause.Cause.{Cause}
 use Rattle.rml_reasons.specs.declared.reason.Need.{Need}
 use Rattle.rml_reasons.specs.declared.reason.Lack.{Lack}
 use Rattle.rml_reasons.specs.declared.reason.Lack.TheVariants.{Fails, Open}
 use Rattle.rml_reasons.specs.declared.reason.Carried.{Carried}
 use Rattle.rml_reasons.specs.declared.reason.Carried.TheVariants.{By, Not}
-use Rattle.told_report.specs.CauseWords.{cause_words}
+use Rattle.told_report.specs.CauseWords.{open_at}
 use Rattle.model_reasons.specs.declared.reason.Reason.{Reason}
 use Rattle.model_reasons.specs.Idle.{idle_conjectures}
 
@@ -31,12 +29,9 @@ abbrev pub needs_text : List (List ℕ) → List Need → List ℕ
 needs_text names [] = codes "no conjecture"
 needs_text names (n ∷ needs) = name_at names n.conjecture ++ more_needs names needs
 
-unfoldable pub open_text : ℕ → Cause → List ℕ
-open_text path c = codes "left open at path " ++ decimal path ++ codes ": " ++ cause_words c
-
 abbrev pub lack_text : Lack → List ℕ
 lack_text (Fails shown) = codes "fails"
-lack_text (Open goal c) = open_text goal.path c
+lack_text (Open goal c) = open_at (codes "left open at path ") goal.path c (codes "")
 
 abbrev pub carried_text : List (List ℕ) → Carried → List ℕ
 carried_text names (By needs) = codes "by " ++ needs_text names needs

@@ -2,15 +2,15 @@
 ghost use Rattle.std.specs.Prelude.{◌≡◌, ◌++◌, OnOk, IfOk};
 ghost use Rattle.std.specs.List.{flat_map};
 ghost use Rattle.told_reasons.specs.ReasonsText.{next_name, needs_text, lack_text, carried_text, reason_line};
-ghost use Rattle.told_reasons.specs.ReasonsText.{idle_line, reasons_text, more_names, more_needs, open_text};
+ghost use Rattle.told_reasons.specs.ReasonsText.{idle_line, reasons_text, more_names, more_needs};
 
-use base::{Mem, push_number, push_text};
+use base::{Mem, push_text};
 use model_reasons::{Reason, idle};
 use rml_command::{Checked, Name, Names};
 use rml_reasons::{Carried, Lack, Need};
-use rml_report::{Cause, push_head, push_name};
+use rml_report::{push_head, push_name};
 use std::alloc::Global;
-use told_report::push_cause_words;
+use told_report::push_open_at;
 
 // A name behind a comma.
 #[tactic(auto, using(std::proofs::Common::append_assoc), unfolding(crate::specs::ReasonsText::next_name))]
@@ -48,23 +48,12 @@ fn push_needs(out: &mut Vec<u8>, names: &[Name], needs: &[Need]) -> Mem<()>
     }
 }
 
-#[tactic(auto, using(std::proofs::Common::append_assoc), unfolding(crate::specs::ReasonsText::open_text))]
-fn push_open(out: &mut Vec<u8>, path: u32, cause: &Cause) -> Mem<()>
-    ensures { OnOk result (out.new.items ≡ out.old.items ++ open_text path cause.now) }
-{
-    push_text(out, "left open at path ")?;
-    push_number(out, path as u64)?;
-    push_text(out, ": ")?;
-    push_cause_words(out, cause)?;
-    Ok(())
-}
-
 fn push_lack(out: &mut Vec<u8>, lack: &Lack) -> Mem<()>
     ensures { OnOk result (out.new.items ≡ out.old.items ++ lack_text lack.now) }
 {
     match lack {
         Lack::Fails(_) => push_text(out, "fails"),
-        Lack::Open(goal, cause) => push_open(out, goal.path, cause),
+        Lack::Open(goal, cause) => push_open_at(out, "left open at path ", goal.path, cause, ""),
     }
 }
 

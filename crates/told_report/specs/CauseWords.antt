@@ -1,8 +1,8 @@
 -- Why something is left open.
 use Rattle.std.specs.Prelude.{ℕ, List, ◌++◌, codes}
-use Rattle.std.specs.Fmt.{decimal}
 use Rattle.rml_report.specs.declared.cause.Cause.{Cause}
 use Rattle.rml_report.specs.declared.cause.Cause.TheVariants as cause
+use Rattle.told_report.specs.NumberText.{numbered, two_numbered}
 
 -- the most that each option can be
 abbrev pub most_terms : ℕ
@@ -14,14 +14,20 @@ most_ground = 50000000
 abbrev pub most_conflicts : ℕ
 most_conflicts = 100000000
 
--- a number between two words, and the most that the option can be
-unfoldable pub raise_text : List ℕ → ℕ → List ℕ → ℕ → List ℕ
-raise_text before n behind most = before ++ decimal n ++ behind ++ decimal most
-
 -- why something is left open, and the option to raise
 abbrev pub cause_words : Cause → List ℕ
 cause_words cause.Formula = codes "the formula is too large"
-cause_words (cause.Terms n) = raise_text (codes "") n (codes " ground terms; raise --terms, up to ") most_terms
-cause_words (cause.Ground n) = raise_text (codes "ground size ") n (codes "; raise --ground, up to ") most_ground
+cause_words (cause.Terms n) =
+    two_numbered (codes "") n (codes " ground terms; raise --terms, up to ") most_terms (codes "")
+cause_words (cause.Ground n) =
+    two_numbered (codes "ground size ") n (codes "; raise --ground, up to ") most_ground (codes "")
 cause_words (cause.Conflicts n) =
-    raise_text (codes "") n (codes " conflicts were too few; raise --conflicts, up to ") most_conflicts
+    two_numbered (codes "") n (codes " conflicts were too few; raise --conflicts, up to ") most_conflicts (codes "")
+
+-- a line of its own, behind a word
+unfoldable pub cause_line : List ℕ → Cause → List ℕ
+cause_line before c = before ++ cause_words c ++ codes "\n"
+
+-- the path of a goal that is left open, and why, between two words
+unfoldable pub open_at : List ℕ → ℕ → Cause → List ℕ → List ℕ
+open_at before path c behind = numbered before path (codes ": ") ++ cause_words c ++ behind

@@ -1,3 +1,4 @@
+pub mod NumberText
 pub mod CauseWords
 pub mod ExecutionText
 pub mod ToldText

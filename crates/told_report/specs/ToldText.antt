@@ -2,7 +2,6 @@
 -- fails, what is left open, and how much holds.
 use Rattle.std.specs.Prelude.{ℕ, ◌+◌, List, [], ◌∷◌, ◌++◌, length, codes}
 use Rattle.std.specs.List.{flat_map}
-use Rattle.std.specs.Fmt.{decimal}
 use Rattle.rml_command.specs.Models.{ModelTree}
 use Rattle.rml_command.specs.declared.names.Names.{Names}
 use Rattle.rml_command.specs.declared.goal.Stage.{Stage}
@@ -22,7 +21,8 @@ use Rattle.rml_report.specs.declared.report.Answer.{Answer}
 use Rattle.rml_report.specs.declared.report.Answer.TheVariants as answer
 use Rattle.rml_report.specs.declared.report.Group.{Group}
 use Rattle.rml_report.specs.declared.report.Report.{Report}
-use Rattle.told_report.specs.CauseWords.{cause_words}
+use Rattle.told_report.specs.NumberText.{two_numbered}
+use Rattle.told_report.specs.CauseWords.{cause_line, open_at}
 use Rattle.told_report.specs.ExecutionText.{execution_text}
 
 -- what a block does that it must not
@@ -36,15 +36,12 @@ broken_text names s a = codes "\n" ++ stage_text names s ++ fault_text names a
 
 -- (path 1 of 2)
 unfoldable pub path_text : ℕ → ℕ → List ℕ
-path_text path paths = codes " (path " ++ decimal path ++ codes " of " ++ decimal paths ++ codes ")\n"
-
-unfoldable pub doubt_text : Cause → List ℕ
-doubt_text c = codes "  there may be a smaller one: " ++ cause_words c ++ codes "\n"
+path_text path paths = two_numbered (codes " (path ") path (codes " of ") paths (codes ")\n")
 
 -- nothing where the counterexample is least
 abbrev pub least_text : Least → List ℕ
 least_text least.Yes = []
-least_text (least.Stopped bound size c) = doubt_text c
+least_text (least.Stopped bound size c) = cause_line (codes "  there may be a smaller one: ") c
 
 unfoldable pub failure_text : ModelTree → (Stage → ℕ → List ℕ) → Stage → About → ℕ → Least → Counterexample → List ℕ
 failure_text m lines s a paths l shown =
@@ -61,7 +58,7 @@ group_failing m lines g = failing_text m lines g.stage g.about g.answer
 
 unfoldable pub undecided_text : Names → Stage → About → ℕ → Cause → List ℕ
 undecided_text names s a path c =
-    head_text names s a ++ codes " is left open at path " ++ decimal path ++ codes ": " ++ cause_words c ++ codes "\n"
+    head_text names s a ++ open_at (codes " is left open at path ") path c (codes "\n")
 
 unfoldable pub failed_line : Names → Stage → About → List ℕ
 failed_line names s a = stage_text names s ++ fault_text names a ++ codes "\n"
@@ -87,21 +84,19 @@ held (g ∷ gs) = held_by g.answer + held gs
 
 -- 12 of 14 groups hold
 unfoldable pub count_line : List Group → List ℕ
-count_line gs = decimal (held gs) ++ codes " of " ++ decimal (length gs) ++ codes " groups hold\n"
+count_line gs = two_numbered (codes "") (held gs) (codes " of ") (length gs) (codes " groups hold\n")
 
 abbrev pub verdict_line : Verdict → List ℕ
 verdict_line verdict.Inductive = codes "inductive\n"
 verdict_line verdict.NotInductive = codes "not inductive\n"
 verdict_line verdict.Undecided = codes "undecided\n"
 
-unfoldable pub axioms_open : Cause → List ℕ
-axioms_open c = codes "whether some structure satisfies the axioms is left open: " ++ cause_words c ++ codes "\n"
-
 -- nothing where the axioms are consistent
 abbrev pub axioms_line : Axioms → List ℕ
 axioms_line axioms.Consistent = []
 axioms_line axioms.Inconsistent = codes "no structure satisfies the axioms, so everything holds\n"
-axioms_line (axioms.Undecided c) = axioms_open c
+axioms_line (axioms.Undecided c) =
+    cause_line (codes "whether some structure satisfies the axioms is left open: ") c
 
 -- of a model and a report, with the lines of the branches that the path of a stage takes
 unfoldable pub told_text : ModelTree → (Stage → ℕ → List ℕ) → Report → List ℕ

@@ -1,15 +1,14 @@
 // The groups that fail, and those that are left open: each with its counterexample, and in a line.
 ghost use Rattle.std.specs.Prelude.{◌≡◌, ◌++◌, OnOk};
-ghost use Rattle.rml_report.specs.Reports.{IsRefutation, ShowsRefutation, CanRender};
-ghost use Rattle.told_report.specs.CauseWords.{cause_words};
-ghost use Rattle.told_report.specs.ToldText.{fault_text, broken_text, path_text, doubt_text, least_text};
-ghost use Rattle.told_report.specs.ToldText.{failure_text, failing_text, group_failing, undecided_text};
-ghost use Rattle.told_report.specs.ToldText.{failed_line, summary_text, group_summary};
+ghost use Rattle.rml_report.specs.Reports.{IsRefutation, CanRender};
+ghost use Rattle.told_report.specs.ToldText.{fault_text, broken_text, path_text, least_text, failure_text};
+ghost use Rattle.told_report.specs.ToldText.{group_failing, undecided_text, failed_line, group_summary};
 
 use crate::branches::Branches;
-use crate::causes::push_cause_words;
+use crate::causes::{push_cause_line, push_open_at};
 use crate::execution::push_execution;
-use base::{Mem, push_number, push_text};
+use crate::numbers::push_two_numbered;
+use base::{Mem, push_text};
 use rml_command::{About, Checked, Names, Stage};
 use rml_exec::Counterexample;
 use rml_report::{Answer, Cause, Group, Least, push_head, push_name, push_stage};
@@ -45,26 +44,11 @@ fn push_broken(out: &mut Vec<u8>, names: &Names, stage: Stage, about: About) -> 
 }
 
 /// Adds which path of how many it is.
-#[tactic(auto, using(std::proofs::Common::append_assoc), unfolding(crate::specs::ToldText::path_text))]
+#[tactic(auto, unfolding(crate::specs::ToldText::path_text))]
 pub fn push_path(out: &mut Vec<u8>, path: u32, paths: u64) -> Mem<()>
     ensures { OnOk result (out.new.items ≡ out.old.items ++ path_text path paths) }
 {
-    push_text(out, " (path ")?;
-    push_number(out, path as u64)?;
-    push_text(out, " of ")?;
-    push_number(out, paths)?;
-    push_text(out, ")\n")?;
-    Ok(())
-}
-
-#[tactic(auto, using(std::proofs::Common::append_assoc), unfolding(crate::specs::ToldText::doubt_text))]
-fn push_doubt(out: &mut Vec<u8>, cause: &Cause) -> Mem<()>
-    ensures { OnOk result (out.new.items ≡ out.old.items ++ doubt_text cause.now) }
-{
-    push_text(out, "  there may be a smaller one: ")?;
-    push_cause_words(out, cause)?;
-    push_text(out, "\n")?;
-    Ok(())
+    push_two_numbered(out, " (path ", path as u64, " of ", paths, ")\n")
 }
 
 fn push_least(out: &mut Vec<u8>, least: &Least) -> Mem<()>
@@ -76,7 +60,7 @@ fn push_least(out: &mut Vec<u8>, least: &Least) -> Mem<()>
             at: _,
             size: _,
             cause,
-        } => push_doubt(out, cause),
+        } => push_cause_line(out, "  there may be a smaller one: ", cause),
     }
 }
 
@@ -148,11 +132,7 @@ pub fn push_undecided(
     ensures { OnOk result (out.new.items ≡ out.old.items ++ undecided_text names.now stage about path cause.now) }
 {
     push_head(out, names, stage, about)?;
-    push_text(out, " is left open at path ")?;
-    push_number(out, path as u64)?;
-    push_text(out, ": ")?;
-    push_cause_words(out, cause)?;
-    push_text(out, "\n")?;
+    push_open_at(out, " is left open at path ", path, cause, "\n")?;
     Ok(())
 }
 

@@ -7,10 +7,12 @@ mod branches;
 mod causes;
 mod execution;
 mod groups;
+mod numbers;
 mod telling;
 
 pub use branches::Branches;
-pub use causes::push_cause_words;
+pub use causes::{push_cause_line, push_cause_words, push_open_at};
 pub use execution::{push_after, push_execution, push_step};
 pub use groups::{push_fault, push_path, push_undecided};
+pub use numbers::{push_numbered, push_two_numbered};
 pub use telling::tell;

@@ -1,16 +1,17 @@
 // A report as it is told.
-ghost use Rattle.std.specs.Prelude.{◌≡◌, ◌≤◌, ◌++◌, length, OnOk, IfOk};
+ghost use Rattle.std.specs.Prelude.{◌≡◌, ◌≤◌, ◌++◌, OnOk, IfOk};
 ghost use Rattle.std.specs.List.{AllByRecursion, flat_map};
 ghost use Rattle.rml_report.specs.Reports.{CanRender};
 ghost use Rattle.told_report.specs.ToldText.{group_failing, group_summary, held_by, held, count_line, verdict_line};
-ghost use Rattle.told_report.specs.ToldText.{axioms_open, axioms_line, told_text};
+ghost use Rattle.told_report.specs.ToldText.{axioms_line, told_text};
 
 use crate::branches::Branches;
-use crate::causes::push_cause_words;
+use crate::causes::push_cause_line;
 use crate::groups::{push_failing, push_summary};
-use base::{Mem, push_number, push_text};
+use crate::numbers::push_two_numbered;
+use base::{Mem, push_text};
 use rml_command::{Checked, Names};
-use rml_report::{Answer, Axioms, Cause, Group, Report, Verdict};
+use rml_report::{Answer, Axioms, Group, Report, Verdict};
 use std::alloc::Global;
 
 fn push_verdict(out: &mut Vec<u8>, verdict: Verdict) -> Mem<()>
@@ -21,19 +22,6 @@ fn push_verdict(out: &mut Vec<u8>, verdict: Verdict) -> Mem<()>
         Verdict::NotInductive => push_text(out, "not inductive\n"),
         Verdict::Undecided => push_text(out, "undecided\n"),
     }
-}
-
-#[tactic(auto, using(std::proofs::Common::append_assoc), unfolding(crate::specs::ToldText::axioms_open))]
-fn push_axioms_open(out: &mut Vec<u8>, cause: &Cause) -> Mem<()>
-    ensures { OnOk result (out.new.items ≡ out.old.items ++ axioms_open cause.now) }
-{
-    push_text(
-        out,
-        "whether some structure satisfies the axioms is left open: ",
-    )?;
-    push_cause_words(out, cause)?;
-    push_text(out, "\n")?;
-    Ok(())
 }
 
 fn push_axioms(out: &mut Vec<u8>, axioms: &Axioms) -> Mem<()>
@@ -47,7 +35,13 @@ fn push_axioms(out: &mut Vec<u8>, axioms: &Axioms) -> Mem<()>
                 "no structure satisfies the axioms, so everything holds\n",
             )
         }
-        Axioms::Undecided(cause) => push_axioms_open(out, cause),
+        Axioms::Undecided(cause) => {
+            push_cause_line(
+                out,
+                "whether some structure satisfies the axioms is left open: ",
+                cause,
+            )
+        }
     }
 }
 
@@ -108,15 +102,13 @@ fn held(groups: &[Group]) -> u64
     count
 }
 
-#[tactic(auto, using(std::proofs::Common::append_assoc), unfolding(crate::specs::ToldText::count_line))]
+#[tactic(auto, unfolding(crate::specs::ToldText::count_line))]
 fn push_count(out: &mut Vec<u8>, groups: &[Group]) -> Mem<()>
     ensures { OnOk result (out.new.items ≡ out.old.items ++ count_line groups.now) }
 {
-    push_number(out, held(groups))?;
-    push_text(out, " of ")?;
-    push_number(out, groups.len() as u64)?;
-    push_text(out, " groups hold\n")?;
-    Ok(())
+    let held = held(groups);
+    let all = groups.len() as u64;
+    push_two_numbered(out, "", held, " of ", all, " groups hold\n")
 }
 
 /// The text of a report for a person: the verdict, the axioms where they are in doubt, each group that fails with its

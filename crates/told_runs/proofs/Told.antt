@@ -7,13 +7,10 @@ use Rattle.fol_sig.specs.Symbols.{FitsStructure, symbols}
 use Rattle.rml_command.specs.Trees.{PrimitiveTree}
 use Rattle.rml_command.specs.Outcomes.{follow_path}
 use Rattle.rml_command.specs.Models.{ModelTree}
-use Rattle.rml_command.specs.Fragment.{IsChecked}
-use Rattle.ea_decide.specs.Passing.{Ceilings}
-use Rattle.rml_bmc.specs.Shown.{outcome_of, IsPart, AreParts, IsShownRun}
-use Rattle.rml_bmc.specs.Bounds.{IsBounded, ShowsBreak}
+use Rattle.rml_bmc.specs.Shown.{outcome_of, AreParts, IsShownRun}
+use Rattle.rml_bmc.specs.Bounds.{ShowsBreak}
 use Rattle.rml_bmc.specs.declared.answer.Part.{Part}
 use Rattle.rml_bmc.specs.declared.answer.Run.{Run}
-use Rattle.rml_bmc.specs.declared.answer.Bounded.{Bounded}
 use Rattle.rml_bmc.specs.declared.answer.Length.{Length}
 use Rattle.rml_bmc.specs.declared.answer.Length.TheVariants as answer
 use Rattle.bounded_text.specs.BoundedText as plain

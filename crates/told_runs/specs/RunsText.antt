@@ -23,13 +23,17 @@ use Rattle.rml_bmc.specs.declared.answer.Verdict.{Verdict}
 use Rattle.rml_bmc.specs.declared.answer.Verdict.TheVariants as verdict
 use Rattle.told_states.specs.BeforeText.{before_text}
 use Rattle.told_states.specs.ChangeText.{changes_text}
-use Rattle.told_report.specs.CauseWords.{cause_words}
+use Rattle.told_report.specs.NumberText.{numbered}
+use Rattle.told_report.specs.CauseWords.{cause_line}
 use Rattle.told_report.specs.ExecutionText.{step_text, after_text}
 use Rattle.told_report.specs.ToldText.{fault_text, path_text}
 
--- 1 action, 2 actions
-unfoldable pub actions_text : ℕ → List ℕ
-actions_text n = decimal n ++ (if n == 1 then codes " action" else codes " actions")
+abbrev pub unit_text : ℕ → List ℕ
+unit_text n = if n == 1 then codes " action" else codes " actions"
+
+-- 1 action or 2 actions, between two words
+unfoldable pub actions_text : List ℕ → ℕ → List ℕ → List ℕ
+actions_text before n behind = before ++ decimal n ++ unit_text n ++ behind
 
 -- action connect (path 1 of 2)
 unfoldable pub part_head : ModelTree → Part → List ℕ
@@ -58,13 +62,13 @@ parts_text m lines s (part ∷ parts) = part_text m lines s part ++ parts_text m
 
 -- a run with 2 actions breaks linked_down
 unfoldable pub run_head : Names → ℕ → About → List ℕ
-run_head names k a = codes "\na run with " ++ actions_text k ++ fault_text names a ++ codes "\n"
+run_head names k a = actions_text (codes "\na run with ") k (codes "") ++ fault_text names a
 
 -- the structure in which it begins, its parts, and what is so where it ends
 unfoldable pub run_text : ModelTree → (Stage → ℕ → List ℕ) → ℕ → Run → List ℕ
 run_text m lines k run =
-    run_head m.names k run.about ++ before_text m.names run.start ++ parts_text m lines run.start run.parts
-    ++ after_text m run.about run.values
+    run_head m.names k run.about ++ codes "\n" ++ before_text m.names run.start
+    ++ parts_text m lines run.start run.parts ++ after_text m run.about run.values
 
 -- a length that is broken
 abbrev pub broken_text : ModelTree → (Stage → ℕ → List ℕ) → ℕ → Length → List ℕ
@@ -72,15 +76,14 @@ broken_text m lines k answer.Safe = []
 broken_text m lines k (answer.Undecided c) = []
 broken_text m lines k (answer.Broken run) = run_text m lines k run
 
-unfoldable pub paths_words : ℕ → List ℕ
-paths_words n = codes "they have " ++ decimal n ++ codes " paths, more than are followed"
-
-abbrev pub bound_words : BoundCause → List ℕ
-bound_words (cause.Paths n) = paths_words n
-bound_words (cause.Goal place c) = cause_words c
+abbrev pub bound_line : BoundCause → List ℕ
+bound_line (cause.Paths n) =
+    numbered (codes "they have ") n
+    (codes " paths, more than are followed, whatever the options; leave out actions that the run does not need\n")
+bound_line (cause.Goal place c) = cause_line (codes "") c
 
 unfoldable pub open_line : ℕ → BoundCause → List ℕ
-open_line k c = codes "runs with " ++ actions_text k ++ codes " are left open: " ++ bound_words c ++ codes "\n"
+open_line k c = actions_text (codes "runs with ") k (codes " are left open: ") ++ bound_line c
 
 -- a length that is left open
 abbrev pub open_text : ℕ → Length → List ℕ
@@ -102,11 +105,8 @@ abbrev pub set_off : List ℕ → List ℕ
 set_off [] = []
 set_off (b ∷ bs) = codes "\n" ++ (b ∷ bs)
 
-unfoldable pub safe_line : ℕ → List ℕ
-safe_line k = codes "safe up to " ++ actions_text k ++ codes "\n"
-
 abbrev pub verdict_line : Verdict → ℕ → List ℕ
-verdict_line verdict.Safe k = safe_line k
+verdict_line verdict.Safe k = actions_text (codes "safe up to ") k (codes "\n")
 verdict_line verdict.NotSafe k = codes "not safe\n"
 verdict_line verdict.Undecided k = codes "undecided\n"
 

@@ -1,33 +1,27 @@
 // The lengths in order, and the verdict.
-ghost use Rattle.std.specs.Prelude.{◌≡◌, ◌-◌, ◌++◌, length, OnOk, IfOk};
+ghost use Rattle.std.specs.Prelude.{◌≡◌, ◌-◌, ◌++◌, OnOk, IfOk};
 ghost use Rattle.std.specs.List.{AllByRecursion};
-ghost use Rattle.told_runs.specs.RunsText.{broken_text, paths_words, bound_words, open_line, open_text, all_broken};
-ghost use Rattle.told_runs.specs.RunsText.{all_open};
-ghost use Rattle.told_runs.specs.RunsText.{set_off, safe_line, verdict_line, runs_text, CanTell};
+ghost use Rattle.told_runs.specs.RunsText.{broken_text, bound_line, open_line, open_text, all_broken, all_open};
+ghost use Rattle.told_runs.specs.RunsText.{set_off, verdict_line, runs_text, CanTell};
 
 use crate::showing::{push_actions, push_run};
-use base::{Mem, push_number, push_text};
+use base::{Mem, push_text};
 use rml_bmc::{BoundCause, Bounded, Length, Verdict, verdict_for};
 use rml_command::Checked;
 use std::alloc::Global;
-use told_report::{Branches, push_cause_words};
+use told_report::{Branches, push_cause_line, push_numbered};
 
-#[tactic(auto, using(std::proofs::Common::append_assoc), unfolding(crate::specs::RunsText::paths_words))]
-fn push_paths(out: &mut Vec<u8>, count: u64) -> Mem<()>
-    ensures { OnOk result (out.new.items ≡ out.old.items ++ paths_words count) }
-{
-    push_text(out, "they have ")?;
-    push_number(out, count)?;
-    push_text(out, " paths, more than are followed")?;
-    Ok(())
-}
-
-fn push_bound_words(out: &mut Vec<u8>, cause: &BoundCause) -> Mem<()>
-    ensures { OnOk result (out.new.items ≡ out.old.items ++ bound_words cause.now) }
+fn push_bound_line(out: &mut Vec<u8>, cause: &BoundCause) -> Mem<()>
+    ensures { OnOk result (out.new.items ≡ out.old.items ++ bound_line cause.now) }
 {
     match cause {
-        BoundCause::Paths(count) => push_paths(out, *count),
-        BoundCause::Goal { place: _, cause } => push_cause_words(out, cause),
+        BoundCause::Paths(count) => push_numbered(
+            out,
+            "they have ",
+            *count,
+            " paths, more than are followed, whatever the options; leave out actions that the run does not need\n",
+        ),
+        BoundCause::Goal { place: _, cause } => push_cause_line(out, "", cause),
     }
 }
 
@@ -35,11 +29,8 @@ fn push_bound_words(out: &mut Vec<u8>, cause: &BoundCause) -> Mem<()>
 fn push_open(out: &mut Vec<u8>, actions: u64, cause: &BoundCause) -> Mem<()>
     ensures { OnOk result (out.new.items ≡ out.old.items ++ open_line actions cause.now) }
 {
-    push_text(out, "runs with ")?;
-    push_actions(out, actions)?;
-    push_text(out, " are left open: ")?;
-    push_bound_words(out, cause)?;
-    push_text(out, "\n")?;
+    push_actions(out, "runs with ", actions, " are left open: ")?;
+    push_bound_line(out, cause)?;
     Ok(())
 }
 
@@ -104,21 +95,11 @@ fn push_set_off(out: &mut Vec<u8>, lines: &[u8]) -> Mem<()>
     Ok(())
 }
 
-#[tactic(auto, using(std::proofs::Common::append_assoc), unfolding(crate::specs::RunsText::safe_line))]
-fn push_safe(out: &mut Vec<u8>, actions: u64) -> Mem<()>
-    ensures { OnOk result (out.new.items ≡ out.old.items ++ safe_line actions) }
-{
-    push_text(out, "safe up to ")?;
-    push_actions(out, actions)?;
-    push_text(out, "\n")?;
-    Ok(())
-}
-
 fn push_verdict(out: &mut Vec<u8>, verdict: Verdict, actions: u64) -> Mem<()>
     ensures { OnOk result (out.new.items ≡ out.old.items ++ verdict_line verdict actions) }
 {
     match verdict {
-        Verdict::Safe => push_safe(out, actions),
+        Verdict::Safe => push_actions(out, "safe up to ", actions, "\n"),
         Verdict::NotSafe => push_text(out, "not safe\n"),
         Verdict::Undecided => push_text(out, "undecided\n"),
     }

@@ -3,7 +3,7 @@ ghost use Rattle.std.specs.Prelude.{◌≡◌, ◌++◌, OnOk};
 ghost use Rattle.std.specs.List.{AllByRecursion};
 ghost use Rattle.fol_sig.specs.Symbols.{FitsStructure, symbols};
 ghost use Rattle.told_runs.specs.RunsText.{actions_text, part_head, changes_until, part_text, end_or, parts_text};
-ghost use Rattle.told_runs.specs.RunsText.{run_head, run_text, EndFits, CanShow};
+ghost use Rattle.told_runs.specs.RunsText.{unit_text, run_head, run_text, EndFits, CanShow};
 
 use base::{Mem, push_number, push_text};
 use fol_sig::Structure;
@@ -14,17 +14,25 @@ use std::alloc::Global;
 use told_report::{Branches, push_after, push_fault, push_path, push_step};
 use told_states::{push_before, push_changes};
 
-/// Adds so many actions.
-#[tactic(auto, using(std::proofs::Common::append_assoc), unfolding(crate::specs::RunsText::actions_text))]
-pub fn push_actions(out: &mut Vec<u8>, actions: u64) -> Mem<()>
-    ensures { OnOk result (out.new.items ≡ out.old.items ++ actions_text actions) }
+fn push_unit(out: &mut Vec<u8>, actions: u64) -> Mem<()>
+    ensures { OnOk result (out.new.items ≡ out.old.items ++ unit_text actions) }
 {
-    push_number(out, actions)?;
     if actions == 1 {
-        push_text(out, " action")?;
+        push_text(out, " action")
     } else {
-        push_text(out, " actions")?;
+        push_text(out, " actions")
     }
+}
+
+/// Adds so many actions, between two words.
+#[tactic(auto, using(std::proofs::Common::append_assoc), unfolding(crate::specs::RunsText::actions_text))]
+pub fn push_actions(out: &mut Vec<u8>, before: &str, actions: u64, behind: &str) -> Mem<()>
+    ensures { OnOk result (out.new.items ≡ out.old.items ++ actions_text before.now actions behind.now) }
+{
+    push_text(out, before)?;
+    push_number(out, actions)?;
+    push_unit(out, actions)?;
+    push_text(out, behind)?;
     Ok(())
 }
 
@@ -130,10 +138,8 @@ fn push_parts<B: Branches>(
 fn push_run_head(out: &mut Vec<u8>, names: &Names, actions: u64, about: About) -> Mem<()>
     ensures { OnOk result (out.new.items ≡ out.old.items ++ run_head names.now actions about) }
 {
-    push_text(out, "\na run with ")?;
-    push_actions(out, actions)?;
+    push_actions(out, "\na run with ", actions, "")?;
     push_fault(out, names, about)?;
-    push_text(out, "\n")?;
     Ok(())
 }
 
@@ -153,6 +159,7 @@ pub fn push_run<B: Branches>(
 {
     let model = checked.model();
     push_run_head(out, model.names(), actions, run.about)?;
+    push_text(out, "\n")?;
     push_before(alloc, out, model, &run.start)?;
     push_parts(
         alloc,

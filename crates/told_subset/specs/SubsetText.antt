@@ -2,7 +2,6 @@
 -- which are kept, and what is left open.
 use Rattle.std.specs.Prelude.{ℕ, List, [], ◌++◌, length, Option, Some, None, codes}
 use Rattle.std.specs.List.{flat_map}
-use Rattle.std.specs.Fmt.{decimal}
 use Rattle.rml_command.specs.Models.{ModelTree}
 use Rattle.rml_command.specs.Goals.{stage_paths}
 use Rattle.rml_command.specs.declared.names.Names.{Names}
@@ -13,23 +12,17 @@ use Rattle.rml_report.specs.ReportText.{stage_text}
 use Rattle.rml_report.specs.declared.cause.Cause.{Cause}
 use Rattle.rml_houdini.specs.declared.houdini.Dropped.{Dropped}
 use Rattle.rml_houdini.specs.declared.houdini.Houdini.{Houdini}
+use Rattle.told_report.specs.NumberText.{two_numbered}
 use Rattle.told_report.specs.ExecutionText.{execution_text}
 use Rattle.told_report.specs.ToldText.{path_text, undecided_text}
 
--- keeps 5 of 7 conjectures
-unfoldable pub count_text : ℕ → ℕ → List ℕ
-count_text kept all = codes "keeps " ++ decimal kept ++ codes " of " ++ decimal all ++ codes " conjectures"
-
-unfoldable pub settled_line : ℕ → ℕ → List ℕ
-settled_line kept all = count_text kept all ++ codes ", the greatest inductive set of them\n"
-
-unfoldable pub unsettled_line : ℕ → ℕ → List ℕ
-unsettled_line kept all = codes "undecided: " ++ count_text kept all ++ codes "\n"
-
--- whether those that are kept are inductive is left open, where a goal of theirs is
+-- how many are kept; whether those are inductive is left open, where a goal of theirs is
 abbrev pub verdict_line : ℕ → ℕ → Option (Goal × Cause) → List ℕ
-verdict_line kept all None = settled_line kept all
-verdict_line kept all (Some first) = unsettled_line kept all
+verdict_line kept all None =
+    two_numbered (codes "keeps ") kept (codes " of ") all
+    (codes " conjectures, the greatest inductive set of them\n")
+verdict_line kept all (Some first) =
+    two_numbered (codes "undecided: keeps ") kept (codes " of ") all (codes " conjectures\n")
 
 -- drops linked_down: action connect breaks it (path 1 of 2)
 unfoldable pub drop_head : ModelTree → Dropped → List ℕ

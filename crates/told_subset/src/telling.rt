@@ -2,54 +2,36 @@
 ghost use Rattle.std.specs.Prelude.{◌≡◌, ◌++◌, OnOk, IfOk};
 ghost use Rattle.std.specs.List.{AllByRecursion, flat_map};
 ghost use Rattle.rml_houdini.specs.HoudiniText.{CanRender};
-ghost use Rattle.told_subset.specs.SubsetText.{count_text, settled_line, unsettled_line, verdict_line, keep_line};
-ghost use Rattle.told_subset.specs.SubsetText.{open_line, subset_text};
+ghost use Rattle.told_subset.specs.SubsetText.{verdict_line, keep_line, open_line, subset_text};
 
 use crate::drops::push_drops;
-use base::{Mem, push_number, push_text};
+use base::{Mem, push_text};
 use rml_command::{Checked, Goal, Names};
 use rml_houdini::Houdini;
 use rml_report::{Cause, push_labelled};
 use std::alloc::Global;
-use told_report::{Branches, push_undecided};
-
-#[tactic(auto, using(std::proofs::Common::append_assoc), unfolding(crate::specs::SubsetText::count_text))]
-fn push_count(out: &mut Vec<u8>, kept: u64, all: u64) -> Mem<()>
-    ensures { OnOk result (out.new.items ≡ out.old.items ++ count_text kept all) }
-{
-    push_text(out, "keeps ")?;
-    push_number(out, kept)?;
-    push_text(out, " of ")?;
-    push_number(out, all)?;
-    push_text(out, " conjectures")?;
-    Ok(())
-}
-
-#[tactic(auto, using(std::proofs::Common::append_assoc), unfolding(crate::specs::SubsetText::settled_line))]
-fn push_settled(out: &mut Vec<u8>, kept: u64, all: u64) -> Mem<()>
-    ensures { OnOk result (out.new.items ≡ out.old.items ++ settled_line kept all) }
-{
-    push_count(out, kept, all)?;
-    push_text(out, ", the greatest inductive set of them\n")?;
-    Ok(())
-}
-
-#[tactic(auto, using(std::proofs::Common::append_assoc), unfolding(crate::specs::SubsetText::unsettled_line))]
-fn push_unsettled(out: &mut Vec<u8>, kept: u64, all: u64) -> Mem<()>
-    ensures { OnOk result (out.new.items ≡ out.old.items ++ unsettled_line kept all) }
-{
-    push_text(out, "undecided: ")?;
-    push_count(out, kept, all)?;
-    push_text(out, "\n")?;
-    Ok(())
-}
+use told_report::{Branches, push_two_numbered, push_undecided};
 
 fn push_verdict(out: &mut Vec<u8>, kept: u64, all: u64, unsettled: Option<(Goal, Cause)>) -> Mem<()>
     ensures { OnOk result (out.new.items ≡ out.old.items ++ verdict_line kept all unsettled) }
 {
     match unsettled {
-        None => push_settled(out, kept, all),
-        Some(_) => push_unsettled(out, kept, all),
+        None => push_two_numbered(
+            out,
+            "keeps ",
+            kept,
+            " of ",
+            all,
+            " conjectures, the greatest inductive set of them\n",
+        ),
+        Some(_) => push_two_numbered(
+            out,
+            "undecided: keeps ",
+            kept,
+            " of ",
+            all,
+            " conjectures\n",
+        ),
     }
 }
 
