@@ -24,10 +24,22 @@ byte_rows =
     ∷ (codes "!", hint.Not)
     ∷ (codes "/\\", hint.And)
     ∷ (codes "\\/", hint.Or)
+    ∷ (codes "\\A", hint.Quantifier)
+    ∷ (codes "\\E", hint.Quantifier)
+    ∷ (codes "\\in", hint.Member)
+    ∷ (codes "\\notin", hint.Member)
+    ∷ (codes "\\*", hint.Comment)
+    ∷ (codes "\\", hint.Set)
     ∷ (codes "//", hint.Comment)
+    ∷ (codes "/=", hint.NotEqual)
     ∷ (codes "<=>", hint.Equivalent)
+    ∷ (codes "<<", hint.Member)
     ∷ (codes "<", hint.Order)
     ∷ (codes ">", hint.Order)
+    ∷ (codes "'", hint.Prime)
+    ∷ (codes "[]", hint.Always)
+    ∷ (codes "[", hint.Apply)
+    ∷ (codes "---", hint.Header)
     ∷ []
 
 -- what stands at a bad byte and the one in front of it
@@ -74,13 +86,22 @@ token_rows =
     ∷ ([], codes "havoc", [], hint.Havoc)
     ∷ (codes "action", [], codes "(", hint.Parameters)
     ∷ ([], codes "rml", [], hint.Format)
+    ∷ ([], codes "UNCHANGED", [], hint.Unchanged)
+    ∷ ([], codes "IF", [], hint.If)
+    ∷ ([], [], codes "VARIABLE", hint.Variable)
+    ∷ ([], [], codes "VARIABLES", hint.Variable)
+    ∷ ([], [], codes "CONSTANT", hint.Constant)
+    ∷ ([], [], codes "CONSTANTS", hint.Constant)
+    ∷ ([], [], codes "Init", hint.Init)
+    ∷ ([], [], codes "Next", hint.Action)
+    ∷ ([], codes ")", codes "=", hint.Becomes)
     ∷ []
 
 -- the words of a hint
 abbrev pub words_of : Hint → List ℕ
 words_of hint.NotEqual = codes "unequal is written `~=`"
 words_of hint.Not = codes "`not` is written `~`"
-words_of hint.And = codes "`and` is written `&`"
+words_of hint.And = codes "`and` is written `&`, and commands stand one behind another, with a `;` between"
 words_of hint.Or = codes "`or` is written `|`"
 words_of hint.Implies = codes "implication is written `->`"
 words_of hint.Equivalent = codes "equivalence is written `<->`"
@@ -96,10 +117,22 @@ words_of hint.Sort = codes "a type is declared as `sort NAME`"
 words_of hint.Variable = codes "an individual is declared as `variable NAME : s`"
 words_of hint.Assume = codes "what is required is written `assume ..`"
 words_of hint.Assert = codes "what is ensured is written `assert ..`"
-words_of hint.Becomes = codes "an update is written `x := ..`"
+words_of hint.Becomes = codes "an update is written `x := ..`, `insert r(x)`, `remove r(x)` or `put f(x) = ..`"
 words_of hint.Havoc = codes "to set x to any element is written `x := *`"
 words_of hint.Parameters = codes "an action has no parameters: declare `variable x : s`, and begin with `x := *`"
 words_of hint.Format = codes "there is one format: `rml 1`"
+words_of hint.Quantifier = codes "a quantifier is written `forall X:s. ..` or `exists X:s. ..`"
+words_of hint.Member = codes "what is in a set is told by a relation: `r(x)`, `r(x, y)`"
+words_of hint.Set = codes "a set is a relation: `insert r(x)`, `remove r(x)`, `r(X) := ..`"
+words_of hint.Prime = codes "there are no primes: behind `x := ..` the variable is new"
+words_of hint.Apply = codes "a function is applied as `f(x)`, and changed by `put f(x) = ..`"
+words_of hint.Always = codes "a conjecture is said of every state, without `[]`"
+words_of hint.Header = codes "a file has no header: sorts, relations and actions stand one behind another"
+words_of hint.Unchanged = codes "what no command names stays as it is"
+words_of hint.If = codes "a branch is written `if c { .. } else { .. }`"
+words_of hint.Constant = codes "a constant is a `variable` that no command sets"
+words_of hint.Init = codes "the beginning is written `init { .. }`"
+words_of hint.Action = codes "each way to go on is an `action NAME { .. }`"
 
 -- ---- how they are read
 

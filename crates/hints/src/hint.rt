@@ -49,6 +49,30 @@ pub enum Hint {
     Parameters,
     /// There is one format: `rml 1`.
     Format,
+    /// A quantifier names sorts, and stands before a dot.
+    Quantifier,
+    /// What is in a set is told by a relation: `r(x)`, `r(x, y)`.
+    Member,
+    /// A set is a relation, and changed by `insert` and `remove`.
+    Set,
+    /// There are no primes: behind `x := ..` the variable is new.
+    Prime,
+    /// A function is applied by parentheses, and changed by `put`.
+    Apply,
+    /// A conjecture is said of every state.
+    Always,
+    /// A file has no header.
+    Header,
+    /// What no command names stays as it is.
+    Unchanged,
+    /// A branch is written `if c { .. } else { .. }`.
+    If,
+    /// A constant is a variable that no command sets.
+    Constant,
+    /// The beginning is written `init { .. }`.
+    Init,
+    /// Each way to go on is an `action NAME { .. }`.
+    Action,
 }
 
 impl Hint {
@@ -59,7 +83,8 @@ impl Hint {
         match self {
             Hint::NotEqual => "unequal is written `~=`",
             Hint::Not => "`not` is written `~`",
-            Hint::And => "`and` is written `&`",
+            Hint::And =>
+                "`and` is written `&`, and commands stand one behind another, with a `;` between",
             Hint::Or => "`or` is written `|`",
             Hint::Implies => "implication is written `->`",
             Hint::Equivalent => "equivalence is written `<->`",
@@ -76,25 +101,51 @@ impl Hint {
             Hint::Variable => "an individual is declared as `variable NAME : s`",
             Hint::Assume => "what is required is written `assume ..`",
             Hint::Assert => "what is ensured is written `assert ..`",
-            Hint::Becomes => "an update is written `x := ..`",
+            Hint::Becomes =>
+                "an update is written `x := ..`, `insert r(x)`, `remove r(x)` or `put f(x) = ..`",
             Hint::Havoc => "to set x to any element is written `x := *`",
             Hint::Parameters =>
                 "an action has no parameters: declare `variable x : s`, and begin with `x := *`",
             Hint::Format => "there is one format: `rml 1`",
+            Hint::Quantifier => "a quantifier is written `forall X:s. ..` or `exists X:s. ..`",
+            Hint::Member => "what is in a set is told by a relation: `r(x)`, `r(x, y)`",
+            Hint::Set => "a set is a relation: `insert r(x)`, `remove r(x)`, `r(X) := ..`",
+            Hint::Prime => "there are no primes: behind `x := ..` the variable is new",
+            Hint::Apply => "a function is applied as `f(x)`, and changed by `put f(x) = ..`",
+            Hint::Always => "a conjecture is said of every state, without `[]`",
+            Hint::Header =>
+                "a file has no header: sorts, relations and actions stand one behind another",
+            Hint::Unchanged => "what no command names stays as it is",
+            Hint::If => "a branch is written `if c { .. } else { .. }`",
+            Hint::Constant => "a constant is a `variable` that no command sets",
+            Hint::Init => "the beginning is written `init { .. }`",
+            Hint::Action => "each way to go on is an `action NAME { .. }`",
         }
     }
 }
 
 // What stands at a bad byte.
-pub const BYTE_ROWS: [(&str, Hint); 8] = [
+pub const BYTE_ROWS: [(&str, Hint); 20] = [
     ("!=", Hint::NotEqual),
     ("!", Hint::Not),
     ("/\\", Hint::And),
     ("\\/", Hint::Or),
+    ("\\A", Hint::Quantifier),
+    ("\\E", Hint::Quantifier),
+    ("\\in", Hint::Member),
+    ("\\notin", Hint::Member),
+    ("\\*", Hint::Comment),
+    ("\\", Hint::Set),
     ("//", Hint::Comment),
+    ("/=", Hint::NotEqual),
     ("<=>", Hint::Equivalent),
+    ("<<", Hint::Member),
     ("<", Hint::Order),
     (">", Hint::Order),
+    ("'", Hint::Prime),
+    ("[]", Hint::Always),
+    ("[", Hint::Apply),
+    ("---", Hint::Header),
 ];
 
 // What stands at a bad byte and the one in front of it.
@@ -102,7 +153,7 @@ pub const PAIR_ROWS: [(&str, Hint); 1] = [("=>", Hint::Implies)];
 
 // What stands round an unexpected token: the token before the one in front, the one in front, and the one at the fault;
 // an empty one is any, or none.
-pub const TOKEN_ROWS: [(&str, &str, &str, Hint); 36] = [
+pub const TOKEN_ROWS: [(&str, &str, &str, Hint); 45] = [
     ("", "else", "if", Hint::ElseIf),
     ("", "=", "=", Hint::Equal),
     ("", "&", "&", Hint::And),
@@ -139,4 +190,13 @@ pub const TOKEN_ROWS: [(&str, &str, &str, Hint); 36] = [
     ("", "havoc", "", Hint::Havoc),
     ("action", "", "(", Hint::Parameters),
     ("", "rml", "", Hint::Format),
+    ("", "UNCHANGED", "", Hint::Unchanged),
+    ("", "IF", "", Hint::If),
+    ("", "", "VARIABLE", Hint::Variable),
+    ("", "", "VARIABLES", Hint::Variable),
+    ("", "", "CONSTANT", Hint::Constant),
+    ("", "", "CONSTANTS", Hint::Constant),
+    ("", "", "Init", Hint::Init),
+    ("", "", "Next", Hint::Action),
+    ("", ")", "=", Hint::Becomes),
 ];
