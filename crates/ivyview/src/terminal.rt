@@ -32,7 +32,7 @@ impl<W: Write + Drop> Progress for ProgressLine<W> {
             Work::Groups => write!(self.writer, "\r\x1b[Kgroup {done} of {all}"),
             Work::Walks(actions) => write!(
                 self.writer,
-                "\r\x1b[Kwalk {done} of {all}, with {actions} actions"
+                "\r\x1b[Kactions: {actions}; walk {done} of {all}"
             ),
             Work::Drops => write!(self.writer, "\r\x1b[K{done} of {all} conjectures dropped"),
         };

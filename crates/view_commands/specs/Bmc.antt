@@ -1,5 +1,5 @@
 -- What is shown of the answer of `bmc`.
-use Rattle.std.specs.Prelude.{ℕ, List, [], ◌++◌, Option, codes}
+use Rattle.std.specs.Prelude.{ℕ, List, [], Option, codes}
 use Rattle.std.specs.List.{flat_map}
 use Rattle.rml_command.specs.Models.{ModelTree}
 use Rattle.rml_bmc.specs.Lengths.{verdict_of}

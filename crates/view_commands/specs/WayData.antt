@@ -1,5 +1,5 @@
 -- The branches that paths take, as JSON.
-use Rattle.std.specs.Prelude.{ℕ, true, false, List, [], ◌∷◌, ◌++◌, map, Option, Some, None, codes}
+use Rattle.std.specs.Prelude.{ℕ, true, false, List, [], ◌∷◌, map, Option, Some, None, codes}
 use Rattle.serde_json.specs.Data.{Data, null, boolean, string}
 use Rattle.rml_lex.specs.Place.{line_of, column_of}
 use Rattle.rml_command.specs.declared.goal.Stage.{Stage}

@@ -6,7 +6,7 @@ ghost use Rattle.told_runs.specs.RunsText.{CanTell};
 ghost use Rattle.command_parts.specs.ModelTexts.{IsTheModel};
 ghost use Rattle.model_commands.specs.Bmc.{IsBmcAnswerBy};
 ghost use Rattle.told_fault.specs.Readings.{IsReading};
-ghost use Rattle.view_commands.specs.Views.{IsViewed, source_of, ways_at};
+ghost use Rattle.view_commands.specs.Views.{IsViewed, source_of};
 ghost use Rattle.view_commands.specs.Bmc.{length_graphs, bounded_line, bounded_view, bmc_view};
 
 use crate::faults::{line_of, say_fault};

@@ -4,9 +4,9 @@ ghost use Rattle.std.specs.List.{AllByRecursion};
 ghost use Rattle.rml_report.specs.Reports.{CanRender};
 ghost use Rattle.command_parts.specs.Limits.{ceilings_of};
 ghost use Rattle.command_parts.specs.ModelTexts.{IsTheModel};
-ghost use Rattle.model_commands.specs.Check.{IsCheckAnswerBy, IsCheckedBy, verdict_status};
+ghost use Rattle.model_commands.specs.Check.{IsCheckAnswerBy, verdict_status};
 ghost use Rattle.told_fault.specs.Readings.{IsReading};
-ghost use Rattle.view_commands.specs.Views.{IsViewed, source_of, ways_at};
+ghost use Rattle.view_commands.specs.Views.{IsViewed, source_of};
 ghost use Rattle.view_commands.specs.Check.{checked_line, checked_text, check_view};
 
 use crate::faults::{line_of, say_fault};

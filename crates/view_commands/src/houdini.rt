@@ -6,7 +6,7 @@ ghost use Rattle.command_parts.specs.Limits.{ceilings_of};
 ghost use Rattle.command_parts.specs.ModelTexts.{IsTheModel};
 ghost use Rattle.model_commands.specs.Houdini.{IsHoudiniAnswerBy};
 ghost use Rattle.told_fault.specs.Readings.{IsReading};
-ghost use Rattle.view_commands.specs.Views.{IsViewed, source_of, ways_at};
+ghost use Rattle.view_commands.specs.Views.{IsViewed, source_of};
 ghost use Rattle.view_commands.specs.Houdini.{found_line, found_text, houdini_view};
 
 use crate::faults::{line_of, say_fault};

@@ -1,8 +1,9 @@
 // The branches that paths take, as JSON.
-ghost use Rattle.std.specs.Prelude.{◌≡◌, ◌≤◌, ◌++◌, length, map, IfOk, OnOk};
+ghost use Rattle.std.specs.Prelude.{◌≡◌, ◌≤◌, codes, length, map, IfOk, OnOk};
+ghost use Rattle.serde_json.specs.Data.{boolean, string};
 ghost use Rattle.branches.specs.Within.{MarksWithin};
-ghost use Rattle.json_values.specs.Values.{set_each};
-ghost use Rattle.view_commands.specs.WayData.{turn_members, mark_data, ways_data, answer_ways, group_ways, drop_ways};
+ghost use Rattle.json_values.specs.Values.{set_each, with_member};
+ghost use Rattle.view_commands.specs.WayData.{turn_members, mark_data, answer_ways, group_ways, drop_ways};
 
 use crate::ways::Ways;
 use base::Mem;
@@ -19,8 +20,18 @@ fn set_branch(alloc: Global, object: &mut JsonObject, branch: Branch) -> Mem<()>
     ensures { OnOk result (object.new ≡ set_each object.old (turn_members (Turn.Takes branch))) }
 {
     object.set_word(alloc, "at", "choose")?;
-    object.set(alloc, "branch", Json::number(branch.number))?;
-    object.set(alloc, "of", Json::number(branch.count))?;
+    object.set_number(alloc, "branch", branch.number)?;
+    object.set_number(alloc, "of", branch.count)?;
+    Ok(())
+}
+
+// Which word stands there, and whether it is so.
+fn set_way(alloc: Global, object: &mut JsonObject, at: &str, what: &str, is_so: bool) -> Mem<()>
+    ensures { OnOk result (object.new
+        ≡ with_member (with_member object.old (codes "at") (string at.now)) what.now (boolean is_so)) }
+{
+    object.set_word(alloc, "at", at)?;
+    object.set(alloc, what, Json::truth(is_so))?;
     Ok(())
 }
 
@@ -29,26 +40,10 @@ fn set_turn(alloc: Global, object: &mut JsonObject, turn: Turn) -> Mem<()>
     ensures { OnOk result (object.new ≡ set_each object.old (turn_members turn)) }
 {
     match turn {
-        Turn::AssertFails => {
-            object.set_word(alloc, "at", "assert")?;
-            object.set(alloc, "holds", Json::truth(false))?;
-            Ok(())
-        }
-        Turn::AssertPasses => {
-            object.set_word(alloc, "at", "assert")?;
-            object.set(alloc, "passed", Json::truth(true))?;
-            Ok(())
-        }
-        Turn::IfHolds => {
-            object.set_word(alloc, "at", "if")?;
-            object.set(alloc, "holds", Json::truth(true))?;
-            Ok(())
-        }
-        Turn::IfFails => {
-            object.set_word(alloc, "at", "if")?;
-            object.set(alloc, "holds", Json::truth(false))?;
-            Ok(())
-        }
+        Turn::AssertFails => set_way(alloc, object, "assert", "holds", false),
+        Turn::AssertPasses => set_way(alloc, object, "assert", "passed", true),
+        Turn::IfHolds => set_way(alloc, object, "if", "holds", true),
+        Turn::IfFails => set_way(alloc, object, "if", "holds", false),
         Turn::Takes(branch) => set_branch(alloc, object, branch),
     }
 }
@@ -60,8 +55,8 @@ fn mark_value(alloc: Global, text: &[u8], mark: Mark) -> Mem<Json>
 {
     let (line, column) = place(text, mark.at);
     let mut object = JsonObject::new(alloc);
-    object.set(alloc, "line", Json::number(line))?;
-    object.set(alloc, "column", Json::number(column))?;
+    object.set_number(alloc, "line", line)?;
+    object.set_number(alloc, "column", column)?;
     set_turn(alloc, &mut object, mark.turn)?;
     Ok(object.into_json())
 }

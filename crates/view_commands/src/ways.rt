@@ -1,5 +1,5 @@
 // Which branches the paths of a model take, by the tree of its text.
-ghost use Rattle.std.specs.Prelude.{◌≡◌, ◌++◌, IfOk, OnOk};
+ghost use Rattle.std.specs.Prelude.{◌≡◌, IfOk};
 ghost use Rattle.command_parts.specs.ModelTexts.{IsTheModel};
 ghost use Rattle.told_fault.specs.Readings.{IsReading};
 ghost use Rattle.view_commands.specs.Views.{source_of, ways_at};

@@ -5,7 +5,6 @@ ghost use Rattle.command_line.specs.Asking.{IsInRange};
 ghost use Rattle.command_parts.specs.Limits.{ceilings_of};
 ghost use Rattle.model_reasons.specs.Reasons.{AreReasons};
 ghost use Rattle.model_reasons.specs.Laws.{CarriedIsShown};
-ghost use Rattle.told_fault.specs.Readings.{IsReading};
 ghost use Rattle.view_commands.specs.Views.{IsViewed};
 ghost use Rattle.view_commands.specs.Why.{IsWhyAnswer, fails, is_open, reasons_line, reasons_view};
 ghost use Rattle.view_commands.specs.Why.{why_status, why_view};

@@ -11,7 +11,7 @@ head_text =
     codes "ivyview: what ivycheck finds of a protocol's model, as a person wants to see it\n"
     ++ codes "\n"
     ++ codes "    ivyview check FILE              is the model inductive?\n"
-    ++ codes "    ivyview bmc FILE --steps K      does a run with at most K actions go wrong?\n"
+    ++ codes "    ivyview bmc FILE --steps K      does a run with at most K actions (0 to 12) go wrong?\n"
     ++ codes "    ivyview houdini FILE            which of the conjectures are inductive together?\n"
     ++ codes "    ivyview why FILE                which conjectures carry which group of goals?\n"
     ++ codes "    ivyview replay MODEL REPORT     is a report that `ivycheck check` printed right?\n"
@@ -26,7 +26,7 @@ options_text =
     ++ codes "    --ground N      its ground formulas may have this size (2000000, up to 50000000)\n"
     ++ codes "    --conflicts N   so many clauses may be learnt for it (100000, up to 100000000)\n"
     ++ codes "    --lean          the first two are on lean counts (check, bmc, houdini)\n"
-    ++ codes "    --dot           pictures (check, bmc, houdini): ivyview check FILE --dot | dot -Tsvg >FILE.svg\n"
+    ++ codes "    --dot           pictures (check, bmc, houdini): ivyview check FILE --dot >F.dot; dot -Tsvg -O F.dot\n"
     ++ codes "    --json          the whole outcome as one JSON value\n"
     ++ codes "    --help, --version\n"
     ++ codes "\n"
@@ -41,7 +41,11 @@ status_text =
 unfoldable pub help_text : List ℕ
 help_text = head_text ++ options_text ++ status_text
 
+-- words that are no command line are answered with what one is
+unfoldable pub usage_text : List ℕ
+usage_text = codes "ivyview: these words are no command line\n\n" ++ help_text
+
 abbrev pub words_due : Words → Due
 words_due Help = on_out help_text 0
 words_due Version = on_out (codes "ivyview 1, for models of rml 1\n") 0
-words_due Usage = on_err (codes "ivyview: these words are no command line; ivyview --help says which are\n") 2
+words_due Usage = on_err usage_text 2

@@ -1,7 +1,7 @@
 // What is answered with words alone: what the words of a command line are, which version this is, and that these are
 // none.
-ghost use Rattle.std.specs.Prelude.{◌≡◌, IfOk};
-ghost use Rattle.view_run.specs.Words.{words_due, help_text, head_text, options_text, status_text};
+ghost use Rattle.std.specs.Prelude.{◌≡◌, ◌++◌, IfOk, OnOk};
+ghost use Rattle.view_run.specs.Words.{words_due, help_text, head_text, options_text, status_text, usage_text};
 
 use base::{Mem, push_text};
 use command_parts::{complaint, shown};
@@ -20,7 +20,7 @@ pub enum Words {
 const HEAD: &str = "ivyview: what ivycheck finds of a protocol's model, as a person wants to see it
 
     ivyview check FILE              is the model inductive?
-    ivyview bmc FILE --steps K      does a run with at most K actions go wrong?
+    ivyview bmc FILE --steps K      does a run with at most K actions (0 to 12) go wrong?
     ivyview houdini FILE            which of the conjectures are inductive together?
     ivyview why FILE                which conjectures carry which group of goals?
     ivyview replay MODEL REPORT     is a report that `ivycheck check` printed right?
@@ -33,7 +33,7 @@ const OPTIONS: &str = "A FILE may be -, for standard input. Options, anywhere am
     --ground N      its ground formulas may have this size (2000000, up to 50000000)
     --conflicts N   so many clauses may be learnt for it (100000, up to 100000000)
     --lean          the first two are on lean counts (check, bmc, houdini)
-    --dot           pictures (check, bmc, houdini): ivyview check FILE --dot | dot -Tsvg >FILE.svg
+    --dot           pictures (check, bmc, houdini): ivyview check FILE --dot >F.dot; dot -Tsvg -O F.dot
     --json          the whole outcome as one JSON value
     --help, --version
 
@@ -46,13 +46,30 @@ const STATUS: &str =
 ";
 
 #[tactic(auto, using(std::proofs::Common::append_assoc), unfolding(crate::specs::Words::help_text))]
+fn push_help(out: &mut Vec<u8>) -> Mem<()>
+    ensures { OnOk result (out.new.items ≡ out.old.items ++ help_text) }
+{
+    push_text(out, HEAD)?;
+    push_text(out, OPTIONS)?;
+    push_text(out, STATUS)?;
+    Ok(())
+}
+
 fn help(alloc: Global) -> Mem<Vec<u8>>
     ensures { IfOk result (λ text. text.items ≡ help_text) }
 {
     let mut out = Vec::new(alloc);
-    push_text(&mut out, HEAD)?;
-    push_text(&mut out, OPTIONS)?;
-    push_text(&mut out, STATUS)?;
+    push_help(&mut out)?;
+    Ok(out)
+}
+
+#[tactic(auto, using(std::proofs::Common::append_assoc), unfolding(crate::specs::Words::usage_text))]
+fn usage(alloc: Global) -> Mem<Vec<u8>>
+    ensures { IfOk result (λ text. text.items ≡ usage_text) }
+{
+    let mut out = Vec::new(alloc);
+    push_text(&mut out, "ivyview: these words are no command line\n\n")?;
+    push_help(&mut out)?;
     Ok(out)
 }
 
@@ -80,11 +97,7 @@ impl Command for Words {
                 "ivyview 1, for models of rml 1\n".as_bytes().to_vec(alloc)?,
                 0,
             )),
-            Words::Usage => {
-                let line =
-                    "ivyview: these words are no command line; ivyview --help says which are\n";
-                Ok(complaint(line.as_bytes().to_vec(alloc)?, 2))
-            }
+            Words::Usage => Ok(complaint(usage(alloc)?, 2)),
         }
     }
 }

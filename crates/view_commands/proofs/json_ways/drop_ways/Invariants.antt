@@ -1,5 +1,5 @@
 -- The values so far, and behind them those of the rest.
-use Rattle.std.proofs.Common.{◌≡◌, ◌++◌, map, length}
+use Rattle.std.proofs.Common.{◌≡◌, ◌++◌, length}
 use Rattle.view_commands.specs.WayData.{drop_ways}
 use Rattle.view_commands.proofs.json_ways.drop_ways.Given as goal
 
