@@ -42,7 +42,8 @@ def main():
         said = re.search(r"verdict: (.*)", out)
         lacks = lacks or not said
         verdict = said[1] if said else err.strip()
-        print(f"| `{os.path.basename(file)}` | {verdict} | {goals(file)} | {seconds:.2f} | {megabytes:.0f} |", flush=True)
+        name = os.path.basename(file)
+        print(f"| `{name}` | {verdict} | {goals(file)} | {seconds:.2f} | {megabytes:.0f} |", flush=True)
     sys.exit(1 if lacks else 0)
 
 

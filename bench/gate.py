@@ -239,9 +239,9 @@ def page(runs):
     costs, marked = merged(runs, sums(HERE))
     yield "# What the gate costs"
     yield ""
-    yield from wrapped("Written whole by `bench/gate.py`, from runs of `rt ci` that it watched: lines of text, must-fail "
-                       "edits, and processor minutes of each crate's proofs, of its proofs with tests, and of its edits "
-                       "with the check that they begin with. Processor time goes up with the load: on processors that "
+    yield from wrapped("Written whole by `bench/gate.py`, from runs of `rt ci` that it watched: lines of text, "
+                       "must-fail edits, and processor minutes of each crate's proofs, of its proofs with tests, and "
+                       "of its edits with the check that they begin with. Processor time goes up with the load: on processors that "
                        "were busy, times are up to twice those on quiet ones.")
     yield ""
     for run in runs:

@@ -75,7 +75,8 @@ def decided(file, goal, limits, cnf, lrat, minisat):
     with tempfile.NamedTemporaryFile("w+") as clauses:
         status, _, err = cnf.run([program(), "emit", file, str(goal), "cnf", *limits], clauses)
         ours = lrat.run([program(), "emit", file, str(goal), "lrat", *limits])[0]
-        return ours, minisat.run(["minisat", "-no-pre", "-verb=0", clauses.name])[0] if status == 0 else None, err.strip()
+        theirs = minisat.run(["minisat", "-no-pre", "-verb=0", clauses.name])[0] if status == 0 else None
+        return ours, theirs, err.strip()
 
 
 def compare(file, limits, most):

@@ -114,7 +114,8 @@ def growths_of(library, words, folder):
     counted = os.path.join(folder, "counted")
     run(words, {**os.environ, "LD_PRELOAD": library, "COUNTED": counted})
     if not os.path.exists(counted) or os.path.getsize(counted) < 2:
-        sys.exit("growths.py: the growths of this program cannot be counted: it takes memory by no call of the C library")
+        sys.exit("growths.py: the growths of this program cannot be counted: "
+                 "it takes memory by no call of the C library")
     with open(counted) as it:
         count = int(it.read())
     os.remove(counted)

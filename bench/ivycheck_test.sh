@@ -305,10 +305,12 @@ begin
 touch "$room/work/cnf" "$room/work/400"
 run --first-look check model
 expect 'a first look runs the code by rt try' wrote "tried <check> <$room/work/model>"
-expect 'a first look says that nothing is proved, and how slow it is' said_once '300 times slower than the program, and nothing'
+expect 'a first look says that nothing is proved, and how slow it is' \
+    said_once '300 times slower than the program, and nothing'
 expect 'a first look ends with the status' ended 4
 run --first-look check --terms 400 model --ground=400 --conflicts 400
-expect 'a value of an option is no file' wrote "<check> <--terms> <400> <$room/work/model> <--ground=400> <--conflicts> <400>"
+expect 'a value of an option is no file' \
+    wrote "<check> <--terms> <400> <$room/work/model> <--ground=400> <--conflicts> <400>"
 run --first-look bmc --steps 400 model
 expect 'a bound of runs is no file' wrote "<bmc> <--steps> <400> <$room/work/model>"
 run --first-look emit model 400 cnf

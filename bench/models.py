@@ -169,7 +169,7 @@ class Maker:
 # -- The judge ----------------------------------------------------------------
 
 class World:
-    """The structures of a model with these sizes. A structure is a dictionary from symbols to their values by tuples."""
+    """The structures of a model with these sizes. A structure is a dictionary from symbols to values by tuples."""
 
     def __init__(self, model, sizes):
         self.model, self.sizes = model, dict(zip(model.sorts, sizes))

@@ -57,7 +57,8 @@ def main():
                 if log.returncode != 0:
                     continue
                 names = [f"{goal}.cnf", f"{goal}.lrat", f"{goal}-damaged.lrat"]
-                for name, text in zip(names, [emit(file, goal, "cnf", words).stdout, log.stdout, without_a_hint(log.stdout)]):
+                texts = [emit(file, goal, "cnf", words).stdout, log.stdout, without_a_hint(log.stdout)]
+                for name, text in zip(names, texts):
                     with open(f"{folder}/{name}", "w") as out:
                         out.write(text)
                 whole.append(names[:2])

@@ -44,7 +44,9 @@ def proved(file, goal, most, room):
     except ValueError as why:
         return str(why)
     judged = run([program(), "lrat", cnf, log])
-    return "accepted" if judged.stdout == "verdict: refuted\n" else f"lrat says {(judged.stdout + judged.stderr).strip()}"
+    if judged.stdout == "verdict: refuted\n":
+        return "accepted"
+    return f"lrat says {(judged.stdout + judged.stderr).strip()}"
 
 
 def main():
@@ -55,7 +57,8 @@ def main():
     wrong = 0
     for file in given.files:
         said = run([program(), "emit", file, "1000000000", "cnf"]).stderr
-        goals = int((re.fullmatch(r"there are (\d+) goals\n", said) or sys.exit(f"proofs.py: {file}: {said.strip()}"))[1])
+        counted = re.fullmatch(r"there are (\d+) goals\n", said) or sys.exit(f"proofs.py: {file}: {said.strip()}")
+        goals = int(counted[1])
         with tempfile.TemporaryDirectory() as room:
             ends = [proved(file, goal, given.most, room) for goal in range(1, goals + 1)]
         counted = {it: ends.count(it) for it in ("accepted", "a model", "passed over")}

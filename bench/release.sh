@@ -41,7 +41,8 @@ check_one() {
 release_one() {
     "$program" check /dev/null | grep -qx 'verdict: inductive\|inductive' ||
         give_up "$program does not answer as it should"
-    mkdir -p "$release" && cp "$program" "$release/new" && chmod 755 "$release/new" || give_up "cannot write to $release"
+    mkdir -p "$release" && cp "$program" "$release/new" && chmod 755 "$release/new" ||
+        give_up "cannot write to $release"
     mv "$release/new" "$release/$1" && echo "$sums" >"$release/$file_of_sums" || give_up "cannot write to $release"
     echo "$sums"
 }

@@ -36,7 +36,8 @@ class Model:
 
     def stages(self):
         """Gives each stage with its paths, in the order of the report."""
-        return [("init", self.init), *((f"action {name}", paths) for name, paths in self.actions), ("final", self.final)]
+        actions = [(f"action {name}", paths) for name, paths in self.actions]
+        return [("init", self.init), *actions, ("final", self.final)]
 
     def goals(self):
         """Gives each goal as (stage, number of the path, path, name of the conjecture or None, the conjecture)."""

@@ -208,11 +208,13 @@ begin holds fails
 sed -i 's/^action a c: fails/action a c: holds/; /^  /d; s/not inductive/inductive/' "$FAKE/report"
 echo 0 >"$FAKE/ends"
 with_minisat breaks.rml
-expect 'goals: a report that says otherwise is told' wrote "check says 'action a c: holds', by minisat it is 'action a c: fails"
+expect 'goals: a report that says otherwise is told' \
+    wrote "check says 'action a c: holds', by minisat it is 'action a c: fails"
 expect 'goals: a report that says otherwise is told' ended 1
 begin holds holds
 with_minisat breaks.rml
-expect 'goals: so is one that fails what holds' wrote "check says 'verdict: not inductive', by minisat it is 'verdict: inductive'"
+expect 'goals: so is one that fails what holds' \
+    wrote "check says 'verdict: not inductive', by minisat it is 'verdict: inductive'"
 begin holds fails holds
 with_minisat breaks.rml
 expect 'goals: other goals than those of the text are told' wrote 'emit has 3 goals, the blocks of the text 2'
@@ -431,7 +433,8 @@ else
     bench outside.sh
     expect 'outside: each case' ended 0
     bench prefixes.py flag.rml
-    expect 'prefixes: as its row has it' grep -qxF "$(grep '^each-prefix' "$room/out")" "$here/crates/rows/data/prefixes.txt"
+    expect 'prefixes: as its row has it' \
+        grep -qxF "$(grep '^each-prefix' "$room/out")" "$here/crates/rows/data/prefixes.txt"
     "$here/bench/names.py" >"$room/names.rml"
     "$program" check "$room/names.rml" >"$room/out" 2>"$room/err"
     expect 'names: its model is read' wrote 'verdict: '

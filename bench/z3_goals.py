@@ -46,7 +46,8 @@ class State:
             return (z3.And if word == "and" else z3.Or)([self.value(p, env) for p in e[1]])
         if word in ("forall", "exists"):
             bound = [(x, self.fresh(sort)) for x, sort in e[1]]
-            return (z3.ForAll if word == "forall" else z3.Exists)([c for _, c in bound], self.value(e[2], env | dict(bound)))
+            quantifier = z3.ForAll if word == "forall" else z3.Exists
+            return quantifier([c for _, c in bound], self.value(e[2], env | dict(bound)))
         parts = [self.value(p, env) for p in e[1:]]
         if word == "not":
             return z3.Not(parts[0])
