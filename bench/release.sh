@@ -53,7 +53,8 @@ for name in ivycheck ivyview; do
     program=$crates/$name/out/$name
     [ -f "$program" ] || give_up "there is no program $program: run rt ci first"
     file_of_sums=$(sums_of "$name")
-    sums=$(printf 'sources: %s\nkit: %s\nprogram: %s' "$("$root/$name" --sum)" "$version" "$(sum_of "$program")")
+    sources=$("$root/$name" --sum) && [ -n "$sources" ] || give_up "./$name does not say the sum of its sources"
+    sums=$(printf 'sources: %s\nkit: %s\nprogram: %s' "$sources" "$version" "$(sum_of "$program")")
     if [ -n "$check" ]; then
         check_one "$name"
     else
