@@ -16,9 +16,9 @@ use Rattle.rml_exec.specs.declared.trace.Counterexample.{Counterexample}
 use Rattle.rml_report.specs.Words.{numbers_line}
 use Rattle.rml_report.specs.TableText.{each_tuple, listed_text, tuple_text, cell_text, value_text, values_text}
 use Rattle.rml_report.specs.TableText.{symbol_label, symbol_line, relation_line, function_line, tables_text, sorts_text}
-use Rattle.rml_report.specs.TableText.{arguments_of}
-use Rattle.rml_report.specs.declared.structures.Symbol.{Symbol}
-use Rattle.rml_report.specs.declared.structures.Symbol.TheVariants as symbol
+use Rattle.fol_sig.specs.SymbolTables.{arguments_of}
+use Rattle.fol_sig.specs.declared.symbol.Symbol.{Symbol}
+use Rattle.fol_sig.specs.declared.symbol.Symbol.TheVariants as symbol
 use Rattle.rml_report.specs.ReportText.{head_text, path_line, least_line, outcome_text, execution_text, block_text}
 use Rattle.rml_report.specs.ReportText.{answer_text, group_text, axioms_text, verdict_text, report_text}
 use Rattle.rml_report.specs.declared.cause.Least.{Least}

@@ -6,8 +6,8 @@ use Rattle.std.specs.Fmt.{decimal}
 use Rattle.fol_sig.specs.Tables.{Tables, relation_at, function_at, rel_at, fun_at}
 use Rattle.rml_command.specs.declared.names.Names.{Names}
 use Rattle.told_states.specs.SymbolText.{symbol_name, all_cells}
-use Rattle.told_states.specs.declared.symbols.Symbol.{Symbol}
-use Rattle.told_states.specs.declared.symbols.Symbol.TheVariants as symbol
+use Rattle.fol_sig.specs.declared.symbol.Symbol.{Symbol}
+use Rattle.fol_sig.specs.declared.symbol.Symbol.TheVariants as symbol
 use Rattle.dot_graph.specs.NodeText.{node_id}
 
 unfoldable pub colour_text : Bool → List ℕ

@@ -10,8 +10,8 @@ use Rattle.rml_command.specs.declared.names.Names.{Names}
 use Rattle.rml_report.specs.Words.{name_at, labelled}
 use Rattle.told_states.specs.ElementText.{element_text}
 use Rattle.told_states.specs.SymbolText.{symbols_of}
-use Rattle.told_states.specs.declared.symbols.Symbol.{Symbol}
-use Rattle.told_states.specs.declared.symbols.Symbol.TheVariants as symbol
+use Rattle.fol_sig.specs.declared.symbol.Symbol.{Symbol}
+use Rattle.fol_sig.specs.declared.symbol.Symbol.TheVariants as symbol
 
 -- the node of an element: a letter for the structure, the number of the sort, and the number of the element
 unfoldable pub node_id : List ℕ → ℕ → ℕ → List ℕ

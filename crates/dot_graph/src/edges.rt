@@ -2,16 +2,17 @@
 ghost use Rattle.std.specs.Prelude.{◌≡◌, ◌++◌, OnOk, IfOk};
 ghost use Rattle.fol_sig.specs.Tables.{numbers};
 ghost use Rattle.fol_sig.specs.Symbols.{FitsStructure, symbols};
-ghost use Rattle.told_states.specs.SymbolText.{symbol_name, IsCell};
+ghost use Rattle.fol_sig.specs.SymbolTables.{IsCell};
+ghost use Rattle.told_states.specs.SymbolText.{symbol_name};
 ghost use Rattle.told_states.specs.Alike.{AreAlike};
 ghost use Rattle.dot_graph.specs.EdgeText.{symbol_id, hub_id, cell_text, tuple_text, edges_text};
 
 use crate::lines::{push_digits, push_tuple};
 use base::{Mem, push_number, push_text};
-use fol_sig::{FunId, RelId, Sort, Structure};
+use fol_sig::{FunId, RelId, Sort, Structure, Symbol};
 use rml_command::{Model, Names};
 use std::alloc::Global;
-use told_states::{OfCells, Symbol, push_all_cells, push_symbol};
+use told_states::{OfCells, push_all_cells, push_symbol};
 
 #[tactic(auto, using(std::proofs::Common::append_assoc))]
 fn push_symbol_id(out: &mut Vec<u8>, symbol: Symbol) -> Mem<()>

@@ -5,18 +5,19 @@ ghost use Rattle.fol_sig.specs.Tables.{numbers, size_at};
 ghost use Rattle.fol_sig.specs.Symbols.{FitsStructure, symbols};
 ghost use Rattle.fol_sig.specs.Tuples.{join_below};
 ghost use Rattle.rml_report.specs.Words.{name_at};
-ghost use Rattle.told_states.specs.SymbolText.{symbols_of, HasSymbol};
+ghost use Rattle.fol_sig.specs.SymbolTables.{HasSymbol};
+ghost use Rattle.told_states.specs.SymbolText.{symbols_of};
 ghost use Rattle.told_states.specs.Alike.{AreAlike};
 ghost use Rattle.dot_graph.specs.NodeText.{mark_text, so_text, is_only, is_none, relation_mark, variable_mark};
 ghost use Rattle.dot_graph.specs.NodeText.{symbol_mark, node_line, frame_title, frame_head, sort_frame, frames_text};
 
 use crate::lines::push_node_id;
 use base::{Mem, push_number, push_text};
-use fol_sig::{FunId, RelId, Sort, Structure};
+use fol_sig::{FunId, RelId, Sort, Structure, Symbol};
 use rml_command::{Model, Name, Names};
 use rml_report::push_labelled;
 use std::alloc::Global;
-use told_states::{Symbol, all_symbols, push_element};
+use told_states::{all_symbols, push_element};
 
 // A line of a node's label, red or not.
 fn push_mark(out: &mut Vec<u8>, names: &[Name], k: u32, changed: bool) -> Mem<()>

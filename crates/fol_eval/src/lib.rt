@@ -1,9 +1,11 @@
 //! The value of a term and the truth of a formula in a finite structure, by their definition and
-//! without memory.
+//! without memory; and structures cut to a smaller signature, whose formulas keep their truth.
 #![tactic(auto)]
 
+mod cutting;
 mod evaluation;
 
+pub use cutting::cut;
 pub use evaluation::{holds, value};
 
 /// The elements that the indices stand for, the nearest binder's first: a chain of borrowed links, so

@@ -1,22 +1,10 @@
 -- The structure that is false and 0 everywhere.
-use Rattle.std.proofs.Common.{◌≡◌, ℕ, ◌<◌, false, List, [], length, get_or, All, map, sym, ap, ◌∙◌, subst}
+use Rattle.std.proofs.Common.{◌≡◌, ℕ, ◌<◌, false, List, [], length, get_or, All, sym, ap, subst}
 use Rattle.std.proofs.lemmas.List.{length-replicate, length-map, get_or-map}
 use Rattle.fol_sig.specs.Symbols.{FitsStructure, symbols, no_function}
 use Rattle.std.proofs.lemmas.List.Elements.{All-map, All-replicate}
-use Rattle.fol_sig.specs.declared.Sort.{Sort}
-use Rattle.fol_sig.specs.Tables.{Declared, IsSignature, AreSorts, Tables, RelationTable, FunctionTable, IsStructure}
+use Rattle.fol_sig.specs.Tables.{Declared, IsSignature, AreSorts, IsStructure}
 use Rattle.fol_sig.specs.Tables.{IsFullRelation, IsFullFunction, tuple_count, blank_relation, blank_function, blank}
-
-pub blank_of : (sig : Declared) (sizes sizes' : List ℕ) (n : ℕ) (drels : List (List ℕ)) (dfuns : List (List ℕ × Sort))
-    (rels : List RelationTable) (funs : List FunctionTable) → record { sorts = n; relations = drels; functions = dfuns }
-    ≡ sig → sizes' ≡ sizes → rels ≡ map (blank_relation sizes) drels
-    → funs ≡ map (λ f. blank_function sizes f.0 f.1.0) dfuns
-    → record { sizes = sizes'; relations = rels; functions = funs } ≡ blank sig sizes
-blank_of sig sizes sizes' n drels dfuns rels funs is a b c =
-    let f : List ℕ → List RelationTable → List FunctionTable → Tables =
-    (λ x y z. record { sizes = x; relations = y; functions = z }) in
-    ap (λ x. f x rels funs) a ∙ ap (λ y. f sizes y funs) b ∙ ap (f sizes (map (blank_relation sizes) drels)) c
-    ∙ ap (λ z. blank z sizes) is
 
 pub IsStructure-blank : (sig : Declared) (sizes : List ℕ) → IsSignature sig → length sizes ≡ sig.sorts
     → All (λ n. 0 < n) sizes → IsStructure (blank sig sizes)

@@ -12,3 +12,5 @@ pub mod FirstCycles
 pub mod Waiting
 pub mod GrownSignatures
 pub mod GrownStructures
+pub mod GrownTables
+pub mod TupleSets

@@ -1,6 +1,7 @@
--- Structures with functions without arguments behind their own, and structures without their last symbols.
+-- Structures with relations, or with functions without arguments, behind their own, and structures without their last
+-- symbols.
 use Rattle.std.specs.Prelude.{ℕ, List, [], ◌∷◌, ◌++◌, take}
-use Rattle.fol_sig.specs.Tables.{Tables, FunctionTable}
+use Rattle.fol_sig.specs.Tables.{Tables, RelationTable, FunctionTable}
 use Rattle.fol_sig.specs.Symbols.{Symbols}
 
 -- the table of a function without arguments: the sort of its value, and the value
@@ -20,6 +21,10 @@ with_constants s ks xs = record {
   relations = s.relations;
   functions = s.functions ++ constant_tables ks xs;
 }
+
+-- the structure with relations of these tables behind its own
+abbrev pub with_fresh_tables : Tables → List RelationTable → Tables
+with_fresh_tables s ts = record s { relations = s.relations ++ ts }
 
 -- the structure without the relations and functions behind those of the symbols
 abbrev pub reduct : Symbols → Tables → Tables

@@ -1,10 +1,13 @@
 -- Signatures that grow by relations and by functions without arguments, and their structures.
-use Rattle.std.specs.Prelude.{◌≡◌, ℕ, ◌+◌, ◌<◌, ◌≤◌, ◌^◌, List, [], ◌++◌, length, map, slice_index}
+use Rattle.std.specs.Prelude.{◌≡◌, ℕ, ◌+◌, ◌<◌, ◌≤◌, ◌^◌, Bool, List, [], ◌++◌, length, map, slice_index}
+use Rattle.std.specs.Prelude.{slice_index_or, All}
 use Rattle.fol_sig.specs.declared.Sort.{Sort}
-use Rattle.fol_sig.specs.Tables.{Declared, Tables, Reading, IsSignature, AreSorts, InRange, reading, fun_at}
+use Rattle.fol_sig.specs.Tables.{Declared, Tables, RelationTable, Reading, IsSignature, IsFullRelation, AreSorts}
+use Rattle.fol_sig.specs.Tables.{InRange, reading, relation_at, function_at, fun_at}
 use Rattle.fol_sig.specs.Symbols.{Symbols, AreSorted, FitsStructure, symbols}
 use Rattle.fol_sig.specs.Strata.{IsStrata}
-use Rattle.fol_sig.specs.Constants.{with_constants, reduct}
+use Rattle.fol_sig.specs.Constants.{with_constants, with_fresh_tables, reduct}
+use Rattle.fol_sig.specs.Updates.{with_relation_cells, with_function_cells}
 
 -- The same sorts and symbols, with relations and functions behind them. The new functions have no arguments, so the
 -- sorts have the same orders.
@@ -27,16 +30,23 @@ pub record GrowsBy (sig : Symbols) (ks : List ℕ) (more : Symbols) : Type 0 whe
   pub count : more.functions ≡ sig.functions + length ks
   pub sort : (i : ℕ) → i < length ks → more.into_of (sig.functions + i) ≡ slice_index ks i
 
+-- the signature grows by relations alone, with arguments of these sorts, in order
+pub record GrowsByRelations (sig : Symbols) (rs : List (List ℕ)) (more : Symbols) : Type 0 where
+  pub grows : Grows sig more
+  pub functions : more.functions ≡ sig.functions
+  pub count : more.relations ≡ sig.relations + length rs
+  pub sorts : (i : ℕ) → i < length rs → more.sorts_of (sig.relations + i) ≡ slice_index_or rs i []
+
+-- the signature with relations behind its own, with arguments of these sorts
+abbrev pub grown_by_relations : Declared → List (List ℕ) → Declared
+grown_by_relations sig rs = record sig { relations = sig.relations ++ rs }
+
 -- the signature with functions without arguments behind its own, with values of these sorts
 abbrev pub declared_constant : ℕ → List ℕ × Sort
 declared_constant k = ([], record { 0 = k })
 
 abbrev pub grown : Declared → List ℕ → Declared
-grown sig ks = record {
-  sorts = sig.sorts;
-  relations = sig.relations;
-  functions = sig.functions ++ map declared_constant ks;
-}
+grown sig ks = record sig { functions = sig.functions ++ map declared_constant ks }
 
 -- both are read alike, but for relations and functions that the symbols do not have
 pub record AreReadAlike (sig : Symbols) (a b : Reading) : Type 0 where
@@ -51,6 +61,15 @@ pub record GrowsSignature (sig : Declared) (ks : List ℕ) : Type 0 where
 
 abbrev pub SignaturesGrow : Type 0
 SignaturesGrow = (sig : Declared) (ks : List ℕ) → AreSorts sig.sorts ks → GrowsSignature sig ks
+
+-- the signature with relations over its sorts is a signature that grew by them
+pub record GrowsSignatureByRelations (sig : Declared) (rs : List (List ℕ)) : Type 0 where
+  pub grows : GrowsByRelations (symbols sig) rs (symbols (grown_by_relations sig rs))
+  pub signature : IsSignature sig → length sig.relations + length rs < 2 ^ 32 → IsSignature (grown_by_relations sig rs)
+
+abbrev pub SignaturesGrowByRelations : Type 0
+SignaturesGrowByRelations = (sig : Declared) (rs : List (List ℕ)) → All (AreSorts sig.sorts) rs
+    → All (λ ks. length ks ≤ 8) rs → GrowsSignatureByRelations sig rs
 
 -- the symbols stay sorted, and the orders of the sorts are the same
 pub record KeepsSorts (sig more : Symbols) : Type 0 where
@@ -86,3 +105,42 @@ StructuresReduce = (sig more : Symbols) (t : Tables) → Grows sig more → Fits
 abbrev pub StructuresAreExtensions : Type 0
 StructuresAreExtensions = (sig more : Symbols) (ks : List ℕ) (t : Tables) → GrowsBy sig ks more → FitsStructure more t
     → (xs : List ℕ) × InRange t.sizes ks xs × (with_constants (reduct sig t) ks xs ≡ t)
+
+-- full tables, one for each of these lists of argument sorts
+pub record AreTablesOf (sizes : List ℕ) (rs : List (List ℕ)) (ts : List RelationTable) : Type 0 where
+  pub count : length ts ≡ length rs
+  pub sorts : map (λ (t : RelationTable). t.sorts) ts ≡ rs
+  pub full : All (IsFullRelation sizes) ts
+
+-- a structure with further tables: it fits the grown symbols, has these tables, is read as before but for them, and is
+-- the old structure without them
+pub record IsExtensionByTables (sig more : Symbols) (s : Tables) (ts : List RelationTable) : Type 0 where
+  pub fits : FitsStructure more (with_fresh_tables s ts)
+  pub table : (i : ℕ) → i < length ts → relation_at (with_fresh_tables s ts) (sig.relations + i)
+      ≡ slice_index_or ts i (record { sorts = []; cells = [] })
+  pub alike : AreReadAlike sig (reading (with_fresh_tables s ts)) (reading s)
+  pub without : reduct sig (with_fresh_tables s ts) ≡ s
+
+abbrev pub StructuresExtendByTables : Type 0
+StructuresExtendByTables = (sig more : Symbols) (s : Tables) (rs : List (List ℕ)) (ts : List RelationTable)
+    → GrowsByRelations sig rs more → FitsStructure sig s → AreTablesOf s.sizes rs ts
+    → IsExtensionByTables sig more s ts
+
+-- each structure of the symbols with relations is its reduct, extended by some tables
+abbrev pub StructuresAreExtensionsByTables : Type 0
+StructuresAreExtensionsByTables = (sig more : Symbols) (rs : List (List ℕ)) (t : Tables)
+    → GrowsByRelations sig rs more → FitsStructure more t
+    → (ts : List RelationTable) × AreTablesOf t.sizes rs ts × (with_fresh_tables (reduct sig t) ts ≡ t)
+
+-- A reduct has the tables of its symbols, and it is the same whether one of these is changed before the other symbols
+-- are left out or after.
+pub record CommutesWithUpdates (sig : Symbols) (t : Tables) : Type 0 where
+  pub relation_table : (r : ℕ) → r < sig.relations → relation_at (reduct sig t) r ≡ relation_at t r
+  pub function_table : (f : ℕ) → f < sig.functions → function_at (reduct sig t) f ≡ function_at t f
+  pub relation : (r : ℕ) (cells : List Bool) → r < sig.relations
+      → reduct sig (with_relation_cells t r cells) ≡ with_relation_cells (reduct sig t) r cells
+  pub function : (f : ℕ) (cells : List ℕ) → f < sig.functions
+      → reduct sig (with_function_cells t f cells) ≡ with_function_cells (reduct sig t) f cells
+
+abbrev pub ReductsCommuteWithUpdates : Type 0
+ReductsCommuteWithUpdates = (sig : Symbols) (t : Tables) → CommutesWithUpdates sig t

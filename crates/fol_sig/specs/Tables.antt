@@ -1,28 +1,41 @@
 -- Finite structures: a size for each sort, and a table for each relation and each function.
 use Rattle.std.specs.Prelude.{◌≡◌, ℕ, ◌+◌, ◌*◌, ◌^◌, ◌<◌, ◌≤◌, Bool, false, List, [], ◌∷◌, length, slice_index}
-use Rattle.std.specs.Prelude.{slice_index_or, slice_set, All, map, replicate}
+use Rattle.std.specs.Prelude.{slice_index_or, slice_set, All, map, nat_eq, replicate}
+use Rattle.std.specs.List.{list_any}
 use Rattle.fol_sig.specs.declared.Sort.{Sort}
+use Rattle.fol_sig.specs.declared.FunId.{FunId}
 
 -- sorts by their numbers
 abbrev pub numbers : List Sort → List ℕ
 numbers ks = map (λ k. k.0) ks
 
--- What a signature declares: how many sorts, the sorts of each relation's arguments, and those of each function's
--- arguments with that of its values. A variable is a function without arguments.
+-- functions by their numbers
+abbrev pub function_numbers : List FunId → List ℕ
+function_numbers fs = map (λ f. f.0) fs
+
+-- What a signature declares: how many sorts, the sorts of each relation's arguments, those of each function's arguments
+-- with that of its values, and which functions are listed. A variable is a function without arguments. A listed one is
+-- a name of a sort whose elements are listed, and no command may write it; truth does not read that.
 pub record Declared : Type 0 where
   pub sorts : ℕ
   pub relations : List (List ℕ)
   pub functions : List (List ℕ × Sort)
+  pub listed : List ℕ
+
+-- whether the function is listed
+abbrev pub is_listed : Declared → ℕ → Bool
+is_listed sig f = list_any (λ g. nat_eq g f) sig.listed
 
 abbrev pub AreSorts : ℕ → List ℕ → Type 0
 AreSorts n ks = All (λ k. k < n) ks
 
--- no other sorts are named, and no symbol has more than 8 arguments
+-- no other sorts are named, no symbol has more than 8 arguments, and what is listed is declared
 pub record IsSignature (sig : Declared) : Type 0 where
   pub relations_sorted : All (AreSorts sig.sorts) sig.relations
   pub functions_sorted : All (λ f. AreSorts sig.sorts f.0 × (f.1.0 < sig.sorts)) sig.functions
   pub relations_short : All (λ ks. length ks ≤ 8) sig.relations
   pub functions_short : All (λ f. length f.0 ≤ 8) sig.functions
+  pub listed_known : All (λ f. f < length sig.functions) sig.listed
   pub few_sorts : sig.sorts < 2 ^ 32
   pub few_relations : length sig.relations < 2 ^ 32
   pub few_functions : length sig.functions < 2 ^ 32

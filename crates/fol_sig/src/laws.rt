@@ -6,6 +6,9 @@ ghost use Rattle.fol_sig.specs.Strata.{OrderHasNoCycle, FirstCycleIsOne};
 ghost use Rattle.fol_sig.specs.Cycles.{CycleHasFirst};
 ghost use Rattle.fol_sig.specs.Growing.{SignaturesGrow, SortsAreKept};
 ghost use Rattle.fol_sig.specs.Growing.{StructuresExtend, StructuresReduce, StructuresAreExtensions};
+ghost use Rattle.fol_sig.specs.Growing.{SignaturesGrowByRelations, StructuresExtendByTables};
+ghost use Rattle.fol_sig.specs.Growing.{StructuresAreExtensionsByTables, ReductsCommuteWithUpdates};
+ghost use Rattle.fol_sig.specs.TupleSets.{TablesAreExtensional, TablesAreTuples};
 ghost use Rattle.fol_sig.specs.Tuples.{TuplesAreNumbered};
 ghost use Rattle.fol_sig.specs.Updates.{UpdatesRelation, UpdatesFunction};
 
@@ -50,4 +53,19 @@ pub fn growth_laws()
     ensures extend { StructuresExtend }
     ensures reduce { StructuresReduce }
     ensures all { StructuresAreExtensions }
+{}
+
+/// The same where the signature grows by relations, and its structures by their tables. A symbol's table may
+/// be changed before the new symbols are left out or after.
+pub fn relation_growth_laws()
+    ensures signatures { SignaturesGrowByRelations }
+    ensures extend { StructuresExtendByTables }
+    ensures all { StructuresAreExtensionsByTables }
+    ensures updates { ReductsCommuteWithUpdates }
+{}
+
+/// A relation's table is the set of the tuples of which it is true.
+pub fn tuple_set_laws()
+    ensures extensional { TablesAreExtensional }
+    ensures tuples { TablesAreTuples }
 {}

@@ -13,17 +13,22 @@ mod passes;
 mod signature;
 mod sorts;
 mod structure;
+mod symbol;
 mod table;
 mod tuple;
 mod tuples;
 
-pub use growing::with_constants;
-pub use laws::{cycle_law, growth_laws, range_laws, strata_laws, tuple_laws, update_laws};
+pub use growing::{with_constants, with_fresh_relations};
+pub use laws::{
+    cycle_law, growth_laws, range_laws, relation_growth_laws, strata_laws, tuple_laws,
+    tuple_set_laws, update_laws,
+};
 pub use order::{Cycle, Strata};
 pub use passes::strata;
 pub use signature::Signature;
 pub use sorts::Sorts;
 pub use structure::{Function, Structure};
+pub use symbol::Symbol;
 pub use table::Table;
 pub use tuple::Tuple;
 pub use tuples::{count_tuples, number_of_tuple, tuple_of_number};

@@ -1,6 +1,6 @@
 // What a signature declares.
 ghost use Rattle.std.specs.Prelude.{◌≡◌, ◌<◌, ◌≤◌, ◌+◌, ◌^◌, [], ◌∷◌, ◌++◌, length, IfOk, OnOk, OnErr};
-ghost use Rattle.fol_sig.specs.Tables.{IsSignature, AreSorts, numbers};
+ghost use Rattle.fol_sig.specs.Tables.{IsSignature, AreSorts, numbers, function_numbers, is_listed};
 ghost use Rattle.fol_sig.specs.Symbols.{symbols, AreSorted};
 
 use crate::{FunId, RelId, Sort, Sorts};
@@ -14,40 +14,69 @@ pub struct Signature {
     sorts: u32,
     relations: Vec<Sorts>,
     functions: Vec<(Sorts, Sort)>,
+    listed: Vec<FunId>,
 }
 
 impl Model for Signature {
-    ghost use Rattle.fol_sig.specs.Tables.{Declared, IsSignature};
+    ghost use Rattle.fol_sig.specs.Tables.{Declared, IsSignature, function_numbers};
 
     ghost Value = { Declared };
 
-    ghost view = { λ s. record { sorts = s.sorts; relations = s.relations.items; functions = s.functions.items } };
+    ghost view = { λ s. record {
+      sorts = s.sorts;
+      relations = s.relations.items;
+      functions = s.functions.items;
+      listed = function_numbers s.listed.items;
+    } };
 
-    ghost invariant = { λ s. IsSignature
-        (record { sorts = s.sorts; relations = s.relations.items; functions = s.functions.items }) };
+    ghost invariant = { λ s. IsSignature (record {
+      sorts = s.sorts;
+      relations = s.relations.items;
+      functions = s.functions.items;
+      listed = function_numbers s.listed.items;
+    }) };
 }
 
 impl Signature {
-    /// Each function with the sorts of its arguments and the sort of its values.
-    pub fn new(sorts: u32, relations: Vec<Sorts>, functions: Vec<(Sorts, Sort)>) -> Signature
-        requires { IsSignature (record { sorts = sorts; relations = relations.items; functions = functions.items }) }
-        ensures { result ≡ record { sorts = sorts; relations = relations.items; functions = functions.items } }
+    /// Each function with the sorts of its arguments and the sort of its values, and the functions that are
+    /// listed.
+    pub fn new(
+        sorts: u32,
+        relations: Vec<Sorts>,
+        functions: Vec<(Sorts, Sort)>,
+        listed: Vec<FunId>,
+    ) -> Signature
+        requires { IsSignature (record {
+          sorts = sorts;
+          relations = relations.items;
+          functions = functions.items;
+          listed = function_numbers listed.items;
+        }) }
+        ensures { result ≡ record {
+          sorts = sorts;
+          relations = relations.items;
+          functions = functions.items;
+          listed = function_numbers listed.items;
+        } }
     {
         Signature {
             sorts,
             relations,
             functions,
+            listed,
         }
     }
 
-    /// The signature without sorts, to which `add_sort`, `add_relation` and `add_function` add.
+    /// The signature without sorts, to which `add_sort`, `add_relation`, `add_function` and
+    /// `add_listed_variable` add.
     pub fn empty(alloc: Global) -> Signature
-        ensures { result ≡ record { sorts = 0; relations = []; functions = [] } }
+        ensures { result ≡ record { sorts = 0; relations = []; functions = []; listed = [] } }
     {
         Signature {
             sorts: 0,
             relations: Vec::new(alloc),
             functions: Vec::new(alloc),
+            listed: Vec::new(alloc),
         }
     }
 
@@ -55,10 +84,13 @@ impl Signature {
     pub fn copy(&self, alloc: Global) -> Mem<Signature>
         ensures { IfOk result (λ s. s ≡ self.now) }
     {
+        let mut listed = Vec::new(alloc);
+        listed.extend_from_slice(&self.listed)?;
         Ok(Signature {
             sorts: self.sorts,
             relations: copy_relations(alloc, &self.relations)?,
             functions: copy_functions(alloc, &self.functions)?,
+            listed,
         })
     }
 
@@ -100,6 +132,26 @@ impl Signature {
     {
         let id = FunId(self.functions.len() as u32);
         self.functions.push((from, into))?;
+        Ok(id)
+    }
+
+    /// Adds a variable behind the other functions, as a name of an element of its sort, which no command may
+    /// write. The signature is as before where the memory is wanting.
+    pub fn add_listed_variable(&mut self, alloc: Global, sort: Sort) -> Mem<FunId>
+        requires known { sort.0 < self.old.sorts }
+        requires few { length self.old.functions + 1 < 2 ^ 32 }
+        ensures id { IfOk result (λ f. f.0 ≡ length self.old.functions) }
+        ensures added { OnOk result (self.new ≡ record self.old {
+          functions = self.old.functions ++ ([], sort) ∷ [];
+          listed = self.old.listed ++ length self.old.functions ∷ [];
+        }) }
+        ensures kept { OnErr result (self.new ≡ self.old) }
+    {
+        let id = FunId(self.functions.len() as u32);
+        // With room made first, only the push to the functions may fail.
+        self.listed.reserve(1)?;
+        self.functions.push((Sorts::new(alloc), sort))?;
+        self.listed.push(id)?;
         Ok(id)
     }
 
@@ -150,6 +202,13 @@ impl Signature {
         ensures { result.0 ≡ (symbols self.now).into_of fun.0 }
     {
         self.functions[fun.0 as usize].1
+    }
+
+    /// Whether a function is listed: a name of an element of its sort, which no command may write.
+    pub fn is_listed(&self, fun: FunId) -> bool
+        ensures { result ≡ is_listed self.now fun.0 }
+    {
+        self.listed.contains(&fun)
     }
 
     pub(crate) fn relations(&self) -> &[Sorts]

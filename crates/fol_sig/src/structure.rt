@@ -1,15 +1,18 @@
 // Finite structures.
-ghost use Rattle.std.specs.Prelude.{◌≡◌, ◌<◌, [], ◌∷◌, ◌++◌, length, All, IfOk, OnOk, OnErr, map};
+ghost use Rattle.std.specs.Prelude.{◌≡◌, ◌<◌, ◌↔◌, IsTrue, length, All, IfOk, OnOk, OnErr, map};
 ghost use Rattle.fol_sig.specs.Tables.{numbers, AreSorts, InRange, tuple_count, size_at, rel_at, fun_at, relation_at};
 ghost use Rattle.fol_sig.specs.Tables.{function_at};
 ghost use Rattle.fol_sig.specs.Tables.{blank_relation, blank_function, blank, IsStructure};
 ghost use Rattle.fol_sig.specs.Symbols.{Symbols, FitsStructure, symbols};
+ghost use Rattle.fol_sig.specs.SymbolTables.{HasSymbol, arguments_of};
 ghost use Rattle.fol_sig.specs.Constants.{reduct};
 ghost use Rattle.fol_sig.specs.Updates.{SetsRelation, SetsFunction, with_rel_at, with_fun_at};
 ghost use Rattle.fol_sig.specs.Updates.{with_relation_cells, with_function_cells};
+ghost use Rattle.fol_sig.specs.TupleSets.{are_in_range, with_tuples, tuples_of};
 
 use crate::table::Table;
-use crate::{FunId, RelId, Signature, Sort, Sorts};
+use crate::tuples::are_in_range;
+use crate::{FunId, RelId, Signature, Sort, Sorts, Symbol, Tuple};
 use base::Mem;
 use std::alloc::Global;
 use std::marker::Model;
@@ -172,6 +175,17 @@ impl Structure {
         self.functions[fun.0 as usize].into
     }
 
+    /// The sorts of a symbol's arguments.
+    pub fn arguments(&self, symbol: Symbol) -> &[Sort]
+        requires { HasSymbol self.now symbol }
+        ensures { numbers result.now ≡ arguments_of self.now symbol }
+    {
+        match symbol {
+            Symbol::Relation(rel) => self.relation_sorts(rel),
+            Symbol::Function(fun) => self.function_sorts(fun),
+        }
+    }
+
     /// Puts other cells into a relation's table, one for each tuple in lexicographic order.
     pub fn set_relation_cells(&mut self, rel: RelId, cells: Vec<bool>)
         requires known { rel.0 < length self.old.relations }
@@ -180,6 +194,47 @@ impl Structure {
         ensures fits { (sig : Symbols) → FitsStructure sig self.old → FitsStructure sig self.new }
     {
         self.relations[rel.0 as usize].set_cells(cells);
+    }
+
+    /// Whether each of these tuples has an element of each of a relation's argument sorts, and no more.
+    pub fn are_in_range(&self, rel: RelId, tuples: &[Tuple]) -> bool
+        requires { rel.0 < length self.now.relations }
+        ensures value { result ≡ are_in_range self.now.sizes (relation_at self.now rel.0).sorts tuples.now }
+        ensures decides { IsTrue result ↔ All (InRange self.now.sizes (relation_at self.now rel.0).sorts) tuples.now }
+    {
+        let answer = self.all_in_range(rel, tuples);
+        answer
+    }
+
+    fn all_in_range(&self, rel: RelId, tuples: &[Tuple]) -> bool
+        requires { rel.0 < length self.now.relations }
+        ensures { result ≡ are_in_range self.now.sizes (relation_at self.now rel.0).sorts tuples.now }
+    {
+        are_in_range(&self.sizes, self.relation_sorts(rel), tuples)
+    }
+
+    /// Makes a relation true of these tuples and of no others. The structure is as before where the memory
+    /// is wanting.
+    pub fn set_tuples(&mut self, alloc: Global, rel: RelId, tuples: &[Tuple]) -> Mem<()>
+        requires known { rel.0 < length self.old.relations }
+        requires in_range { All (InRange self.old.sizes (relation_at self.old rel.0).sorts) tuples.now }
+        ensures set { OnOk result (self.new ≡ with_tuples self.old rel.0 tuples.now) }
+        ensures kept { OnErr result (self.new ≡ self.old) }
+        ensures fits { (sig : Symbols) → FitsStructure sig self.old → FitsStructure sig self.new }
+    {
+        let sorts = self.relations[rel.0 as usize].sorts();
+        let table = Table::of_tuples(alloc, &self.sizes, sorts, tuples)?;
+        self.set_relation_cells(rel, table.into_cells());
+        Ok(())
+    }
+
+    /// The tuples of which a relation is true, in lexicographic order.
+    pub fn tuples_of(&self, alloc: Global, rel: RelId) -> Mem<Vec<Tuple>>
+        requires { rel.0 < length self.now.relations }
+        ensures { IfOk result (λ found. found.items ≡ tuples_of self.now rel.0) }
+    {
+        let found = self.relations[rel.0 as usize].true_tuples(alloc, &self.sizes)?;
+        Ok(found)
     }
 
     /// Puts other cells into a function's table, one for each tuple in lexicographic order.
@@ -191,6 +246,29 @@ impl Structure {
         ensures fits { (sig : Symbols) → FitsStructure sig self.old → FitsStructure sig self.new }
     {
         self.functions[fun.0 as usize].table.set_cells(cells);
+    }
+
+    /// A second structure with the tables of the signature's relations and functions, and without those behind them.
+    pub fn reduct(&self, alloc: Global, signature: &Signature) -> Mem<Structure>
+        ensures { IfOk result (λ s. s ≡ reduct (symbols signature.now) self.now) }
+    {
+        let relations = self
+            .relations
+            .len()
+            .min(signature.relation_count() as usize);
+        let functions = self
+            .functions
+            .len()
+            .min(signature.function_count() as usize);
+        let relations = copy_relations(alloc, &self.relations[..relations])?;
+        let functions = copy_functions(alloc, &self.functions[..functions])?;
+        let mut sizes = Vec::new(alloc);
+        sizes.extend_from_slice(&self.sizes)?;
+        Ok(Structure {
+            sizes,
+            relations,
+            functions,
+        })
     }
 
     /// Drops the relations and functions behind those of the signature.

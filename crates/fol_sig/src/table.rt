@@ -1,9 +1,13 @@
 // The values of a symbol.
-ghost use Rattle.std.specs.Prelude.{◌≡◌, ◌<◌, length, All, IfOk};
+ghost use Rattle.std.specs.Prelude.{◌≡◌, ◌<◌, false, [], length, reverse, All, IfOk};
+ghost use Rattle.std.specs.List.{filter};
 ghost use Rattle.fol_sig.specs.Tables.{InRange, tuple_count, filled, cell_at, with_cell};
+ghost use Rattle.fol_sig.specs.Tuples.{tuples};
+ghost use Rattle.fol_sig.specs.Updates.{cells_from};
+ghost use Rattle.fol_sig.specs.TupleSets.{has_tuple};
 
-use crate::Sorts;
-use crate::tuples::{count_tuples, number_of_tuple};
+use crate::tuples::{count_tuples, number_of_tuple, tuple_of_number};
+use crate::{Sorts, Tuple};
 use base::Mem;
 use std::alloc::{AllocError, Global};
 use std::marker::Model;
@@ -29,6 +33,13 @@ impl<T> Table<T> {
         ensures { result ≡ record { sorts = sorts; cells = cells.items } }
     {
         Table { sorts, cells }
+    }
+
+    pub(crate) fn into_cells(self) -> Vec<T>
+        ensures { result.items ≡ self.cells }
+    {
+        let Table { sorts: _, cells } = self;
+        cells
     }
 }
 
@@ -91,5 +102,44 @@ impl<T: Copy> Table<T> {
         ensures { self.new ≡ record { sorts = self.old.sorts; cells = cells.items } }
     {
         self.cells = cells;
+    }
+}
+
+impl Table<bool> {
+    /// The table that is true of these tuples and of no others.
+    pub(crate) fn of_tuples(
+        alloc: Global,
+        sizes: &[u32],
+        sorts: &Sorts,
+        tuples: &[Tuple],
+    ) -> Mem<Table<bool>>
+        requires sorted { All (λ k. k < length sizes.now) sorts.now }
+        requires in_range { All (InRange sizes.now sorts.now) tuples.now }
+        ensures full { IfOk result (λ t. length t.cells ≡ tuple_count sizes.now sorts.now) }
+        ensures cells { IfOk result
+            (λ t. t.cells ≡ cells_from sizes.now (λ tuple. has_tuple tuples.now (reverse tuple)) sorts.now []) }
+    {
+        let mut table = Table::filled(alloc, sizes, sorts, false)?;
+        for tuple in tuples {
+            table.set_cell(sizes, tuple.as_slice(), true);
+        }
+        Ok(table)
+    }
+
+    /// The tuples at which it is true, in lexicographic order.
+    pub(crate) fn true_tuples(&self, alloc: Global, sizes: &[u32]) -> Mem<Vec<Tuple>>
+        requires sorted { All (λ k. k < length sizes.now) self.now.sorts }
+        requires full { length self.now.cells ≡ tuple_count sizes.now self.now.sorts }
+        ensures { IfOk result (λ found. found.items
+            ≡ filter (λ tuple. cell_at sizes.now self.now tuple false) (tuples sizes.now self.now.sorts)) }
+    {
+        let mut found = Vec::new(alloc);
+        for number in 0..self.cells.len() {
+            if !self.cells[number] {
+                continue;
+            }
+            found.push(tuple_of_number(alloc, sizes, self.sorts.as_slice(), number))?;
+        }
+        Ok(found)
     }
 }

@@ -3,6 +3,7 @@
 ghost use Rattle.std.specs.Prelude.{◌≡◌, ◌<◌, ◌≤◌, ◌^◌, length, min, All};
 ghost use Rattle.fol_sig.specs.Tables.{InRange, tuple_count, place_of, numbers};
 ghost use Rattle.fol_sig.specs.Tuples.{tuple_at};
+ghost use Rattle.fol_sig.specs.TupleSets.{is_in_range, are_in_range};
 
 use crate::{Sort, Tuple};
 use std::alloc::Global;
@@ -53,4 +54,34 @@ pub fn tuple_of_number(alloc: Global, sizes: &[u32], sorts: &[Sort], number: usi
         left %= rest;
     }
     tuple
+}
+
+/// Whether each of these tuples has an element of each of these sorts, and no more.
+pub(crate) fn are_in_range(sizes: &[u32], sorts: &[Sort], tuples: &[Tuple]) -> bool
+    requires { All (λ k. k < length sizes.now) (numbers sorts.now) }
+    ensures { result ≡ are_in_range sizes.now (numbers sorts.now) tuples.now }
+{
+    let mut rest = tuples;
+    while let [tuple, after @ ..] = rest {
+        if !is_in_range(sizes, sorts, tuple.as_slice()) {
+            return false;
+        }
+        rest = after;
+    }
+    true
+}
+
+fn is_in_range(sizes: &[u32], sorts: &[Sort], tuple: &[u32]) -> bool
+    requires { All (λ k. k < length sizes.now) (numbers sorts.now) }
+    ensures { result ≡ is_in_range sizes.now (numbers sorts.now) tuple.now }
+{
+    if sorts.len() != tuple.len() {
+        return false;
+    }
+    for i in 0..sorts.len() {
+        if tuple[i] >= sizes[sorts[i].0 as usize] {
+            return false;
+        }
+    }
+    true
 }

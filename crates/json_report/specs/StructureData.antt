@@ -4,9 +4,10 @@ use Rattle.fol_sig.specs.Tables.{Tables, tuple_count, size_at, rel_at, fun_at}
 use Rattle.fol_sig.specs.Tuples.{join_below, tuple_at}
 use Rattle.serde_json.specs.Data.{Data}
 use Rattle.rml_command.specs.declared.names.Names.{Names}
-use Rattle.told_states.specs.SymbolText.{arguments_of, relation_symbol, function_symbol}
-use Rattle.told_states.specs.declared.symbols.Symbol.{Symbol}
-use Rattle.told_states.specs.declared.symbols.Symbol.TheVariants as symbol
+use Rattle.fol_sig.specs.SymbolTables.{arguments_of}
+use Rattle.told_states.specs.SymbolText.{relation_symbol, function_symbol}
+use Rattle.fol_sig.specs.declared.symbol.Symbol.{Symbol}
+use Rattle.fol_sig.specs.declared.symbol.Symbol.TheVariants as symbol
 use Rattle.json_values.specs.Values.{list_data, number_data, numbers_data, object_of}
 use Rattle.json_report.specs.GroupData.{name_data}
 use Rattle.json_report.specs.declared.structure.Listed.{Listed}

@@ -2,7 +2,7 @@
 ghost use Rattle.std.specs.Prelude.{◌≡◌, ◌<◌, ◌++◌, IfOk, OnOk};
 ghost use Rattle.fol_sig.specs.Tables.{IsStructure};
 ghost use Rattle.fol_sig.specs.Symbols.{FitsStructure, symbols};
-ghost use Rattle.told_states.specs.SymbolText.{HasSymbol, IsCell};
+ghost use Rattle.fol_sig.specs.SymbolTables.{HasSymbol, IsCell};
 ghost use Rattle.json_values.specs.Values.{with_member};
 ghost use Rattle.json_report.specs.GroupData.{name_data};
 ghost use Rattle.json_report.specs.StructureData.{value_data, cell_data, cells_data, symbol_data, sort_data};
@@ -10,11 +10,11 @@ ghost use Rattle.json_report.specs.StructureData.{count_of, item_data, items_dat
 
 use crate::group::set_name;
 use base::Mem;
-use fol_sig::{FunId, RelId, Sort, Structure, tuple_of_number};
+use fol_sig::{FunId, RelId, Sort, Structure, Symbol, tuple_of_number};
 use json_values::{Json, JsonList, JsonObject, numbers};
 use rml_command::{Model, Name, Names};
 use std::alloc::Global;
-use told_states::{Symbol, arguments, sizes, tuples};
+use told_states::{sizes, tuples};
 
 /// What a structure has a list of.
 #[derive(Clone, Copy)]
@@ -67,7 +67,7 @@ fn cells(alloc: Global, structure: &Structure, sizes: &[u32], symbol: Symbol) ->
     ensures { IfOk result (λ l. l ≡ cells_data structure.now symbol) }
 {
     let mut list = JsonList::new(alloc);
-    let sorts = arguments(structure, symbol);
+    let sorts = structure.arguments(symbol);
     for number in 0..tuples(sizes, sorts)? {
         let tuple = tuple_of_number(alloc, sizes, sorts, number);
         push_cell(alloc, &mut list, structure, symbol, tuple.as_slice())?;

@@ -15,7 +15,8 @@ ghost use Rattle.lean_decide.specs.Alone.{breaks_alone};
 use base::{Mem, Refused};
 use ea_decide::Decided;
 use fol_formula::{Ae, Ea, Formula, Sentence};
-use fol_occurs::{Symbol, mentions};
+use fol_occurs::mentions;
+use fol_sig::Symbol;
 use lrat_log::Limits;
 use rml_command::{About, Checked, Goal, Path, Primitive, Stage};
 use rml_wp::{Premises, precondition_by};
@@ -59,9 +60,9 @@ fn leaves(path: &Path, formula: &Formula) -> bool {
 fn changed_by(primitive: &Primitive) -> Option<Symbol> {
     match primitive {
         Primitive::Assume(_) => None,
-        Primitive::SetRel(rel, _) => Some(Symbol::Rel(*rel)),
-        Primitive::SetFun(fun, _) => Some(Symbol::Fun(*fun)),
-        Primitive::Havoc(variable) => Some(Symbol::Fun(*variable)),
+        Primitive::SetRel(rel, _) => Some(Symbol::Relation(*rel)),
+        Primitive::SetFun(fun, _) => Some(Symbol::Function(*fun)),
+        Primitive::Havoc(variable) => Some(Symbol::Function(*variable)),
         Primitive::Abort => None,
     }
 }

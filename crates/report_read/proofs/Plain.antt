@@ -23,7 +23,7 @@ use Rattle.rml_report.specs.TableText.{symbol_label, symbol_line, sort_line, rel
 use Rattle.rml_report.specs.ReportText.{stage_text, about_text, head_text, path_line, bound_text, stopped_text}
 use Rattle.rml_report.specs.ReportText.{least_text}
 use Rattle.rml_report.specs.ReportText.{least_line, undecided_text, open_text, axioms_text, verdict_text}
-use Rattle.rml_report.specs.declared.structures.Symbol.TheVariants as symbol
+use Rattle.fol_sig.specs.declared.symbol.Symbol.TheVariants as symbol
 use Rattle.rml_report.specs.declared.cause.Bound.{Bound}
 use Rattle.rml_report.specs.declared.cause.Bound.TheVariants as at
 use Rattle.rml_report.specs.declared.cause.Cause.{Cause}

@@ -13,7 +13,7 @@ use Rattle.rml_command.specs.declared.names.Names.{Names}
 use Rattle.rml_report.specs.Words.{labelled, truth_text, name_at}
 use Rattle.rml_report.specs.TableText.{each_tuple, tuple_text, symbol_line, relation_line, function_line, values_text}
 use Rattle.rml_report.specs.TableText.{symbol_label}
-use Rattle.rml_report.specs.declared.structures.Symbol.TheVariants as symbol
+use Rattle.fol_sig.specs.declared.symbol.Symbol.TheVariants as symbol
 use Rattle.line_scan.specs.Scanning.{behind, is_end, most}
 use Rattle.line_scan.specs.Laws.{ScansAreExact, ends_number}
 use Rattle.report_read.specs.LineReading.{choose, on, behind_labelled, value_at, element_at, all_tuples, truths_end}

@@ -19,10 +19,11 @@ sort_code = code_by ℕ coded_ℕ (λ k. k.0) (λ n. record { 0 = n }) (λ k. re
 
 abbrev pub declared_code : Coded Declared
 declared_code =
-    code_by (ℕ × (List (List ℕ) × List (List ℕ × Sort)))
-    (coded× coded_ℕ (coded× (coded_list (coded_list coded_ℕ)) (coded_list (coded× (coded_list coded_ℕ) sort_code))))
-    (λ d. (d.sorts, (d.relations, d.functions)))
-    (λ t. record { sorts = t.0; relations = t.1.0; functions = t.1.1 }) (λ d. refl)
+    code_by (ℕ × (List (List ℕ) × (List (List ℕ × Sort) × List ℕ)))
+    (coded× coded_ℕ (coded× (coded_list (coded_list coded_ℕ))
+    (coded× (coded_list (coded× (coded_list coded_ℕ) sort_code)) (coded_list coded_ℕ))))
+    (λ d. (d.sorts, (d.relations, (d.functions, d.listed))))
+    (λ t. record { sorts = t.0; relations = t.1.0; functions = t.1.1.0; listed = t.1.1.1 }) (λ d. refl)
 
 abbrev pub names_code : Coded Names
 names_code =

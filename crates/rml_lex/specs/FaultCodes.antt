@@ -24,6 +24,7 @@ number_of fault.NotUniversal = 17
 number_of fault.NotQuantifierFree = 18
 number_of fault.NotAlternationFree = 19
 number_of fault.TooManyPaths = 20
+number_of fault.LargeDefinition = 22
 
 abbrev pub text_of : FaultCode → List ℕ
 text_of fault.BadByte = codes "bad byte"
@@ -46,3 +47,4 @@ text_of fault.NotUniversal = codes "not universal"
 text_of fault.NotQuantifierFree = codes "not quantifier-free"
 text_of fault.NotAlternationFree = codes "not alternation-free"
 text_of fault.TooManyPaths = codes "too many paths"
+text_of fault.LargeDefinition = codes "definition too large"

@@ -46,10 +46,12 @@ pub enum FaultCode {
     NotAlternationFree,
     /// A block with more paths than are followed.
     TooManyPaths,
+    /// A use of a definition that makes an expression too large once all uses in it are written out.
+    LargeDefinition,
 }
 
 impl FaultCode {
-    /// The code's number, from 1 to 20.
+    /// The code's number, from 1 to 20, or 22.
     pub fn number(self) -> u8
         ensures { result ≡ number_of self }
     {
@@ -74,6 +76,7 @@ impl FaultCode {
             FaultCode::NotQuantifierFree => 18,
             FaultCode::NotAlternationFree => 19,
             FaultCode::TooManyPaths => 20,
+            FaultCode::LargeDefinition => 22,
         }
     }
 
@@ -102,6 +105,7 @@ impl FaultCode {
             FaultCode::NotQuantifierFree => "not quantifier-free",
             FaultCode::NotAlternationFree => "not alternation-free",
             FaultCode::TooManyPaths => "too many paths",
+            FaultCode::LargeDefinition => "definition too large",
         }
     }
 }

@@ -7,7 +7,7 @@ use Rattle.rml_names.specs.Meanings.{bytes_of}
 
 abbrev pub empty_model : ModelTree
 empty_model = record {
-  signature = record { sorts = 0; relations = []; functions = [] };
+  signature = record { sorts = 0; relations = []; functions = []; listed = [] };
   names = record { sorts = []; relations = []; functions = []; axioms = []; conjectures = []; actions = [] };
   axioms = [];
   conjectures = [];

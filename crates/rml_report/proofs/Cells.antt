@@ -3,9 +3,10 @@ use Rattle.std.proofs.Common.{ℕ, suc, ◌<◌, List, [], ◌∷◌, ◌++◌, 
 use Rattle.std.proofs.Common.{arith}
 use Rattle.std.proofs.lemmas.List.Elements.{All-get_or}
 use Rattle.fol_sig.specs.Tables.{Tables, InRange, IsStructure, IsFullRelation, IsFullFunction, relation_at, function_at}
-use Rattle.rml_report.specs.TableText.{arguments_of, IsCell, HasSymbol, EachTuple}
-use Rattle.rml_report.specs.declared.structures.Symbol.{Symbol}
-use Rattle.rml_report.specs.declared.structures.Symbol.TheVariants as symbol
+use Rattle.fol_sig.specs.declared.symbol.Symbol.{Symbol}
+use Rattle.fol_sig.specs.declared.symbol.Symbol.TheVariants as symbol
+use Rattle.fol_sig.specs.SymbolTables.{arguments_of, IsCell, HasSymbol}
+use Rattle.rml_report.specs.TableText.{EachTuple}
 
 module _ (s : Tables) where
   in_range_behind : (ks xs : List ℕ) (k x : ℕ) → InRange s.sizes ks xs → x < slice_index s.sizes k

@@ -1,12 +1,13 @@
 -- The lines of a structure.
 use Rattle.std.specs.Prelude.{ℕ, ◌<◌, if◌then◌else◌, List, [], ◌∷◌, ◌++◌, length, codes, slice_index}
 use Rattle.std.specs.Fmt.{decimal}
-use Rattle.fol_sig.specs.Tables.{Tables, InRange, relation_at, function_at, size_at, rel_at, fun_at}
+use Rattle.fol_sig.specs.declared.symbol.Symbol.{Symbol}
+use Rattle.fol_sig.specs.declared.symbol.Symbol.TheVariants as symbol
+use Rattle.fol_sig.specs.Tables.{Tables, size_at, rel_at, fun_at}
+use Rattle.fol_sig.specs.SymbolTables.{arguments_of}
 use Rattle.fol_sig.specs.Tuples.{join_below}
 use Rattle.rml_command.specs.declared.names.Names.{Names}
 use Rattle.rml_report.specs.Words.{name_at, labelled, truth_text}
-use Rattle.rml_report.specs.declared.structures.Symbol.{Symbol}
-use Rattle.rml_report.specs.declared.structures.Symbol.TheVariants as symbol
 
 -- the texts of the tuples of these sorts, in lexicographic order, each behind the elements `before`
 abbrev pub each_tuple : List ℕ → (List ℕ → List ℕ) → List ℕ → List ℕ → List ℕ
@@ -37,10 +38,6 @@ cell_text s (symbol.Function f) xs = tuple_text xs ++ codes "->" ++ decimal (fun
 abbrev pub value_text : Tables → Symbol → List ℕ
 value_text s (symbol.Relation r) = truth_text (rel_at s r.0 [])
 value_text s (symbol.Function f) = decimal (fun_at s f.0 [])
-
-abbrev pub arguments_of : Tables → Symbol → List ℕ
-arguments_of s (symbol.Relation r) = (relation_at s r.0).sorts
-arguments_of s (symbol.Function f) = (function_at s f.0).sorts
 
 abbrev pub values_text : Tables → Symbol → List ℕ → List ℕ
 values_text s q [] = codes " " ++ value_text s q
@@ -73,15 +70,6 @@ sort_line names k size = labelled (codes "    sort ") (name_at names.sorts k) (c
 -- the sorts with their sizes
 abbrev pub sorts_text : Names → Tables → List ℕ
 sorts_text names s = join_below (length s.sizes) (λ k. sort_line names k (size_at s k))
-
--- the symbol is one of the structure, and the tuple one of its arguments
-abbrev pub IsCell : Tables → Symbol → List ℕ → Type 0
-IsCell s (symbol.Relation r) xs = (r.0 < length s.relations) × InRange s.sizes (relation_at s r.0).sorts xs
-IsCell s (symbol.Function f) xs = (f.0 < length s.functions) × InRange s.sizes (function_at s f.0).sorts xs
-
-abbrev pub HasSymbol : Tables → Symbol → Type 0
-HasSymbol s (symbol.Relation r) = r.0 < length s.relations
-HasSymbol s (symbol.Function f) = f.0 < length s.functions
 
 -- each sort is one of these sizes, and P is so of each tuple of them behind these elements
 abbrev pub EachTuple : List ℕ → (List ℕ → Type 0) → List ℕ → List ℕ → Type 0

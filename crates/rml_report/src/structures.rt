@@ -2,25 +2,18 @@
 ghost use Rattle.std.specs.Prelude.{◌≡◌, ◌<◌, ◌++◌, [], length, OnOk, IfOk};
 ghost use Rattle.fol_sig.specs.Tables.{IsStructure, numbers};
 ghost use Rattle.fol_sig.specs.Symbols.{FitsStructure, symbols};
+ghost use Rattle.fol_sig.specs.SymbolTables.{IsCell, HasSymbol};
 ghost use Rattle.fol_sig.specs.Tuples.{join_below};
 ghost use Rattle.rml_report.specs.Words.{name_at};
 ghost use Rattle.rml_report.specs.TableText.{each_tuple, more_text, listed_text, tuple_text, cell_text, value_text};
-ghost use Rattle.rml_report.specs.TableText.{arguments_of, values_text, symbol_label, symbol_line, relation_line};
-ghost use Rattle.rml_report.specs.TableText.{function_line, tables_text, sort_line, sorts_text, IsCell, HasSymbol};
-ghost use Rattle.rml_report.specs.TableText.{EachTuple};
+ghost use Rattle.rml_report.specs.TableText.{values_text, symbol_label, symbol_line, relation_line};
+ghost use Rattle.rml_report.specs.TableText.{function_line, tables_text, sort_line, sorts_text, EachTuple};
 
 use crate::words::{push_labelled, push_truth};
 use base::{Mem, push_number, push_text};
-use fol_sig::{FunId, RelId, Sort, Structure};
+use fol_sig::{FunId, RelId, Sort, Structure, Symbol};
 use rml_command::{Model, Names};
 use std::alloc::Global;
-
-/// What has a table.
-#[derive(Clone, Copy)]
-pub enum Symbol {
-    Relation(RelId),
-    Function(FunId),
-}
 
 // A comma and each number.
 #[tactic(auto, using(std::proofs::Common::append_assoc), unfolding(crate::specs::TableText::more_text))]
@@ -125,16 +118,6 @@ fn push_value(out: &mut Vec<u8>, structure: &Structure, symbol: Symbol) -> Mem<(
     }
 }
 
-fn arguments(structure: &Structure, symbol: Symbol) -> &[Sort]
-    requires { HasSymbol structure.now symbol }
-    ensures { numbers result.now ≡ arguments_of structure.now symbol }
-{
-    match symbol {
-        Symbol::Relation(rel) => structure.relation_sorts(rel),
-        Symbol::Function(fun) => structure.function_sorts(fun),
-    }
-}
-
 // The one value of a symbol without arguments, or a cell for each tuple.
 #[tactic(auto, using(std::proofs::Common::append_assoc))]
 fn push_values(
@@ -186,7 +169,7 @@ fn push_symbol_line(
     requires known { HasSymbol structure.now symbol }
     ensures { OnOk result (out.new.items ≡ out.old.items ++ symbol_line names.now structure.now symbol) }
 {
-    let sorts = arguments(structure, symbol);
+    let sorts = structure.arguments(symbol);
     push_symbol(out, names, symbol, sorts)?;
     push_values(alloc, out, structure, symbol, sorts)?;
     push_text(out, "\n")?;

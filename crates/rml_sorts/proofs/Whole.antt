@@ -66,9 +66,6 @@ few_more n h = grind (arith, nat_tests, h)
 
 -- ---- symbols more
 
-abbrev table_with : Declared → ℕ → List (List ℕ) → List (List ℕ × Sort) → Declared
-table_with sig sorts relations functions = record { sorts = sorts; relations = relations; functions = functions }
-
 grown_sorts : (sig : Declared) → Extends (symbols sig) (symbols (record sig { sorts = sig.sorts + 1 }))
 grown_sorts sig = record {
   sorts = omega arith;

@@ -9,7 +9,8 @@ ghost use Rattle.rml_wp.specs.Preconditions.{mentioning, premises_at};
 
 use base::Mem;
 use fol_formula::{Formula, Sentence, existentials_of_all};
-use fol_occurs::{Symbol, mentions};
+use fol_occurs::mentions;
+use fol_sig::Symbol;
 use std::alloc::Global;
 
 /// The axioms that stand in a precondition as premises behind an update or a havoc: all, or those alone in which the

@@ -20,8 +20,7 @@ ghost use Rattle.rml_wp.specs.Laws.{HasTarget};
 use crate::premises::Premises;
 use base::{Mem, Refused};
 use fol_formula::{Formula, Term};
-use fol_occurs::Symbol;
-use fol_sig::{FunId, RelId, Sort};
+use fol_sig::{FunId, RelId, Sort, Symbol};
 use fol_subst::{
     Counted, FormulaLimit, is_own_fun, is_own_rel, replace_const, replace_fun, replace_rel,
 };
@@ -151,7 +150,7 @@ fn before_set_rel(
     fol_subst::conditions();
     fol_subst::own_values();
     let axioms = model.axioms();
-    let lawful = premises.lawful(alloc, axioms, Symbol::Rel(rel))?;
+    let lawful = premises.lawful(alloc, axioms, Symbol::Relation(rel))?;
     if is_own_rel(rel, by) {
         let unchanged = under(alloc, lawful, rest)?;
         return Ok(unchanged);
@@ -185,7 +184,7 @@ fn before_set_fun(
     fol_subst::conditions();
     fol_subst::own_values();
     let axioms = model.axioms();
-    let lawful = premises.lawful(alloc, axioms, Symbol::Fun(fun))?;
+    let lawful = premises.lawful(alloc, axioms, Symbol::Function(fun))?;
     if is_own_fun(fun, by) {
         let unchanged = under(alloc, lawful, rest)?;
         return Ok(unchanged);
@@ -217,7 +216,7 @@ fn before_havoc(
     fol_subst::conditions();
     fol_formula::indices();
     let axioms = model.axioms();
-    let lawful = premises.lawful(alloc, axioms, Symbol::Fun(variable))?;
+    let lawful = premises.lawful(alloc, axioms, Symbol::Function(variable))?;
     let within = implies(alloc, lawful, rest)?;
     let replaced = replace_const(alloc, within, variable, 0)?;
     let nodes = replaced.nodes.saturating_add(1);

@@ -14,7 +14,7 @@ use crate::laws::witness_law;
 use crate::premises::Premises;
 use base::{Mem, Row};
 use fol_formula::{Formula, Sentence, existentials_of_all};
-use fol_occurs::Symbol;
+use fol_sig::Symbol;
 use rml_command::{About, Checked, Goal, Model, Path, Primitive};
 use std::alloc::Global;
 
@@ -112,10 +112,16 @@ fn behind<'a>(
 {
     match primitive {
         Primitive::Assume(p) => skip(rest, p.formula().existentials()),
-        Primitive::SetRel(rel, _) => skip(rest, premises.existentials(axioms, Symbol::Rel(*rel))),
-        Primitive::SetFun(fun, _) => skip(rest, premises.existentials(axioms, Symbol::Fun(*fun))),
+        Primitive::SetRel(rel, _) => skip(
+            rest,
+            premises.existentials(axioms, Symbol::Relation(*rel)),
+        ),
+        Primitive::SetFun(fun, _) => skip(
+            rest,
+            premises.existentials(axioms, Symbol::Function(*fun)),
+        ),
         Primitive::Havoc(variable) => {
-            let count = premises.existentials(axioms, Symbol::Fun(*variable));
+            let count = premises.existentials(axioms, Symbol::Function(*variable));
             skip(skip(rest, 1), count)
         }
         Primitive::Abort => rest,

@@ -6,7 +6,7 @@ use Rattle.fol_formula.specs.Syntax.{form_then, no_forms, bound, app, term_then,
 
 -- a sort, and a relation over it
 abbrev pub one_relation : Declared
-one_relation = record { sorts = 1; relations = (0 ∷ []) ∷ []; functions = [] }
+one_relation = record { sorts = 1; relations = (0 ∷ []) ∷ []; functions = []; listed = [] }
 
 -- r(x), for the nearest variable x
 abbrev pub atom : FormTree

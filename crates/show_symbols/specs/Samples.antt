@@ -5,10 +5,10 @@ use Rattle.fol_formula.specs.Syntax.{FormTree, rel, equal, negation, disjunction
 use Rattle.fol_formula.specs.Syntax.{bound, no_terms, term_then}
 
 abbrev pub no_symbols : Declared
-no_symbols = record { sorts = 0; relations = []; functions = [] }
+no_symbols = record { sorts = 0; relations = []; functions = []; listed = [] }
 
 abbrev pub one_sort : Declared
-one_sort = record { sorts = 1; relations = []; functions = [] }
+one_sort = record { sorts = 1; relations = []; functions = []; listed = [] }
 
 -- two sorts, a relation over both, a function from the first to the second, and a variable of the first
 abbrev pub two_sorts : Declared
@@ -16,6 +16,7 @@ two_sorts = record {
   sorts = 2;
   relations = (0 ∷ 1 ∷ []) ∷ [];
   functions = (0 ∷ [], record { 0 = 1 }) ∷ ([], record { 0 = 0 }) ∷ [];
+  listed = [];
 }
 
 -- a sort, a relation over it, and two variables
@@ -24,6 +25,7 @@ two_variables = record {
   sorts = 1;
   relations = (0 ∷ []) ∷ [];
   functions = ([], record { 0 = 0 }) ∷ ([], record { 0 = 0 }) ∷ [];
+  listed = [];
 }
 
 -- where the relation holds of the outer variable, it is the inner one; for any two

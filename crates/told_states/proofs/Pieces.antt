@@ -4,8 +4,9 @@ use Rattle.std.specs.List.{AllByRecursion}
 use Rattle.base.proofs.Lists.{all_append, all_push}
 use Rattle.fol_sig.specs.Tables.{Tables}
 use Rattle.fol_sig.specs.Tuples.{join_below}
-use Rattle.told_states.specs.declared.symbols.Symbol.{Symbol}
-use Rattle.told_states.specs.SymbolText.{relation_symbol, function_symbol, symbols_of, HasSymbol}
+use Rattle.fol_sig.specs.declared.symbol.Symbol.{Symbol}
+use Rattle.fol_sig.specs.SymbolTables.{HasSymbol}
+use Rattle.told_states.specs.SymbolText.{relation_symbol, function_symbol, symbols_of}
 
 -- one more of the lists of the numbers below n
 pub one_more : (n : ℕ) (f : ℕ → List ℕ) (x y w : List ℕ) → x ≡ w ++ join_below n f → y ≡ x ++ f n

@@ -7,9 +7,10 @@ use Rattle.fol_sig.specs.Tuples.{join_below}
 use Rattle.rml_command.specs.declared.names.Names.{Names}
 use Rattle.rml_report.specs.Words.{name_at}
 use Rattle.told_states.specs.ElementText.{element_text, line_text}
-use Rattle.told_states.specs.SymbolText.{arguments_of, is_variable, atom_text, symbols_of, cells_text}
-use Rattle.told_states.specs.declared.symbols.Symbol.{Symbol}
-use Rattle.told_states.specs.declared.symbols.Symbol.TheVariants as symbol
+use Rattle.fol_sig.specs.SymbolTables.{arguments_of}
+use Rattle.told_states.specs.SymbolText.{is_variable, atom_text, symbols_of, cells_text}
+use Rattle.fol_sig.specs.declared.symbol.Symbol.{Symbol}
+use Rattle.fol_sig.specs.declared.symbol.Symbol.TheVariants as symbol
 
 -- a comma, and linked(client0, server0)
 unfoldable pub true_text : Names → Tables → Symbol → List ℕ → List ℕ

@@ -4,8 +4,8 @@ use Rattle.fol_sig.specs.Tables.{Tables, function_at, rel_at, fun_at}
 use Rattle.rml_command.specs.declared.names.Names.{Names}
 use Rattle.told_states.specs.ElementText.{element_text}
 use Rattle.told_states.specs.SymbolText.{atom_text, all_cells}
-use Rattle.told_states.specs.declared.symbols.Symbol.{Symbol}
-use Rattle.told_states.specs.declared.symbols.Symbol.TheVariants as symbol
+use Rattle.fol_sig.specs.declared.symbol.Symbol.{Symbol}
+use Rattle.fol_sig.specs.declared.symbol.Symbol.TheVariants as symbol
 
 -- + linked(client0, server0), or - where it is true no more
 unfoldable pub signed_text : Names → Tables → List ℕ → Symbol → List ℕ → List ℕ

@@ -1,21 +1,18 @@
 -- Relations and functions at a tuple.
-use Rattle.std.specs.Prelude.{ℕ, ◌<◌, Bool, true, false, List, [], ◌∷◌, ◌++◌, length}
+use Rattle.std.specs.Prelude.{ℕ, Bool, true, false, List, [], ◌∷◌, ◌++◌, length}
 use Rattle.std.specs.List.{flat_map}
-use Rattle.fol_sig.specs.Tables.{Tables, InRange, tuple_count, relation_at, function_at}
+use Rattle.fol_sig.specs.declared.symbol.Symbol.{Symbol}
+use Rattle.fol_sig.specs.declared.symbol.Symbol.TheVariants as symbol
+use Rattle.fol_sig.specs.Tables.{Tables, tuple_count}
+use Rattle.fol_sig.specs.SymbolTables.{arguments_of}
 use Rattle.fol_sig.specs.Tuples.{join_below, tuple_at}
 use Rattle.rml_command.specs.declared.names.Names.{Names}
 use Rattle.rml_report.specs.Words.{name_at}
 use Rattle.told_states.specs.ElementText.{arguments_text}
-use Rattle.told_states.specs.declared.symbols.Symbol.{Symbol}
-use Rattle.told_states.specs.declared.symbols.Symbol.TheVariants as symbol
 
 abbrev pub symbol_name : Names → Symbol → List ℕ
 symbol_name names (symbol.Relation r) = name_at names.relations r.0
 symbol_name names (symbol.Function f) = name_at names.functions f.0
-
-abbrev pub arguments_of : Tables → Symbol → List ℕ
-arguments_of s (symbol.Relation r) = (relation_at s r.0).sorts
-arguments_of s (symbol.Function f) = (function_at s f.0).sorts
 
 -- a variable is a function without arguments
 abbrev pub is_variable : Symbol → List ℕ → Bool
@@ -49,13 +46,3 @@ cells_text s text q = at_tuples s.sizes (arguments_of s q) (text q)
 
 abbrev pub all_cells : Tables → (Symbol → List ℕ → List ℕ) → List ℕ
 all_cells s text = flat_map (cells_text s text) (symbols_of s)
-
--- the symbol is one of the structure
-abbrev pub HasSymbol : Tables → Symbol → Type 0
-HasSymbol s (symbol.Relation r) = r.0 < length s.relations
-HasSymbol s (symbol.Function f) = f.0 < length s.functions
-
--- and the tuple one of its arguments
-abbrev pub IsCell : Tables → Symbol → List ℕ → Type 0
-IsCell s (symbol.Relation r) xs = (r.0 < length s.relations) × InRange s.sizes (relation_at s r.0).sorts xs
-IsCell s (symbol.Function f) xs = (f.0 < length s.functions) × InRange s.sizes (function_at s f.0).sorts xs

@@ -4,12 +4,13 @@ ghost use Rattle.std.specs.Prelude.{◌≡◌, ◌<◌, ◌^◌, ◌++◌, All, 
 ghost use Rattle.fol_sig.specs.Tables.{Tables, numbers, tuple_count};
 ghost use Rattle.fol_sig.specs.Symbols.{FitsStructure, symbols};
 ghost use Rattle.told_states.specs.Alike.{AreAlike};
-ghost use Rattle.told_states.specs.SymbolText.{HasSymbol, IsCell, cells_text, all_cells};
-ghost use Rattle.told_states.specs.declared.symbols.Symbol.{Symbol};
+ghost use Rattle.fol_sig.specs.SymbolTables.{HasSymbol, IsCell};
+ghost use Rattle.told_states.specs.SymbolText.{cells_text, all_cells};
+ghost use Rattle.fol_sig.specs.declared.symbol.Symbol.{Symbol};
 
-use crate::symbols::{Symbol, all_symbols, arguments, sizes};
+use crate::symbols::{all_symbols, sizes};
 use base::Mem;
-use fol_sig::{Sort, Structure, count_tuples, tuple_of_number};
+use fol_sig::{Sort, Structure, Symbol, count_tuples, tuple_of_number};
 use rml_command::Model;
 use std::alloc::{AllocError, Global};
 
@@ -60,7 +61,7 @@ pub fn push_cells<T: OfCells>(
     ensures { OnOk result (out.new.items ≡ out.old.items
         ++ cells_text here.now (T.text told.now here.now there.now) symbol) }
 {
-    let sorts = arguments(here, symbol);
+    let sorts = here.arguments(symbol);
     for number in 0..tuples(sizes, sorts)? {
         let tuple = tuple_of_number(alloc, sizes, sorts, number);
         told.push(alloc, out, here, there, symbol, tuple.as_slice())?;

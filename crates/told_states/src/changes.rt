@@ -2,15 +2,15 @@
 ghost use Rattle.std.specs.Prelude.{◌≡◌, ◌++◌, OnOk};
 ghost use Rattle.fol_sig.specs.Symbols.{FitsStructure, symbols};
 ghost use Rattle.told_states.specs.Alike.{AreAlike};
-ghost use Rattle.told_states.specs.SymbolText.{HasSymbol, IsCell};
+ghost use Rattle.fol_sig.specs.SymbolTables.{HasSymbol, IsCell};
 ghost use Rattle.told_states.specs.ChangeText.{signed_text, flip_text, moved_text, move_text, change_text};
 ghost use Rattle.told_states.specs.ChangeText.{below_changes, changes_text};
 
 use crate::cells::{OfCells, push_all_cells};
 use crate::elements::push_element;
-use crate::symbols::{Symbol, push_atom};
+use crate::symbols::push_atom;
 use base::{Mem, push_text};
-use fol_sig::{Sort, Structure};
+use fol_sig::{Sort, Structure, Symbol};
 use rml_command::{Model, Names};
 use std::alloc::Global;
 

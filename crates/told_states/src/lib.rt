@@ -15,4 +15,4 @@ pub use cells::{OfCells, push_all_cells, push_cells, tuples};
 pub use changes::push_changes;
 pub use elements::{push_element, push_line, push_values};
 pub use laws::end_law;
-pub use symbols::{Symbol, all_symbols, arguments, is_variable, push_symbol, sizes};
+pub use symbols::{all_symbols, is_variable, push_symbol, sizes};

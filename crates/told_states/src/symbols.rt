@@ -1,36 +1,18 @@
 // Relations and functions, and their tuples.
 ghost use Rattle.std.specs.Prelude.{◌≡◌, [], ◌∷◌, ◌++◌, OnOk, IfOk};
-ghost use Rattle.fol_sig.specs.Tables.{numbers};
 ghost use Rattle.fol_sig.specs.Symbols.{FitsStructure, symbols};
 ghost use Rattle.std.specs.List.{AllByRecursion};
 ghost use Rattle.fol_sig.specs.Tuples.{join_below};
-ghost use Rattle.told_states.specs.SymbolText.{symbol_name, arguments_of, is_variable, atom_text, HasSymbol};
+ghost use Rattle.fol_sig.specs.SymbolTables.{arguments_of, HasSymbol};
+ghost use Rattle.told_states.specs.SymbolText.{symbol_name, is_variable, atom_text};
 ghost use Rattle.told_states.specs.SymbolText.{relation_symbol, function_symbol, symbols_of};
 
 use crate::elements::push_arguments;
 use base::Mem;
-use fol_sig::{FunId, RelId, Sort, Structure};
+use fol_sig::{FunId, RelId, Sort, Structure, Symbol};
 use rml_command::{Model, Names};
 use rml_report::push_name;
 use std::alloc::Global;
-
-/// What has a table.
-#[derive(Clone, Copy)]
-pub enum Symbol {
-    Relation(RelId),
-    Function(FunId),
-}
-
-/// The sorts of a symbol's arguments.
-pub fn arguments(structure: &Structure, symbol: Symbol) -> &[Sort]
-    requires { HasSymbol structure.now symbol }
-    ensures { numbers result.now ≡ arguments_of structure.now symbol }
-{
-    match symbol {
-        Symbol::Relation(rel) => structure.relation_sorts(rel),
-        Symbol::Function(fun) => structure.function_sorts(fun),
-    }
-}
 
 /// Whether it is a function without arguments.
 pub fn is_variable(structure: &Structure, symbol: Symbol) -> bool
@@ -66,7 +48,7 @@ pub fn push_atom(
     ensures { OnOk result (out.new.items ≡ out.old.items ++ atom_text names.now structure.now symbol tuple.now) }
 {
     push_symbol(out, names, symbol)?;
-    push_arguments(out, names, arguments(structure, symbol), tuple)?;
+    push_arguments(out, names, structure.arguments(symbol), tuple)?;
     Ok(())
 }
 

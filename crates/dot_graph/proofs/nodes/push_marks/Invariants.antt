@@ -1,6 +1,6 @@
 use Rattle.std.proofs.Common.{◌≡◌, ◌++◌, length}
 use Rattle.std.specs.List.{AllByRecursion, flat_map}
-use Rattle.told_states.specs.SymbolText.{HasSymbol}
+use Rattle.fol_sig.specs.SymbolTables.{HasSymbol}
 use Rattle.dot_graph.specs.NodeText.{symbol_mark}
 use Rattle.dot_graph.proofs.nodes.push_marks.Given as goal
 

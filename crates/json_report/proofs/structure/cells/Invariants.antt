@@ -1,6 +1,6 @@
 use Rattle.std.proofs.Common.{◌≡◌}
 use Rattle.fol_sig.specs.Tuples.{join_below, tuple_at}
-use Rattle.told_states.specs.SymbolText.{arguments_of}
+use Rattle.fol_sig.specs.SymbolTables.{arguments_of}
 use Rattle.json_report.specs.StructureData.{cell_data}
 use Rattle.json_report.proofs.structure.cells.Given as goal
 

@@ -1,5 +1,6 @@
 use Rattle.std.proofs.Common.{[], subst, sym}
-use Rattle.rml_report.specs.TableText.{IsCell, EachTuple}
+use Rattle.fol_sig.specs.SymbolTables.{IsCell}
+use Rattle.rml_report.specs.TableText.{EachTuple}
 use Rattle.rml_report.proofs.Cells.{each_cell}
 use Rattle.rml_report.proofs.structures.push_symbol_line.Goals as goal
 

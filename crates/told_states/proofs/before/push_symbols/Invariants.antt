@@ -1,6 +1,7 @@
 use Rattle.std.proofs.Common.{◌≡◌, ◌++◌, length}
 use Rattle.std.specs.List.{AllByRecursion, flat_map}
-use Rattle.told_states.specs.SymbolText.{HasSymbol, symbols_of}
+use Rattle.fol_sig.specs.SymbolTables.{HasSymbol}
+use Rattle.told_states.specs.SymbolText.{symbols_of}
 use Rattle.told_states.specs.BeforeText.{symbol_line, variable_text}
 use Rattle.told_states.proofs.before.push_symbols.Given as goal
 

@@ -1,6 +1,7 @@
 use Rattle.std.proofs.Common.{◌≡◌, ◌++◌, length}
 use Rattle.std.specs.List.{AllByRecursion, flat_map}
-use Rattle.told_states.specs.SymbolText.{HasSymbol, symbols_of, cells_text}
+use Rattle.fol_sig.specs.SymbolTables.{HasSymbol}
+use Rattle.told_states.specs.SymbolText.{symbols_of, cells_text}
 use Rattle.told_states.proofs.cells.push_all_cells.Given as goal
 
 abbrev pub invariant-loop-rest : goal.invariant-loop-rest

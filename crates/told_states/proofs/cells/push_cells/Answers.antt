@@ -1,7 +1,7 @@
 use Rattle.std.proofs.Common.{◌≡◌, ℕ, List, ◌++◌, ap, ◌∙◌, subst}
 use Rattle.fol_sig.specs.Tables.{numbers}
 use Rattle.fol_sig.specs.Tuples.{tuple_at}
-use Rattle.told_states.specs.SymbolText.{arguments_of}
+use Rattle.fol_sig.specs.SymbolTables.{arguments_of}
 use Rattle.told_states.proofs.Pieces.{one_more}
 use Rattle.told_states.proofs.cells.push_cells.Goals as goal
 

@@ -1,6 +1,6 @@
 use Rattle.std.proofs.Common.{◌≡◌, ◌++◌}
 use Rattle.fol_sig.specs.Tuples.{join_below, tuple_at}
-use Rattle.told_states.specs.SymbolText.{arguments_of}
+use Rattle.fol_sig.specs.SymbolTables.{arguments_of}
 use Rattle.told_states.proofs.cells.push_cells.Given as goal
 
 abbrev pub invariant-loop-number : goal.invariant-loop-number

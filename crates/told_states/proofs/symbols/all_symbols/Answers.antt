@@ -2,8 +2,9 @@ use Rattle.std.proofs.Common.{◌≡◌, ℕ, [], ◌∷◌, List, ◌++◌, len
 use Rattle.std.specs.List.{AllByRecursion}
 use Rattle.fol_sig.specs.Tables.{Declared}
 use Rattle.fol_sig.specs.Tuples.{join_below}
-use Rattle.told_states.specs.declared.symbols.Symbol.{Symbol}
-use Rattle.told_states.specs.SymbolText.{HasSymbol, relation_symbol, function_symbol, symbols_of}
+use Rattle.fol_sig.specs.declared.symbol.Symbol.{Symbol}
+use Rattle.fol_sig.specs.SymbolTables.{HasSymbol}
+use Rattle.told_states.specs.SymbolText.{relation_symbol, function_symbol, symbols_of}
 use Rattle.told_states.proofs.Pieces.{all_known}
 use Rattle.told_states.proofs.symbols.all_symbols.Goals as goal
 
