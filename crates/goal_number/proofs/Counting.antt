@@ -6,13 +6,14 @@ use Rattle.std.specs.Prelude.{slice_get}
 use Rattle.std.specs.List.{flat_map}
 use Rattle.rml_command.specs.Trees.{PrimitiveTree}
 use Rattle.base.specs.Lists.{count_from}
-use Rattle.rml_command.specs.Goals.{Group, goals_among, is_for}
+use Rattle.rml_command.specs.Goals.{goals_among, is_for}
+use Rattle.rml_command.specs.declared.goal.Head.{Head}
 use Rattle.rml_command.specs.declared.goal.Goal.{Goal}
 use Rattle.goal_number.specs.Seeking.{seek, seek_on, IsPlace}
 use Rattle.goal_number.specs.declared.seeking.Sought.{Sought}
 use Rattle.goal_number.specs.declared.seeking.Sought.TheVariants.{Found, Left}
 
-abbrev pub goal_at : Group → ℕ → Goal
+abbrev pub goal_at : Head → ℕ → Goal
 goal_at group path = record { stage = group.stage; path = path; about = group.about }
 
 dropped : (ps : List (List PrimitiveTree)) (i : ℕ) (p : List PrimitiveTree) → slice_get ps i ≡ Some p
@@ -23,7 +24,7 @@ dropped (x ∷ ps) (suc i) p e = let next : suc (i + 1) ≡ suc i + 1 = omega ar
     ∙ ap (λ n. p ∷ drop n (x ∷ ps)) next
 
 -- the goals from a path on
-turn : (group : Group) (ps : List (List PrimitiveTree)) (i : ℕ) (p : List PrimitiveTree) (b : Bool)
+turn : (group : Head) (ps : List (List PrimitiveTree)) (i : ℕ) (p : List PrimitiveTree) (b : Bool)
     → slice_get ps i ≡ Some p → is_for group.about p ≡ b
     → goals_among group (i + 1) (drop i ps) ≡ cond b
     (goal_at group (i + 1) ∷ goals_among group (i + 1 + 1) (drop (i + 1) ps))
@@ -37,14 +38,14 @@ turn group ps i p b at is =
     ∙ ap (λ n. cond b (goal_at group (i + 1) ∷ goals_among group n rest) (goals_among group n rest)) next
 
 -- a path is none of the goals
-pub passed : (group : Group) (ps : List (List PrimitiveTree)) (i left : ℕ) (p : List PrimitiveTree) (whole : Sought)
+pub passed : (group : Head) (ps : List (List PrimitiveTree)) (i left : ℕ) (p : List PrimitiveTree) (whole : Sought)
     → slice_get ps i ≡ Some p → is_for group.about p ≡ false
     → seek left (goals_among group (i + 1) (drop i ps)) ≡ whole
     → seek left (goals_among group (i + 1 + 1) (drop (i + 1) ps)) ≡ whole
 passed group ps i left p whole at is h = sym (ap (seek left) (turn group ps i p false at is)) ∙ h
 
 -- a path is the goal
-pub met : (group : Group) (ps : List (List PrimitiveTree)) (i left : ℕ) (p : List PrimitiveTree) (whole : Sought)
+pub met : (group : Head) (ps : List (List PrimitiveTree)) (i left : ℕ) (p : List PrimitiveTree) (whole : Sought)
     → slice_get ps i ≡ Some p → is_for group.about p ≡ true → left ≡ 0
     → seek left (goals_among group (i + 1) (drop i ps)) ≡ whole
     → Found (goal_at group (i + 1)) ≡ whole
@@ -59,7 +60,7 @@ before zero goal goals some = absurd (some refl)
 before (suc n) goal goals some = let same : n ≡ suc n - 1 = omega arith in ap (λ k. seek k goals) same
 
 -- a path is counted off
-pub counted : (group : Group) (ps : List (List PrimitiveTree)) (i left : ℕ) (p : List PrimitiveTree) (whole : Sought)
+pub counted : (group : Head) (ps : List (List PrimitiveTree)) (i left : ℕ) (p : List PrimitiveTree) (whole : Sought)
     → slice_get ps i ≡ Some p → is_for group.about p ≡ true → (left ≡ 0 → ⊥)
     → seek left (goals_among group (i + 1) (drop i ps)) ≡ whole
     → seek (left - 1) (goals_among group (i + 1 + 1) (drop (i + 1) ps)) ≡ whole
@@ -68,7 +69,7 @@ counted group ps i left p whole at is some h =
     ∙ sym (ap (seek left) (turn group ps i p true at is)) ∙ h
 
 -- no path is left
-pub counted_all : (group : Group) (ps : List (List PrimitiveTree)) (i left : ℕ) (whole : Sought) → length ps ≤ i
+pub counted_all : (group : Head) (ps : List (List PrimitiveTree)) (i left : ℕ) (whole : Sought) → length ps ≤ i
     → seek left (goals_among group (i + 1) (drop i ps)) ≡ whole → Left left ≡ whole
 counted_all group ps i left whole le h =
     let none : drop i ps ≡ [] = drop_all i ps le in

@@ -4,31 +4,13 @@ ghost use Rattle.std.specs.List.{flat_map};
 ghost use Rattle.rml_command.specs.Goals.{HasAbout, IsGoal, is_for, group_goals, stage_groups, stage_paths};
 ghost use Rattle.goal_number.specs.Seeking.{seek, seek_on, IfFound, IsBeforeFinal, IsFoundOrLeft};
 
-use rml_command::{About, Checked, Goal, Path, Paths, Stage};
+use rml_command::{About, Checked, Goal, Stage, is_for};
 
 /// The goal, or how many more are to be counted off.
 #[derive(Clone, Copy, Debug)]
 pub enum Sought {
     Found(Goal),
     Left(u64),
-}
-
-// Whether a path is a goal of what is forbidden here.
-fn is_for(about: About, path: &Path) -> bool
-    ensures { result ≡ is_for about path.now }
-{
-    match about {
-        About::Abort => path.has_abort(),
-        About::Conjecture(_) => !path.has_abort(),
-    }
-}
-
-// The paths of a stage, of which there are few.
-fn few_paths(checked: &Checked, stage: Stage) -> &Paths
-    ensures paths { result.now ≡ stage_paths checked.now stage }
-    ensures few { length result.now ≤ 4096 }
-{
-    checked.stage_paths(stage)
 }
 
 fn action_count(checked: &Checked) -> u32
@@ -49,7 +31,7 @@ fn seek_in(checked: &Checked, stage: Stage, about: About, most: u64) -> Sought
     ensures place { result ≡ seek most (group_goals checked.now (record { stage = stage; about = about })) }
     ensures goal { IfFound (IsGoal checked.now) result }
 {
-    let paths = few_paths(checked, stage);
+    let paths = checked.stage_paths(stage);
     let mut left = most;
     for i in 0..paths.len() {
         if !is_for(about, &paths.path(i)) {

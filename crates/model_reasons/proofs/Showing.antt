@@ -2,7 +2,7 @@
 use Rattle.std.proofs.Common.{ℕ, List, [], ◌∷◌}
 use Rattle.std.specs.List.{AllByRecursion}
 use Rattle.rml_command.specs.Models.{ModelTree}
-use Rattle.rml_command.specs.Goals.{Group}
+use Rattle.rml_command.specs.declared.goal.Head.{Head}
 use Rattle.ea_decide.specs.Passing.{Ceilings}
 use Rattle.rml_reasons.specs.Reasons.{IsLack, IsCarried, without}
 use Rattle.rml_reasons.specs.declared.reason.Lack.{Lack}
@@ -14,13 +14,13 @@ use Rattle.model_reasons.specs.Reasons.{head_of, IsCarriedSo}
 use Rattle.model_reasons.specs.Laws.{LackIsShown, CarriedIsShown, ReasonsAreShown}
 use Rattle.model_reasons.specs.declared.reason.Reason.{Reason}
 
-lack-shown : (limits : Ceilings) (m : ModelTree) (group : Group) (ks : List ℕ) (lack : Lack)
+lack-shown : (limits : Ceilings) (m : ModelTree) (group : Head) (ks : List ℕ) (lack : Lack)
     → IsLack limits m group ks lack → LackIsShown m lack
 lack-shown limits m group ks (Fails shown) h =
     record { goal = h.goal; structure = h.fails.refutes.structure }
 lack-shown limits m group ks (Open goal c) h = tt
 
-needs-shown : (limits : Ceilings) (m : ModelTree) (group : Group) (all : List ℕ) (needs : List Need)
+needs-shown : (limits : Ceilings) (m : ModelTree) (group : Head) (all : List ℕ) (needs : List Need)
     → AllByRecursion (λ n. IsLack limits m group (without n.conjecture all) n.lack) needs
     → AllByRecursion (λ n. LackIsShown m n.lack) needs
 needs-shown limits m group all [] h = tt
@@ -29,7 +29,7 @@ needs-shown limits m group all (n ∷ ns) h = (
   needs-shown limits m group all ns h.1,
 )
 
-carried-shown : (limits : Ceilings) (m : ModelTree) (group : Group) (c : Carried) → IsCarried limits m group c
+carried-shown : (limits : Ceilings) (m : ModelTree) (group : Head) (c : Carried) → IsCarried limits m group c
     → CarriedIsShown m c
 carried-shown limits m group (By needs) h = needs-shown limits m group _ needs h.needed
 carried-shown limits m group (Not lack) h = lack-shown limits m group _ lack h

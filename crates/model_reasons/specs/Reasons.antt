@@ -2,13 +2,14 @@
 use Rattle.std.specs.Prelude.{◌≡◌, List, map}
 use Rattle.std.specs.List.{AllByRecursion}
 use Rattle.rml_command.specs.Models.{ModelTree}
-use Rattle.rml_command.specs.Goals.{Group, groups_of}
+use Rattle.rml_command.specs.Goals.{groups_of}
+use Rattle.rml_command.specs.declared.goal.Head.{Head}
 use Rattle.ea_decide.specs.Passing.{Ceilings}
 use Rattle.rml_reasons.specs.Reasons.{IsCarried}
 use Rattle.model_reasons.specs.declared.reason.Reason.{Reason}
 
 -- the group that a reason is of
-abbrev pub head_of : Reason → Group
+abbrev pub head_of : Reason → Head
 head_of r = record { stage = r.stage; about = r.about }
 
 -- what is said to carry it does, or it lacks what is told

@@ -1,7 +1,7 @@
 // The groups of a model in order, each with what carries it.
-ghost use Rattle.std.specs.Prelude.{◌≡◌, ◌<◌, ◌++◌, ◌∷◌, [], ℕ, length, map, IfOk, OnOk};
+ghost use Rattle.std.specs.Prelude.{◌≡◌, map, IfOk};
 ghost use Rattle.std.specs.List.{AllByRecursion};
-ghost use Rattle.rml_command.specs.Goals.{HasAbout, stage_groups, groups_of};
+ghost use Rattle.rml_command.specs.Goals.{HasAbout};
 ghost use Rattle.ea_decide.specs.Passing.{ceilings};
 ghost use Rattle.model_reasons.specs.Reasons.{head_of, IsCarriedSo, AreReasons};
 
@@ -9,76 +9,45 @@ use crate::reason::Reason;
 use base::{Mem, Row};
 use lrat_log::Limits;
 use progress::{Progress, Work};
-use rml_command::{About, Checked, Stage};
+use rml_command::{Checked, Head, goal_law, heads};
 use rml_reasons::carried_by;
 use std::alloc::Global;
 
-// Adds a group.
-fn add_group<P: Progress>(
-    alloc: Global,
-    checked: &Checked,
-    limits: &Limits,
-    stage: Stage,
-    about: About,
-    reasons: &mut Vec<Reason>,
-    progress: &mut P,
-) -> Mem<()>
-    requires { HasAbout checked.now stage about }
-    ensures heads { OnOk result (map head_of reasons.new.items
-        ≡ map head_of reasons.old.items ++ record { stage = stage; about = about } ∷ []) }
-    ensures carried { OnOk result (AllByRecursion (IsCarriedSo (ceilings limits.now) checked.now) reasons.old.items
-        → AllByRecursion (IsCarriedSo (ceilings limits.now) checked.now) reasons.new.items) }
+// A group with what carries it.
+fn reason(alloc: Global, checked: &Checked, limits: &Limits, head: Head) -> Mem<Reason>
+    requires { HasAbout checked.now head.stage head.about }
+    ensures head { IfOk result (λ r. head_of r ≡ head) }
+    ensures carried { IfOk result (IsCarriedSo (ceilings limits.now) checked.now) }
 {
+    let Head { stage, about } = head;
     let carried = carried_by(alloc, checked, stage, about, limits)?;
-    reasons.push(Reason {
+    Ok(Reason {
         stage,
         about,
         carried,
-    })?;
-    progress.tell(Work::Groups, reasons.len() as u64, group_count(checked));
-    Ok(())
+    })
 }
 
-// How many groups there are: of init and each action one for abort and one for each conjecture, and of final one.
-fn group_count(checked: &Checked) -> u64 {
-    let model = checked.model();
-    let stages = (model.actions().len() as u64).saturating_add(1);
-    let groups = (model.conjectures().len() as u64).saturating_add(1);
-    stages.saturating_mul(groups).saturating_add(1)
-}
-
-// Adds the groups of init or an action, in order.
-fn add_stage<P: Progress>(
+// The groups of these heads, each with what carries it.
+fn all_reasons<P: Progress>(
     alloc: Global,
     checked: &Checked,
     limits: &Limits,
-    stage: Stage,
-    reasons: &mut Vec<Reason>,
+    heads: &[Head],
     progress: &mut P,
-) -> Mem<()>
-    requires abort { HasAbout checked.now stage About.Abort }
-    requires conjectures { (k : ℕ) → k < length checked.now.conjectures
-        → HasAbout checked.now stage (About.Conjecture k) }
-    ensures heads { OnOk result (map head_of reasons.new.items
-        ≡ map head_of reasons.old.items ++ stage_groups checked.now stage) }
-    ensures carried { OnOk result (AllByRecursion (IsCarriedSo (ceilings limits.now) checked.now) reasons.old.items
-        → AllByRecursion (IsCarriedSo (ceilings limits.now) checked.now) reasons.new.items) }
+) -> Mem<Vec<Reason>>
+    requires { AllByRecursion (λ h. HasAbout checked.now h.stage h.about) heads.now }
+    ensures heads { IfOk result (λ rs. map head_of rs.items ≡ heads.now) }
+    ensures carried { IfOk result (λ rs. AllByRecursion (IsCarriedSo (ceilings limits.now) checked.now) rs.items) }
 {
-    add_group(
-        alloc,
-        checked,
-        limits,
-        stage,
-        About::Abort,
-        reasons,
-        progress,
-    )?;
-    let count = checked.model().conjectures().len() as u32;
-    for k in 0..count {
-        let about = About::Conjecture(k);
-        add_group(alloc, checked, limits, stage, about, reasons, progress)?;
+    let mut reasons = Vec::new(alloc);
+    let mut rest = heads;
+    while let [head, after @ ..] = rest {
+        reasons.push(reason(alloc, checked, limits, *head)?)?;
+        progress.tell(Work::Groups, reasons.len() as u64, heads.len() as u64);
+        rest = after;
     }
-    Ok(())
+    Ok(reasons)
 }
 
 /// Which conjectures carry each group of the model, none of which can be left out, or what it lacks even where all are
@@ -91,21 +60,8 @@ pub fn reasons<P: Progress>(
 ) -> Mem<Row<Reason>>
     ensures { IfOk result (AreReasons (ceilings limits.now) checked.now) }
 {
-    let mut reasons = Vec::new(alloc);
-    add_stage(alloc, checked, limits, Stage::Init, &mut reasons, progress)?;
-    let count = checked.model().actions().len() as u32;
-    for a in 0..count {
-        let stage = Stage::Action(a);
-        add_stage(alloc, checked, limits, stage, &mut reasons, progress)?;
-    }
-    add_group(
-        alloc,
-        checked,
-        limits,
-        Stage::Final,
-        About::Abort,
-        &mut reasons,
-        progress,
-    )?;
+    goal_law();
+    let heads = heads(alloc, checked)?;
+    let reasons = all_reasons(alloc, checked, limits, &heads, progress)?;
     Ok(Row::from_vec(reasons))
 }

@@ -6,7 +6,8 @@ use Rattle.fol_sig.specs.Symbols.{Symbols, FitsStructure, symbols}
 use Rattle.fol_formula.specs.Syntax.{FormTree}
 use Rattle.rml_command.specs.Trees.{PrimitiveTree, assume, set_rel, set_fun, havoc, abort}
 use Rattle.rml_command.specs.Models.{ModelTree}
-use Rattle.rml_command.specs.Goals.{Group, stage_paths, goal_path, leading_sorts, IsGoal}
+use Rattle.rml_command.specs.Goals.{stage_paths, goal_path, leading_sorts, IsGoal}
+use Rattle.rml_command.specs.declared.goal.Head.{Head}
 use Rattle.rml_command.specs.declared.goal.About.{About}
 use Rattle.rml_command.specs.declared.goal.About.TheVariants as about
 use Rattle.rml_exec.specs.declared.trace.Counterexample.{Counterexample}
@@ -44,7 +45,7 @@ HasEnd m s (about.Conjecture k) values after =
 
 -- A path that is a goal of the group, among so many of its block; a structure of the model; an element for each havoc
 -- of the path, and an end.
-pub record IsExecution (m : ModelTree) (group : Group) (paths : ℕ) (shown : Counterexample) (after : Option Tables)
+pub record IsExecution (m : ModelTree) (group : Head) (paths : ℕ) (shown : Counterexample) (after : Option Tables)
     : Type 0 where
   pub goal : shown.goal ≡ goal_at group shown.trace.path
   pub is_goal : IsGoal m shown.goal

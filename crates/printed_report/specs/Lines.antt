@@ -3,8 +3,9 @@ use Rattle.std.specs.Prelude.{◌≡◌, ℕ, ◌<◌, ◌≤◌, List, [], ◌�
 use Rattle.fol_sig.specs.Tables.{Tables, size_at}
 use Rattle.base.specs.Lists.{count_from}
 use Rattle.rml_command.specs.Models.{ModelTree}
-use Rattle.rml_command.specs.Goals.{Group, IsGoal}
+use Rattle.rml_command.specs.Goals.{IsGoal}
 use Rattle.rml_command.specs.declared.names.Names.{Names}
+use Rattle.rml_command.specs.declared.goal.Head.{Head}
 use Rattle.rml_command.specs.declared.goal.About.{About}
 use Rattle.rml_command.specs.declared.goal.About.TheVariants as about
 use Rattle.rml_exec.specs.declared.trace.Counterexample.{Counterexample}
@@ -67,7 +68,7 @@ pub record IsLeastLine (m : ModelTree) (line : List ℕ) : Type 0 where
   pub text : line ≡ least_line m.names least
 
 -- a group that is left open at one of its paths
-pub record IsUndecidedLine (m : ModelTree) (group : Group) (line : List ℕ) : Type 0 where
+pub record IsUndecidedLine (m : ModelTree) (group : Head) (line : List ℕ) : Type 0 where
   pub path : ℕ
   pub cause : Cause
   pub goal : IsGoal m (goal_at group path)

@@ -2,7 +2,8 @@
 use Rattle.std.specs.Prelude.{◌≡◌, ℕ, ◌+◌, ◌<◌, ◌^◌, List, [], ◌∷◌, ◌++◌, length, codes, Option}
 use Rattle.fol_sig.specs.Tables.{Tables}
 use Rattle.rml_command.specs.Models.{ModelTree}
-use Rattle.rml_command.specs.Goals.{Group, groups_of}
+use Rattle.rml_command.specs.Goals.{groups_of}
+use Rattle.rml_command.specs.declared.goal.Head.{Head}
 use Rattle.rml_exec.specs.declared.trace.Counterexample.{Counterexample}
 use Rattle.rml_report.specs.ReportText.{head_text, verdict_text}
 use Rattle.printed_report.specs.Executions.{IsExecution}
@@ -13,7 +14,7 @@ use Rattle.printed_report.specs.declared.printed.PrintedAnswer.{PrintedAnswer}
 use Rattle.printed_report.specs.declared.printed.PrintedAnswer.TheVariants as answer
 use Rattle.line_scan.specs.Lines.{lines_of}
 
-pub record IsBlock (m : ModelTree) (group : Group) (paths : ℕ) (shown : Counterexample) (after : Option Tables)
+pub record IsBlock (m : ModelTree) (group : Head) (paths : ℕ) (shown : Counterexample) (after : Option Tables)
     (lines : List (List ℕ)) : Type 0 where
   pub execution : IsExecution m group paths shown after
   pub least : List ℕ
@@ -21,11 +22,11 @@ pub record IsBlock (m : ModelTree) (group : Group) (paths : ℕ) (shown : Counte
   pub text : lines ≡ block_lines m.names group.about paths least shown after
 
 -- the line of a group's head, with these words behind it
-abbrev pub head_line : ModelTree → Group → List ℕ → List ℕ
+abbrev pub head_line : ModelTree → Head → List ℕ → List ℕ
 head_line m group words = head_text m.names group.stage group.about ++ words
 
 -- the lines of a group say this of it
-abbrev pub Says : ModelTree → Group → PrintedAnswer → List (List ℕ) → Type 0
+abbrev pub Says : ModelTree → Head → PrintedAnswer → List (List ℕ) → Type 0
 Says m group answer.Holds lines = lines ≡ head_line m group (codes ": holds\n") ∷ []
 Says m group (answer.Fails paths shown after) lines =
     (block : List (List ℕ)) × IsBlock m group paths shown after block
@@ -33,14 +34,14 @@ Says m group (answer.Fails paths shown after) lines =
 Says m group answer.Undecided lines = (line : List ℕ) × IsUndecidedLine m group line × (lines ≡ line ∷ [])
 
 -- the lines of the group, whose first has the number n
-pub record IsGroup (m : ModelTree) (n : ℕ) (group : Group) (g : PrintedGroup) (lines : List (List ℕ)) : Type 0 where
+pub record IsGroup (m : ModelTree) (n : ℕ) (group : Head) (g : PrintedGroup) (lines : List (List ℕ)) : Type 0 where
   pub stage : g.stage ≡ group.stage
   pub about : g.about ≡ group.about
   pub line : g.line ≡ n
   pub answer : Says m group g.answer lines
 
 -- those of each group, in order
-abbrev pub AreGroups : ModelTree → ℕ → List Group → List PrintedGroup → List (List ℕ) → Type 0
+abbrev pub AreGroups : ModelTree → ℕ → List Head → List PrintedGroup → List (List ℕ) → Type 0
 AreGroups m n [] [] lines = lines ≡ []
 AreGroups m n [] (g ∷ gs) lines = ⊥
 AreGroups m n (group ∷ groups) [] lines = ⊥

@@ -13,8 +13,9 @@ use Rattle.fol_formula.specs.Syntax.{FormTree, for_all}
 use Rattle.fol_formula.specs.Fits.{FitsForm}
 use Rattle.rml_command.specs.Trees.{PrimitiveTree, assume, set_rel, set_fun, havoc, abort}
 use Rattle.rml_command.specs.Models.{ModelTree, FitsPath, FitsModel}
-use Rattle.rml_command.specs.Goals.{Group, stage_paths, goal_path, leading_sorts, HasAbout, IsGoal}
+use Rattle.rml_command.specs.Goals.{stage_paths, goal_path, leading_sorts, HasAbout, IsGoal}
 use Rattle.rml_command.specs.Laws.{GoalPathsFit}
+use Rattle.rml_command.specs.declared.goal.Head.{Head}
 use Rattle.rml_command.specs.declared.goal.Stage.{Stage}
 use Rattle.rml_command.specs.declared.goal.Stage.TheVariants as stage
 use Rattle.rml_command.specs.declared.goal.About.{About}
@@ -61,7 +62,7 @@ havocs_known sig (set_fun f by ∷ qs) fits = havocs_known sig qs fits.1
 havocs_known sig (havoc v ∷ qs) fits = (fits.0.2, havocs_known sig qs fits.1)
 havocs_known sig (abort ∷ qs) fits = havocs_known sig qs fits.1
 
-pub along_known : (m : ModelTree) → FitsModel m → GoalPathsFit → (group : Group) (path : ℕ)
+pub along_known : (m : ModelTree) → FitsModel m → GoalPathsFit → (group : Head) (path : ℕ)
     → IsGoal m (goal_at group path)
     → AllByRecursion (λ k. k < m.signature.sorts) (sorts_along (symbols m.signature) (goal_path m (goal_at group path)))
 along_known m fits law group path is =
@@ -95,7 +96,7 @@ abbrev make_shown : Tables → Trace → Goal → List ℕ → Counterexample
 make_shown s trace goal values = record { structure = s; trace = trace; goal = goal; values = values }
 
 -- what is shown of a group, and the lines that show it
-abbrev pub IsBlockText : ModelTree → Group → ℕ → PrintedAnswer → Lines → Type 0
+abbrev pub IsBlockText : ModelTree → Head → ℕ → PrintedAnswer → Lines → Type 0
 IsBlockText m group n a lines =
     (paths : ℕ) × (shown : Counterexample) × (after : Option Tables) × (a ≡ answer.Fails paths shown after)
     × IsBlock m group paths shown after lines
@@ -170,7 +171,7 @@ module _ (x : ScansAreExact) (numbered_are : TuplesAreNumbered) (m : ModelTree) 
       → IsPart (read_words words) (IsOne (λ (_ : Unit {0}) line. line ≡ words))
   words_part words line = one_part (words_in words) (λ _ line. line ≡ words) line
 
-  module _ (fits : FitsModel m) (law : GoalPathsFit) (group : Group) (has : HasAbout m group.stage group.about)
+  module _ (fits : FitsModel m) (law : GoalPathsFit) (group : Head) (has : HasAbout m group.stage group.about)
       (few : length (stage_paths m group.stage) ≤ 4096) where
     module _ (s : Tables) (fs : FitsStructure (symbols m.signature) s) (small : All IsSize s.sizes) where
       size_bound : (j : ℕ) → slice_index s.sizes j ≤ most

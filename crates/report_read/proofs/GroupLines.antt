@@ -11,9 +11,10 @@ use Rattle.fol_sig.specs.Tuples.{TuplesAreNumbered}
 use Rattle.rml_command.specs.Trees.{PrimitiveTree, CommandTree}
 use Rattle.rml_command.specs.Fragment.{IsChecked, HasFewPaths}
 use Rattle.rml_command.specs.Models.{ModelTree, FitsModel}
-use Rattle.rml_command.specs.Goals.{Group, stage_groups, groups_of, stage_paths, paths_of_block, is_for, HasAbout}
+use Rattle.rml_command.specs.Goals.{stage_groups, groups_of, stage_paths, paths_of_block, is_for, HasAbout}
 use Rattle.rml_command.specs.Goals.{IsGoal}
 use Rattle.rml_command.specs.Laws.{GoalPathsFit}
+use Rattle.rml_command.specs.declared.goal.Head.{Head}
 use Rattle.rml_command.specs.declared.goal.Stage.{Stage}
 use Rattle.rml_command.specs.declared.goal.Stage.TheVariants as stage
 use Rattle.rml_command.specs.declared.goal.About.{About}
@@ -72,7 +73,7 @@ among_goal a (q ∷ qs) (suc (suc n)) p is kind =
     or_right true u e = refl
     or_right false u e = e
 
-module _ (m : ModelTree) (group : Group) where
+module _ (m : ModelTree) (group : Head) where
   some_goal : HasAbout m group.stage group.about → has_goal m group ≡ true → (n : ℕ) × IsGoal m (goal_at group n)
   some_goal has e =
       let r = goal_among group.about (stage_paths m group.stage) e in
@@ -81,7 +82,7 @@ module _ (m : ModelTree) (group : Group) where
   goal_has : (n : ℕ) → IsGoal m (goal_at group n) → has_goal m group ≡ true
   goal_has n is = among_goal group.about (stage_paths m group.stage) n is.path is.is_path is.kind
 
-no_head : (m : ModelTree) (group : Group) → head_in m group [] ≡ None
+no_head : (m : ModelTree) (group : Head) → head_in m group [] ≡ None
 no_head m group = by group.stage
   where
     by : (s : Stage) → on (behind (stage_text m.names s) []) (λ a. on (behind (about_text m.names group.about) a)
@@ -97,7 +98,7 @@ suc_place : (n : ℕ) → 1 + n ≡ n + 1
 suc_place n = omega arith
 
 -- what is so of each group of a model
-abbrev pub HasForm : ModelTree → Group → Type 0
+abbrev pub HasForm : ModelTree → Head → Type 0
 HasForm m g = HasAbout m g.stage g.about
 
 conjecture_groups : (m : ModelTree) (s : Stage)
@@ -129,7 +130,7 @@ about_groups m =
 
 module _ (x : ScansAreExact) (numbered_are : TuplesAreNumbered) (m : ModelTree) (ok : IsSignature m.signature)
     (fits : FitsModel m) (law : GoalPathsFit) (few : (s : Stage) → length (stage_paths m s) ≤ 4096) where
-  module _ (group : Group) (has : HasAbout m group.stage group.about) where
+  module _ (group : Head) (has : HasAbout m group.stage group.about) where
     abbrev HeadOf : Head → List ℕ → Type 0
     HeadOf = IsHead x m group has (few group.stage)
 
@@ -224,13 +225,13 @@ module _ (x : ScansAreExact) (numbered_are : TuplesAreNumbered) (m : ModelTree) 
         (made_part (read_said m group) (λ (_ : ℕ). Says m group) (group_of group) said_part)
 
   -- groups behind others
-  record GroupsFrom (groups : List Group) (done : List PrintedGroup) (n : ℕ) (gs : List PrintedGroup) (lines : Lines)
+  record GroupsFrom (groups : List Head) (done : List PrintedGroup) (n : ℕ) (gs : List PrintedGroup) (lines : Lines)
       : Type 0 where
     more : List PrintedGroup
     all : gs ≡ done ++ more
     are : AreGroups m n groups more lines
 
-  abbrev GroupStep : Group → List Group → List PrintedGroup → ℕ → List PrintedGroup → Lines → Type 0
+  abbrev GroupStep : Head → List Head → List PrintedGroup → ℕ → List PrintedGroup → Lines → Type 0
   GroupStep group groups done =
       IsBoth (λ n g lines. IsGroup m n group g lines) (λ g. GroupsFrom groups (done ++ g ∷ []))
 
@@ -250,7 +251,7 @@ module _ (x : ScansAreExact) (numbered_are : TuplesAreNumbered) (m : ModelTree) 
       by [] all are = (sym (all ∙ append-nil done), are)
       by (g ∷ more) all are = absurd are
 
-  groups_step_to : (group : Group) (groups : List Group) (done : List PrintedGroup) (n : ℕ) (gs : List PrintedGroup)
+  groups_step_to : (group : Head) (groups : List Head) (done : List PrintedGroup) (n : ℕ) (gs : List PrintedGroup)
       (lines : Lines) → GroupStep group groups done n gs lines → GroupsFrom (group ∷ groups) done n gs lines
   groups_step_to group groups done n gs lines is =
       let next = is.4 in
@@ -260,7 +261,7 @@ module _ (x : ScansAreExact) (numbered_are : TuplesAreNumbered) (m : ModelTree) 
         are = (is.1, is.2, is.3, next.are, is.5);
       }
 
-  groups_step_back : (group : Group) (groups : List Group) (done : List PrintedGroup) (n : ℕ) (gs : List PrintedGroup)
+  groups_step_back : (group : Head) (groups : List Head) (done : List PrintedGroup) (n : ℕ) (gs : List PrintedGroup)
       (lines : Lines) → GroupsFrom (group ∷ groups) done n gs lines → GroupStep group groups done n gs lines
   groups_step_back group groups done n gs lines is = by is.more is.all is.are
     where
@@ -276,7 +277,7 @@ module _ (x : ScansAreExact) (numbered_are : TuplesAreNumbered) (m : ModelTree) 
         are.4,
       )
 
-  groups_part : (groups : List Group) → AllByRecursion (HasForm m) groups
+  groups_part : (groups : List Head) → AllByRecursion (HasForm m) groups
       → (done : List PrintedGroup) → IsPart (read_groups m groups done) (GroupsFrom groups done)
   groups_part [] all done =
       part_as (λ l. got done l) (IsNothing done) (GroupsFrom [] done) (groups_none_to done) (groups_none_back done)

@@ -13,7 +13,7 @@ use Rattle.base.specs.Lists.{count_from}
 use Rattle.base.specs.declared.refused.Refused.{Refused}
 use Rattle.base.specs.declared.refused.Refused.TheVariants.{For, NoMemory}
 use Rattle.rml_command.specs.Models.{ModelTree}
-use Rattle.rml_command.specs.Goals.{Group}
+use Rattle.rml_command.specs.declared.goal.Head.{Head}
 use Rattle.line_scan.specs.Lines.{LinesLeft}
 use Rattle.printed_report.specs.declared.printed.Unread.{Unread}
 use Rattle.printed_report.specs.declared.printed.PrintedGroup.{PrintedGroup}
@@ -23,7 +23,7 @@ use Rattle.report_read.proofs.Parts.{got_value}
 use Rattle.report_read.proofs.Turns.{reads_err}
 
 module _ (m : ModelTree) where
-  groups_join : (gs hs : List Group) (done : List PrintedGroup) (left : LinesLeft)
+  groups_join : (gs hs : List Head) (done : List PrintedGroup) (left : LinesLeft)
       → read_groups m (gs ++ hs) done left ≡ and_then (read_groups m gs done left) (read_groups m hs)
   groups_join [] hs done left = refl
   groups_join (g ∷ gs) hs done left = by (read_group m g left) (λ x more. groups_join gs hs (done ++ x ∷ []) more)
@@ -36,31 +36,31 @@ module _ (m : ModelTree) where
       by (got x more) h = h x more
       by (stuck l) h = refl
 
-  pub groups_next : (gs hs : List Group) (done new : List PrintedGroup) (old next : LinesLeft)
+  pub groups_next : (gs hs : List Head) (done new : List PrintedGroup) (old next : LinesLeft)
       → read_groups m gs done old ≡ got new next → read_groups m (gs ++ hs) done old ≡ read_groups m hs new next
   groups_next gs hs done new old next e =
       groups_join gs hs done old ∙ ap (λ g. and_then g (read_groups m hs)) e
 
-  pub groups_halt : (gs hs : List Group) (done : List PrintedGroup) (old l : LinesLeft)
+  pub groups_halt : (gs hs : List Head) (done : List PrintedGroup) (old l : LinesLeft)
       → read_groups m gs done old ≡ stuck l → read_groups m (gs ++ hs) done old ≡ stuck l
   groups_halt gs hs done old l e = groups_join gs hs done old ∙ ap (λ g. and_then g (read_groups m hs)) e
 
   -- where the first groups are refused
-  pub groups_err : (gs hs all : List Group) (done before : List PrintedGroup) (old start l : LinesLeft)
+  pub groups_err : (gs hs all : List Head) (done before : List PrintedGroup) (old start l : LinesLeft)
       (e : Refused Unread) → read_groups m (gs ++ hs) done old ≡ read_groups m all before start
       → Reads (read_groups m gs done old) l (Err e) → Reads (read_groups m all before start) l (Err e)
   groups_err gs hs all done before old start l e same reads =
       reads_err (read_groups m gs done old) (read_groups m all before start) l e
       (λ h. sym same ∙ groups_halt gs hs done old l h) reads
 
-pub map_step : (F : ℕ → Group) (k n : ℕ) → k < n
+pub map_step : (F : ℕ → Head) (k n : ℕ) → k < n
     → map F (count_from k (n - k)) ≡ (F k ∷ []) ++ map F (count_from (k + 1) (n - (k + 1)))
 map_step F k n lt =
     let e : n - k ≡ suc (n - (k + 1)) = omega arith in
     let s : suc k ≡ k + 1 = omega arith in
     ap (λ j. map F (count_from k j)) e ∙ ap (λ j. F k ∷ map F (count_from j (n - (k + 1)))) s
 
-pub flat_step : (G : ℕ → List Group) (last : List Group) (k n : ℕ) → k < n
+pub flat_step : (G : ℕ → List Head) (last : List Head) (k n : ℕ) → k < n
     → flat_map G (count_from k (n - k)) ++ last ≡ G k ++ (flat_map G (count_from (k + 1) (n - (k + 1))) ++ last)
 flat_step G last k n lt =
     let e : n - k ≡ suc (n - (k + 1)) = omega arith in
@@ -69,7 +69,7 @@ flat_step G last k n lt =
     ∙ append_assoc (G k) (flat_map G (count_from (suc k) (n - (k + 1)))) last
     ∙ ap (λ j. G k ++ (flat_map G (count_from j (n - (k + 1))) ++ last)) s
 
-pub flat_end : (G : ℕ → List Group) (last : List Group) (k n : ℕ) → n ≤ k
+pub flat_end : (G : ℕ → List Head) (last : List Head) (k n : ℕ) → n ≤ k
     → flat_map G (count_from k (n - k)) ++ last ≡ last
 flat_end G last k n le =
     let e : n - k ≡ 0 = omega arith in ap (λ j. flat_map G (count_from k j) ++ last) e

@@ -6,7 +6,8 @@ use Rattle.std.specs.Str.{bytes_eq}
 use Rattle.base.specs.Lists.{numbered}
 use Rattle.rml_command.specs.Trees.{PrimitiveTree}
 use Rattle.rml_command.specs.Models.{ModelTree}
-use Rattle.rml_command.specs.Goals.{Group, stage_paths, HasAbout, IsGoal}
+use Rattle.rml_command.specs.Goals.{stage_paths, HasAbout, IsGoal}
+use Rattle.rml_command.specs.declared.goal.Head.{Head}
 use Rattle.rml_report.specs.Words.{cause_text}
 use Rattle.rml_report.specs.ReportText.{stage_text, about_text, head_text, path_line, undecided_text, verdict_text}
 use Rattle.rml_report.specs.Reports.{goal_at}
@@ -73,10 +74,10 @@ verdict_line = record {
 }
 
 -- the goals of a group
-pub goal_there : (m : ModelTree) (group : Group) (n : ℕ) → IsGoal m (goal_at group n) → is_goal_at m group n ≡ true
+pub goal_there : (m : ModelTree) (group : Head) (n : ℕ) → IsGoal m (goal_at group n) → is_goal_at m group n ≡ true
 goal_there m group n is = ap (is_goal_path group.about) is.is_path ∙ is.kind
 
-pub goal_sound : (m : ModelTree) (group : Group) (n : ℕ) → HasAbout m group.stage group.about
+pub goal_sound : (m : ModelTree) (group : Head) (n : ℕ) → HasAbout m group.stage group.about
     → is_goal_at m group n ≡ true → IsGoal m (goal_at group n)
 goal_sound m group n has e = by (numbered (stage_paths m group.stage) n) refl e
   where
@@ -118,7 +119,7 @@ module _ (x : ScansAreExact) where
           let h = counted_end_sound x bs f in
           record { cause_is = h.cause_is; can = counted_cause h.cause_is h.can; text = h.text }
 
-  module _ (m : ModelTree) (group : Group) (has : HasAbout m group.stage group.about)
+  module _ (m : ModelTree) (group : Head) (has : HasAbout m group.stage group.about)
       (few : length (stage_paths m group.stage) ≤ 4096) where
     small_path : (n : ℕ) → IsGoal m (goal_at group n) → n ≤ most
     small_path n is = omega (arith, numbered_below (stage_paths m group.stage) n is.path is.is_path, few)

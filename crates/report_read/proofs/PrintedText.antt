@@ -14,9 +14,10 @@ use Rattle.rml_command.specs.Trees.{PrimitiveTree}
 use Rattle.rml_command.specs.Models.{ModelTree, FitsPath}
 use Rattle.rml_command.specs.Fragment.{IsChecked}
 use Rattle.rml_command.specs.Outcomes.{Outcome, ended, aborted, follow_path}
-use Rattle.rml_command.specs.Goals.{Group, stage_paths, goal_path, leading_sorts, IsGoal, FailsGoal}
+use Rattle.rml_command.specs.Goals.{stage_paths, goal_path, leading_sorts, IsGoal, FailsGoal}
 use Rattle.rml_command.specs.Laws.{UpdatesKeepSymbols, GoalPathsFit, PathsEndAtAbort}
 use Rattle.rml_command.specs.declared.names.Names.{Names}
+use Rattle.rml_command.specs.declared.goal.Head.{Head}
 use Rattle.rml_command.specs.declared.goal.Goal.{Goal}
 use Rattle.rml_command.specs.declared.goal.About.{About}
 use Rattle.rml_command.specs.declared.goal.About.TheVariants as about
@@ -126,7 +127,7 @@ module _ (cuts : LinesAreCut) (updates : UpdatesKeepSymbols) (law : GoalPathsFit
         (λ k lt. whole_sort m.names plain s fits.whole small k)
 
   -- an execution that is shown
-  module _ (group : Group) (paths : ℕ) (shown : Counterexample) (is : IsShown m group shown)
+  module _ (group : Head) (paths : ℕ) (shown : Counterexample) (is : IsShown m group shown)
       (count : paths ≡ length (stage_paths m group.stage)) (sizes : All IsSize shown.structure.sizes) where
     abbrev path : List PrimitiveTree
     path = is.refutation.refutes.path
@@ -315,7 +316,7 @@ module _ (cuts : LinesAreCut) (updates : UpdatesKeepSymbols) (law : GoalPathsFit
       (plain_stopped m.names plain (at.Rel r) size c (omega (arith, can.0.1)) can.1)
 
   -- a group
-  says : (a : Answer) (group : Group) → IsAnswer m group a → CanPrint m a
+  says : (a : Answer) (group : Head) → IsAnswer m group a → CanPrint m a
       → Says m group (printed_answer m group.about a)
       (answer_lines m group.about (head_text m.names group.stage group.about) a)
   says reported.Holds group right can = refl
@@ -336,7 +337,7 @@ module _ (cuts : LinesAreCut) (updates : UpdatesKeepSymbols) (law : GoalPathsFit
     refl,
   )
 
-  answer_whole : (a : Answer) (group : Group) → IsAnswer m group a → CanPrint m a
+  answer_whole : (a : Answer) (group : Head) → IsAnswer m group a → CanPrint m a
       → AllByRecursion Whole (answer_lines m group.about (head_text m.names group.stage group.about) a)
   answer_whole reported.Holds group right can =
       (whole_head m.names plain group.stage group.about (codes ": holds\n") refl, tt)
@@ -356,7 +357,7 @@ module _ (cuts : LinesAreCut) (updates : UpdatesKeepSymbols) (law : GoalPathsFit
         tt,
       )
 
-  answer_joined : (a : Answer) (group : Group) → IsAnswer m group a → CanPrint m a → (head : List ℕ)
+  answer_joined : (a : Answer) (group : Head) → IsAnswer m group a → CanPrint m a → (head : List ℕ)
       → join (answer_lines m group.about head a) ≡ head ++ answer_text m group.about a
   answer_joined reported.Holds group right can head = append-nil (head ++ codes ": holds\n")
   answer_joined (reported.Fails paths l shown) group right can head =
@@ -366,12 +367,12 @@ module _ (cuts : LinesAreCut) (updates : UpdatesKeepSymbols) (law : GoalPathsFit
   answer_joined (reported.Undecided path cause) group right can head = append-nil (head ++ undecided_text path cause)
 
   -- all groups
-  abbrev all_lines : List report.Group → Lines
+  abbrev all_lines : List report.Head → Lines
   all_lines [] = []
   all_lines (g ∷ gs) = group_lines m g ++ all_lines gs
 
-  groups_are : (gs : List report.Group) (n : ℕ) → AllByRecursion (IsRight m) gs
-      → AllByRecursion (λ (g : report.Group). CanPrint m g.answer) gs
+  groups_are : (gs : List report.Head) (n : ℕ) → AllByRecursion (IsRight m) gs
+      → AllByRecursion (λ (g : report.Head). CanPrint m g.answer) gs
       → AreGroups m n (map head_of gs) (printed_groups m n gs) (all_lines gs)
   groups_are [] n right can = refl
   groups_are (g ∷ gs) n right can = (
@@ -382,15 +383,15 @@ module _ (cuts : LinesAreCut) (updates : UpdatesKeepSymbols) (law : GoalPathsFit
     refl,
   )
 
-  groups_whole : (gs : List report.Group) → AllByRecursion (IsRight m) gs
-      → AllByRecursion (λ (g : report.Group). CanPrint m g.answer) gs → AllByRecursion Whole (all_lines gs)
+  groups_whole : (gs : List report.Head) → AllByRecursion (IsRight m) gs
+      → AllByRecursion (λ (g : report.Head). CanPrint m g.answer) gs → AllByRecursion Whole (all_lines gs)
   groups_whole [] right can = tt
   groups_whole (g ∷ gs) right can =
       all_append Whole (group_lines m g) (all_lines gs) (answer_whole g.answer (head_of g) right.0 can.0)
       (groups_whole gs right.1 can.1)
 
-  groups_joined : (gs : List report.Group) → AllByRecursion (IsRight m) gs
-      → AllByRecursion (λ (g : report.Group). CanPrint m g.answer) gs
+  groups_joined : (gs : List report.Head) → AllByRecursion (IsRight m) gs
+      → AllByRecursion (λ (g : report.Head). CanPrint m g.answer) gs
       → join (all_lines gs) ≡ flat_map (group_text m) gs
   unfolding group_text
   groups_joined [] right can = refl

@@ -7,8 +7,9 @@ use Rattle.fol_sig.specs.Tuples.{tuple_at}
 use Rattle.rml_command.specs.Trees.{PrimitiveTree}
 use Rattle.base.specs.Lists.{count_from, numbered}
 use Rattle.rml_command.specs.Models.{ModelTree}
-use Rattle.rml_command.specs.Goals.{Group, stage_paths, is_for}
+use Rattle.rml_command.specs.Goals.{stage_paths, is_for}
 use Rattle.rml_command.specs.declared.names.Names.{Names}
+use Rattle.rml_command.specs.declared.goal.Head.{Head}
 use Rattle.rml_command.specs.declared.goal.About.{About}
 use Rattle.rml_report.specs.ReportText.{stage_text, about_text}
 use Rattle.rml_report.specs.TableText.{tuple_text}
@@ -84,7 +85,7 @@ abbrev pub is_goal_path : About → Option (List PrimitiveTree) → Bool
 is_goal_path a None = false
 is_goal_path a (Some path) = is_for a path
 
-abbrev pub is_goal_at : ModelTree → Group → ℕ → Bool
+abbrev pub is_goal_at : ModelTree → Head → ℕ → Bool
 is_goal_at m group n = is_goal_path group.about (numbered (stage_paths m group.stage) n)
 
 -- whether a group has a goal
@@ -92,24 +93,24 @@ abbrev pub has_goal_among : About → List (List PrimitiveTree) → Bool
 has_goal_among a [] = false
 has_goal_among a (p ∷ ps) = if is_for a p then true else has_goal_among a ps
 
-abbrev pub has_goal : ModelTree → Group → Bool
+abbrev pub has_goal : ModelTree → Head → Bool
 has_goal m group = has_goal_among group.about (stage_paths m group.stage)
 
 -- the path of a group that is left open, a blank, a cause and the end
-abbrev pub is_open_path : ModelTree → Group → List ℕ → Bool
+abbrev pub is_open_path : ModelTree → Head → List ℕ → Bool
 is_open_path m group bs =
     choose (number_at bs)
     (λ n. if is_goal_at m group n.0 then choose (behind (codes " ") n.1) (λ a. ends (behind_cause a)) false else false)
     false
 
 -- what stands behind the stage and what it is about
-abbrev pub head_end : ModelTree → Group → List ℕ → Option Head
+abbrev pub head_end : ModelTree → Head → List ℕ → Option Head
 head_end m group bs =
     if bytes_eq bs (codes ": holds\n") then Some head.Holds
     else (if bytes_eq bs (codes ": fails\n") then (if has_goal m group then Some head.Fails else None)
     else on (behind (codes ": undecided path ") bs) (λ a. if is_open_path m group a then Some head.Undecided else None))
 
-abbrev pub head_in : ModelTree → Group → List ℕ → Option Head
+abbrev pub head_in : ModelTree → Head → List ℕ → Option Head
 head_in m group line =
     on (behind (stage_text m.names group.stage) line) (λ a. on (behind (about_text m.names group.about) a)
     (head_end m group))
@@ -119,7 +120,7 @@ abbrev pub path_end : ℕ → ℕ → List ℕ → Option ℕ
 path_end path paths bs =
     on (behind (codes " of ") bs) (λ a. on (behind (decimal paths) a) (λ b. if is_end b then Some path else None))
 
-abbrev pub path_in : ModelTree → Group → ℕ → List ℕ → Option ℕ
+abbrev pub path_in : ModelTree → Head → ℕ → List ℕ → Option ℕ
 path_in m group paths line =
     on (behind (codes "  path ") line) (λ a. on (number_at a) (λ n.
     if is_goal_at m group n.0 then path_end n.0 paths n.1 else None))

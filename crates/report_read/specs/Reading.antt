@@ -6,8 +6,9 @@ use Rattle.fol_sig.specs.Symbols.{FitsStructure, symbols}
 use Rattle.fol_sig.specs.Updates.{with_relation_cells, with_function_cells}
 use Rattle.fol_formula.specs.Syntax.{FormTree}
 use Rattle.rml_command.specs.Models.{ModelTree}
-use Rattle.rml_command.specs.Goals.{Group, stage_paths, goal_path, leading_sorts, groups_of}
+use Rattle.rml_command.specs.Goals.{stage_paths, goal_path, leading_sorts, groups_of}
 use Rattle.rml_command.specs.declared.names.Names.{Names}
+use Rattle.rml_command.specs.declared.goal.Head.{Head}
 use Rattle.rml_command.specs.declared.goal.Goal.{Goal}
 use Rattle.rml_command.specs.declared.goal.Stage.{Stage}
 use Rattle.rml_command.specs.declared.goal.Stage.TheVariants as stage
@@ -126,14 +127,14 @@ abbrev pub read_end : ModelTree → About → Tables → LinesLeft → Got End
 read_end m about.Abort s left = read_abort left
 read_end m (about.Conjecture k) s left = read_after m k s left
 
-abbrev pub read_path : ModelTree → Group → ℕ → LinesLeft → Got ℕ
+abbrev pub read_path : ModelTree → Head → ℕ → LinesLeft → Got ℕ
 read_path m group paths left = one (path_in m group paths (first_of left.lines)) left
 
 abbrev pub read_least : ModelTree → LinesLeft → Got (Unit {0})
 read_least m left = one (passing (is_least_line m.names (first_of left.lines))) left
 
 -- the path, and the lines up to the structure
-abbrev pub read_opening : ModelTree → Group → ℕ → LinesLeft → Got ℕ
+abbrev pub read_opening : ModelTree → Head → ℕ → LinesLeft → Got ℕ
 read_opening m group paths left =
     and_then (read_path m group paths left) (λ path more. and_then (read_least m more)
     (λ _ next. and_then (read_words (codes "  before\n") next) (λ _ rest. got path rest)))
@@ -144,7 +145,7 @@ read_course m goal s left =
     and_then (read_havoc m goal s left) (λ havoc more. and_then (read_end m goal.about s more)
     (λ end rest. got (record { havoc = havoc; end = end }) rest))
 
-abbrev pub shown_of : Group → ℕ → Tables → Course → Counterexample
+abbrev pub shown_of : Head → ℕ → Tables → Course → Counterexample
 shown_of group path s course = record {
   structure = s;
   trace = record { path = path; havoc = course.havoc };
@@ -152,40 +153,40 @@ shown_of group path s course = record {
   values = course.end.values;
 }
 
-abbrev pub fails_of : Group → ℕ → ℕ → Tables → Course → PrintedAnswer
+abbrev pub fails_of : Head → ℕ → ℕ → Tables → Course → PrintedAnswer
 fails_of group paths path s course = answer.Fails paths (shown_of group path s course) course.end.after
 
 -- the structure, the elements and the end
-abbrev pub read_execution : ModelTree → Group → ℕ → ℕ → LinesLeft → Got PrintedAnswer
+abbrev pub read_execution : ModelTree → Head → ℕ → ℕ → LinesLeft → Got PrintedAnswer
 read_execution m group paths path left =
     and_then (read_structure m left) (λ s more. and_then (read_course m (goal_at group path) s more)
     (λ course rest. got (fails_of group paths path s course) rest))
 
-abbrev pub read_block : ModelTree → Group → LinesLeft → Got PrintedAnswer
+abbrev pub read_block : ModelTree → Head → LinesLeft → Got PrintedAnswer
 read_block m group left =
     and_then (read_opening m group (length (stage_paths m group.stage)) left)
     (read_execution m group (length (stage_paths m group.stage)))
 
-abbrev pub read_head : ModelTree → Group → LinesLeft → Got Head
+abbrev pub read_head : ModelTree → Head → LinesLeft → Got Head
 read_head m group left = one (head_in m group (first_of left.lines)) left
 
-abbrev pub read_answer : ModelTree → Group → Head → LinesLeft → Got PrintedAnswer
+abbrev pub read_answer : ModelTree → Head → Head → LinesLeft → Got PrintedAnswer
 read_answer m group head.Holds left = got answer.Holds left
 read_answer m group head.Fails left = read_block m group left
 read_answer m group head.Undecided left = got answer.Undecided left
 
 -- a head, and what it says
-abbrev pub read_said : ModelTree → Group → LinesLeft → Got PrintedAnswer
+abbrev pub read_said : ModelTree → Head → LinesLeft → Got PrintedAnswer
 read_said m group left = and_then (read_head m group left) (read_answer m group)
 
-abbrev pub group_of : Group → ℕ → PrintedAnswer → PrintedGroup
+abbrev pub group_of : Head → ℕ → PrintedAnswer → PrintedGroup
 group_of group n a = record { stage = group.stage; about = group.about; line = n; answer = a }
 
-abbrev pub read_group : ModelTree → Group → LinesLeft → Got PrintedGroup
+abbrev pub read_group : ModelTree → Head → LinesLeft → Got PrintedGroup
 read_group m group left = and_then (read_said m group left) (λ a rest. got (group_of group left.number a) rest)
 
 -- groups behind those that were read
-abbrev pub read_groups : ModelTree → List Group → List PrintedGroup → LinesLeft → Got (List PrintedGroup)
+abbrev pub read_groups : ModelTree → List Head → List PrintedGroup → LinesLeft → Got (List PrintedGroup)
 read_groups m [] done left = got done left
 read_groups m (group ∷ groups) done left =
     and_then (read_group m group left) (λ g more. read_groups m groups (done ++ g ∷ []) more)

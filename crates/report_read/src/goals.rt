@@ -3,31 +3,13 @@ ghost use Rattle.std.specs.Prelude.{◌≡◌, ◌≤◌, length, true};
 ghost use Rattle.rml_command.specs.Goals.{is_for, stage_paths};
 ghost use Rattle.report_read.specs.LineReading.{is_goal_at, has_goal};
 
-use rml_command::{About, Checked, Path, Paths, Stage};
-
-// Whether a path is a goal of what is forbidden here.
-fn is_for(about: About, path: &Path) -> bool
-    ensures { result ≡ is_for about path.now }
-{
-    match about {
-        About::Abort => path.has_abort(),
-        About::Conjecture(_) => !path.has_abort(),
-    }
-}
-
-// The paths of a stage, of which there are few.
-fn few_paths(checked: &Checked, stage: Stage) -> &Paths
-    ensures paths { result.now ≡ stage_paths checked.now stage }
-    ensures few { length result.now ≤ 4096 }
-{
-    checked.stage_paths(stage)
-}
+use rml_command::{About, Checked, Stage, is_for};
 
 /// How many paths the block of a stage has.
 pub fn path_count(checked: &Checked, stage: Stage) -> u32
     ensures { result ≡ length (stage_paths checked.now stage) }
 {
-    few_paths(checked, stage).len() as u32
+    checked.stage_paths(stage).len() as u32
 }
 
 /// Whether the path of this number, from 1, is a goal.
@@ -35,7 +17,7 @@ pub fn is_goal(checked: &Checked, stage: Stage, about: About, number: u64) -> bo
     ensures value { result ≡ is_goal_at checked.now (record { stage = stage; about = about }) number }
     ensures small { result ≡ true → number ≤ 4096 }
 {
-    let paths = few_paths(checked, stage);
+    let paths = checked.stage_paths(stage);
     if number == 0 {
         return false;
     }
@@ -49,7 +31,7 @@ pub fn is_goal(checked: &Checked, stage: Stage, about: About, number: u64) -> bo
 pub fn has_goal(checked: &Checked, stage: Stage, about: About) -> bool
     ensures { result ≡ has_goal checked.now (record { stage = stage; about = about }) }
 {
-    let paths = few_paths(checked, stage);
+    let paths = checked.stage_paths(stage);
     for i in 0..paths.len() {
         if is_for(about, &paths.path(i)) {
             return true;

@@ -8,7 +8,8 @@ use Rattle.base.specs.Lists.{count_from}
 use Rattle.fol_sig.specs.Tables.{Tables}
 use Rattle.rml_command.specs.Outcomes.{Outcome, ended, aborted}
 use Rattle.rml_command.specs.Models.{ModelTree}
-use Rattle.rml_command.specs.Goals.{Group, groups_of}
+use Rattle.rml_command.specs.Goals.{groups_of}
+use Rattle.rml_command.specs.declared.goal.Head.{Head}
 use Rattle.rml_command.specs.declared.goal.About.{About}
 use Rattle.rml_command.specs.declared.goal.About.TheVariants as about
 use Rattle.rml_exec.specs.declared.trace.Counterexample.{Counterexample}
@@ -127,7 +128,7 @@ answer_between m g answer.Holds = omega arith
 answer_between m g (answer.Fails paths shown after) = execution_between m g shown after
 answer_between m g answer.Undecided = omega arith
 
-groups_between : (m : ModelTree) (n : ℕ) (groups : List Group) (gs : List PrintedGroup) (lines : List (List ℕ))
+groups_between : (m : ModelTree) (n : ℕ) (groups : List Head) (gs : List PrintedGroup) (lines : List (List ℕ))
     → AreGroups m n groups gs lines → Between (n * 8) (flat_map (group_demands m) gs) ((n + length lines) * 8)
 groups_between m n [] [] lines are = omega arith
 groups_between m n [] (g ∷ gs) lines are = absurd are

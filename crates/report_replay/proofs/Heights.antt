@@ -6,8 +6,9 @@ use Rattle.base.specs.Lists.{count_from}
 use Rattle.fol_sig.specs.Tables.{Tables, size_at}
 use Rattle.fol_sig.specs.Symbols.{FitsStructure, symbols}
 use Rattle.rml_command.specs.Models.{ModelTree}
-use Rattle.rml_command.specs.Goals.{Group, groups_of}
+use Rattle.rml_command.specs.Goals.{groups_of}
 use Rattle.rml_command.specs.declared.names.Names.{Names}
+use Rattle.rml_command.specs.declared.goal.Head.{Head}
 use Rattle.rml_command.specs.declared.goal.About.{About}
 use Rattle.rml_command.specs.declared.goal.About.TheVariants as about
 use Rattle.rml_exec.specs.declared.trace.Counterexample.{Counterexample}
@@ -63,7 +64,7 @@ fails_takes : (m : ModelTree) (a : About) → 5 + (m.signature.sorts + (table_co
 fails_takes m about.Abort = omega arith
 fails_takes m (about.Conjecture k) = omega arith
 
-block_takes : (m : ModelTree) (group : Group) (paths : ℕ) (least : List ℕ) (shown : Counterexample)
+block_takes : (m : ModelTree) (group : Head) (paths : ℕ) (least : List ℕ) (shown : Counterexample)
     (after : Option Tables) → IsExecution m group paths shown after
     → 1 + length (block_lines m.names group.about paths least shown after) ≡ fails_height m group.about
 block_takes m group paths least shown after exec =
@@ -80,7 +81,7 @@ block_takes m group paths least shown after exec =
     let whole = fails_takes m group.about in
     omega (arith, sorts, of_sig, tables, last, inner, outer, whole)
 
-says_takes : (m : ModelTree) (group : Group) (a : PrintedAnswer) (lines : List (List ℕ)) → Says m group a lines
+says_takes : (m : ModelTree) (group : Head) (a : PrintedAnswer) (lines : List (List ℕ)) → Says m group a lines
     → length lines ≡ height m group.about a
 says_takes m group answer.Holds lines says = ap (length {A = List ℕ}) says
 says_takes m group (answer.Fails paths shown after) lines says =
@@ -90,12 +91,12 @@ says_takes m group (answer.Fails paths shown after) lines says =
     omega (arith, block, text, all)
 says_takes m group answer.Undecided lines says = ap (length {A = List ℕ}) says.2
 
-pub group_takes : (m : ModelTree) (n : ℕ) (group : Group) (g : PrintedGroup) (lines : List (List ℕ))
+pub group_takes : (m : ModelTree) (n : ℕ) (group : Head) (g : PrintedGroup) (lines : List (List ℕ))
     → IsGroup m n group g lines → length lines ≡ height m g.about g.answer
 group_takes m n group g lines is =
     says_takes m group g.answer lines is.answer ∙ ap (λ a. height m a g.answer) (sym is.about)
 
-line_behind_is : (m : ModelTree) (n : ℕ) (groups : List Group) (gs : List PrintedGroup) (lines : List (List ℕ))
+line_behind_is : (m : ModelTree) (n : ℕ) (groups : List Head) (gs : List PrintedGroup) (lines : List (List ℕ))
     → AreGroups m n groups gs lines → line_behind m n gs ≡ n + length lines
 line_behind_is m n [] [] lines are = let e = ap (length {A = List ℕ}) are in omega (arith, e)
 line_behind_is m n [] (g ∷ gs) lines are = absurd are

@@ -6,7 +6,8 @@ use Rattle.std.specs.List.{AllByRecursion}
 use Rattle.fol_sig.specs.Tables.{Tables, InRange}
 use Rattle.fol_formula.specs.Syntax.{FormTree}
 use Rattle.rml_command.specs.Models.{ModelTree}
-use Rattle.rml_command.specs.Goals.{Group, groups_of, leading_sorts}
+use Rattle.rml_command.specs.Goals.{groups_of, leading_sorts}
+use Rattle.rml_command.specs.declared.goal.Head.{Head}
 use Rattle.rml_command.specs.declared.goal.Stage.{Stage}
 use Rattle.rml_command.specs.declared.goal.About.{About}
 use Rattle.rml_command.specs.declared.goal.About.TheVariants as about
@@ -19,28 +20,28 @@ use Rattle.printed_report.specs.declared.printed.PrintedAnswer.{PrintedAnswer}
 use Rattle.printed_report.specs.declared.printed.PrintedAnswer.TheVariants as answer
 use Rattle.report_replay.specs.Judging.{CanFollow, CanReplay}
 
-same_group : (group : Group) (g : PrintedGroup) → g.stage ≡ group.stage → g.about ≡ group.about
+same_group : (group : Head) (g : PrintedGroup) → g.stage ≡ group.stage → g.about ≡ group.about
     → group ≡ record { stage = g.stage; about = g.about }
 same_group group g s b =
     ap (λ (x : Stage). record { stage = x; about = group.about }) (sym s)
     ∙ ap (λ (y : About). record { stage = g.stage; about = y }) (sym b)
 
-can_follow : (m : ModelTree) (group : Group) (g : PrintedGroup) (a : PrintedAnswer) (lines : List (List ℕ))
+can_follow : (m : ModelTree) (group : Head) (g : PrintedGroup) (a : PrintedAnswer) (lines : List (List ℕ))
     → g.stage ≡ group.stage → g.about ≡ group.about → Says m group a lines → CanFollow m g a
 can_follow m group g answer.Holds lines s b says = tt
 can_follow m group g (answer.Fails paths shown after) lines s b says =
     let same : group ≡ record { stage = g.stage; about = g.about } = same_group group g s b in
-    subst (λ (x : Group). IsExecution m x paths shown after) same says.1.execution
+    subst (λ (x : Head). IsExecution m x paths shown after) same says.1.execution
 can_follow m group g answer.Undecided lines s b says = tt
 
-can_replay : (m : ModelTree) (n : ℕ) (group : Group) (g : PrintedGroup) (lines : List (List ℕ))
+can_replay : (m : ModelTree) (n : ℕ) (group : Head) (g : PrintedGroup) (lines : List (List ℕ))
     → IsGroup m n group g lines → n ≤ 2 ^ 63 + 1 → CanReplay m g
 can_replay m n group g lines is le = record {
   line = let e = is.line in omega (arith, e);
   answer = can_follow m group g g.answer lines is.stage is.about is.answer;
 }
 
-can_replay_all : (m : ModelTree) (n : ℕ) (groups : List Group) (gs : List PrintedGroup) (lines : List (List ℕ))
+can_replay_all : (m : ModelTree) (n : ℕ) (groups : List Head) (gs : List PrintedGroup) (lines : List (List ℕ))
     → AreGroups m n groups gs lines → n + length lines ≤ 2 ^ 63 + 1 → AllByRecursion (CanReplay m) gs
 can_replay_all m n [] [] lines are le = tt
 can_replay_all m n [] (g ∷ gs) lines are le = absurd are

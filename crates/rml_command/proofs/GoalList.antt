@@ -8,10 +8,11 @@ use Rattle.std.proofs.lemmas.Option.{slice_get_past}
 use Rattle.base.proofs.Lists.{all_append}
 use Rattle.rml_command.specs.Trees.{PrimitiveTree}
 use Rattle.rml_command.specs.Models.{ModelTree}
-use Rattle.rml_command.specs.Goals.{Group, stage_groups, groups_of, paths_of_block, stage_paths, is_for, goals_among}
+use Rattle.rml_command.specs.Goals.{stage_groups, groups_of, paths_of_block, stage_paths, is_for, goals_among}
 use Rattle.rml_command.specs.Goals.{group_goals, goals_of, HasAbout, IsGoal}
 use Rattle.base.specs.Lists.{SomeOf, count_from, numbered}
 use Rattle.rml_command.specs.Laws.{GoalsAreListed}
+use Rattle.rml_command.specs.declared.goal.Head.{Head}
 use Rattle.rml_command.specs.declared.goal.Stage.{Stage}
 use Rattle.rml_command.specs.declared.goal.Stage.TheVariants as stage
 use Rattle.rml_command.specs.declared.goal.About.{About}
@@ -19,23 +20,23 @@ use Rattle.rml_command.specs.declared.goal.About.TheVariants as about
 use Rattle.rml_command.specs.declared.goal.Goal.{Goal}
 use Rattle.rml_command.proofs.Some.{some_front, some_back, some_joined, some_split}
 
-abbrev goal_at : Group → ℕ → Goal
+abbrev goal_at : Head → ℕ → Goal
 goal_at group n = record { stage = group.stage; path = n; about = group.about }
 
-record Among (group : Group) (n : ℕ) (ps : List (List PrimitiveTree)) (goal : Goal) : Type 0 where
+record Among (group : Head) (n : ℕ) (ps : List (List PrimitiveTree)) (goal : Goal) : Type 0 where
   i : ℕ
   p : List PrimitiveTree
   at : slice_get ps i ≡ Some p
   kind : is_for group.about p ≡ true
   is : goal_at group (n + i) ≡ goal
 
-up : (group : Group) (n : ℕ) (q : List PrimitiveTree) (ps : List (List PrimitiveTree)) (goal : Goal)
+up : (group : Head) (n : ℕ) (q : List PrimitiveTree) (ps : List (List PrimitiveTree)) (goal : Goal)
     → Among group (suc n) ps goal → Among group n (q ∷ ps) goal
 up group n q ps goal r =
     let e : suc n + r.i ≡ n + suc r.i = omega arith in
     record { i = suc r.i; p = r.p; at = r.at; kind = r.kind; is = subst (λ (j : ℕ). goal_at group j ≡ goal) e r.is }
 
-split : (group : Group) (n : ℕ) (q : List PrimitiveTree) (ps : List (List PrimitiveTree)) (goal : Goal) (b : Bool)
+split : (group : Head) (n : ℕ) (q : List PrimitiveTree) (ps : List (List PrimitiveTree)) (goal : Goal) (b : Bool)
     → is_for group.about q ≡ b → (SomeOf (λ g. g ≡ goal) (goals_among group (suc n) ps) → Among group (suc n) ps goal)
     → SomeOf (λ g. g ≡ goal) (cond b (goal_at group n ∷ goals_among group (suc n) ps) (goals_among group (suc n) ps))
     → Among group n (q ∷ ps) goal
@@ -44,13 +45,13 @@ split group n q ps goal true e go (inl h) = let z : n ≡ n + 0 = omega arith in
 split group n q ps goal true e go (inr h) = up group n q ps goal (go h)
 split group n q ps goal false e go h = up group n q ps goal (go h)
 
-among : (group : Group) (n : ℕ) (ps : List (List PrimitiveTree)) (goal : Goal)
+among : (group : Head) (n : ℕ) (ps : List (List PrimitiveTree)) (goal : Goal)
     → SomeOf (λ g. g ≡ goal) (goals_among group n ps) → Among group n ps goal
 among group n [] goal h = absurd h
 among group n (q ∷ ps) goal h =
     split group n q ps goal (is_for group.about q) refl (λ t. among group (suc n) ps goal t) h
 
-put : (group : Group) (n : ℕ) (ps : List (List PrimitiveTree)) (i j : ℕ) (p : List PrimitiveTree) (P : Goal → Type 0)
+put : (group : Head) (n : ℕ) (ps : List (List PrimitiveTree)) (i j : ℕ) (p : List PrimitiveTree) (P : Goal → Type 0)
     → j ≡ n + i → slice_get ps i ≡ Some p → is_for group.about p ≡ true → P (goal_at group j)
     → SomeOf P (goals_among group n ps)
 put group n [] i j p P e at kind h = absurd (cc at)
@@ -99,10 +100,10 @@ both P Q (x ∷ xs) all (inl h) = (x, all.0, h)
 both P Q (x ∷ xs) all (inr h) = both P Q xs all.1 h
 
 module _ (m : ModelTree) where
-  abbrev Sound : Group → Type 0
+  abbrev Sound : Head → Type 0
   Sound h = HasAbout m h.stage h.about
 
-  groups_sound : AllByRecursion Sound (groups_of m)
+  pub groups_sound : AllByRecursion Sound (groups_of m)
   groups_sound =
       all_append Sound (stage_groups m stage.Init) _ (
         tt,
@@ -118,14 +119,14 @@ module _ (m : ModelTree) where
       )))
       (tt, tt))
 
-  in_stage : (P : Group → Type 0) (st : Stage) (k : ℕ) → k < length m.conjectures
+  in_stage : (P : Head → Type 0) (st : Stage) (k : ℕ) → k < length m.conjectures
       → P (record { stage = st; about = about.Conjecture k }) → SomeOf P (stage_groups m st)
   in_stage P st k lt h =
       inr (some_map P (λ k. record { stage = st; about = about.Conjecture k }) 0 (length m.conjectures) k lt
       (let e : k ≡ 0 + k = omega arith in
       subst (λ (i : ℕ). P (record { stage = st; about = about.Conjecture i })) e h))
 
-  in_action : (P : Group → Type 0) (a : ℕ) → a < length m.actions → SomeOf P (stage_groups m (stage.Action a))
+  in_action : (P : Head → Type 0) (a : ℕ) → a < length m.actions → SomeOf P (stage_groups m (stage.Action a))
       → SomeOf P (groups_of m)
   in_action P a lt h =
       some_back P (stage_groups m stage.Init) _
@@ -145,7 +146,7 @@ module _ (m : ModelTree) where
       (no_paths n p (sym (ap (λ b. numbered (paths_of_block b) n) (slice_get_past m.actions a above)) ∙ e)))
       (cases_lt a (length m.actions))
 
-  in_groups : (P : Group → Type 0) (st : Stage) (ab : About) (n : ℕ) (p : List PrimitiveTree) → HasAbout m st ab
+  in_groups : (P : Head → Type 0) (st : Stage) (ab : About) (n : ℕ) (p : List PrimitiveTree) → HasAbout m st ab
       → numbered (stage_paths m st) n ≡ Some p → P (record { stage = st; about = ab }) → SomeOf P (groups_of m)
   in_groups P stage.Init about.Abort n p has is h = some_front P (stage_groups m stage.Init) _ (inl h)
   in_groups P stage.Init (about.Conjecture k) n p has is h =
@@ -167,7 +168,7 @@ module _ (m : ModelTree) where
       subst (IsGoal m) (subst (λ (j : ℕ). goal_at w.0 j ≡ goal) e r.is)
       (record { path = r.p; is_path = r.at; kind = r.kind; about = w.1 })
 
-  placed : (ps : List (List PrimitiveTree)) (n : ℕ) (p : List PrimitiveTree) (group : Group) (P : Goal → Type 0)
+  placed : (ps : List (List PrimitiveTree)) (n : ℕ) (p : List PrimitiveTree) (group : Head) (P : Goal → Type 0)
       → numbered ps n ≡ Some p → is_for group.about p ≡ true → P (goal_at group n) → SomeOf P (goals_among group 1 ps)
   placed ps zero p group P is kind h = absurd (cc is)
   placed ps (suc i) p group P is kind h = put group 1 ps i (suc i) p P (omega arith) is kind h

@@ -17,9 +17,10 @@ use Rattle.rml_command.specs.Paths.{paths_of}
 use Rattle.rml_command.specs.Models.{ModelTree, FitsCommand, FitsModel}
 use Rattle.rml_command.specs.Runs.{Step, Run, From, Leads, Closes, IsRun, SomeAborts, Aborts, BreaksAt, SomeBreaks}
 use Rattle.rml_command.specs.Runs.{Breaks}
-use Rattle.rml_command.specs.Goals.{Group, stage_groups, block_of, paths_of_block, is_for, goals_among, is_allowed}
+use Rattle.rml_command.specs.Goals.{stage_groups, block_of, paths_of_block, is_for, goals_among, is_allowed}
 use Rattle.rml_command.specs.Goals.{FailsGoal, HasNone, Holds}
 use Rattle.rml_command.specs.Laws.{InductionIsSound, UpdatesKeepSymbols}
+use Rattle.rml_command.specs.declared.goal.Head.{Head}
 use Rattle.rml_command.specs.declared.goal.Stage.{Stage}
 use Rattle.rml_command.specs.declared.goal.Stage.TheVariants as stage
 use Rattle.rml_command.specs.declared.goal.About.{About}
@@ -54,7 +55,7 @@ all_but_first : (Q : Goal → Type 0) (b : Bool) (g : Goal) (rest : List Goal) �
 all_but_first Q true g rest all = all.1
 all_but_first Q false g rest all = all
 
-goal_among : (Q : Goal → Type 0) (group : Group) (ps : List (List PrimitiveTree)) (i n j : ℕ) (p : List PrimitiveTree)
+goal_among : (Q : Goal → Type 0) (group : Head) (ps : List (List PrimitiveTree)) (i n j : ℕ) (p : List PrimitiveTree)
     → j ≡ n + i → slice_get ps i ≡ Some p → is_for group.about p ≡ true → AllByRecursion Q (goals_among group n ps)
     → Q (record { stage = group.stage; path = j; about = group.about })
 goal_among Q group [] i n j p e at is all = absurd (cc at)
@@ -72,7 +73,7 @@ goal_among Q group (x ∷ ps) (suc i) n j p e at is all =
     (goals_among group (suc n) ps) all)
 
 module _ (keep : UpdatesKeepSymbols) (m : ModelTree) where
-  abbrev the_group : Stage → About → Group
+  abbrev the_group : Stage → About → Head
   the_group s a = record { stage = s; about = a }
 
   -- what an outcome of a block and a refuted group lead to

@@ -7,6 +7,7 @@ pub mod Updates
 pub mod Values
 pub mod Induction
 pub mod GoalList
+pub mod Pieces
 pub mod EachPath
 pub mod Counting
 pub mod Loops

@@ -37,19 +37,15 @@ use Rattle.rml_command.specs.declared.goal.Stage.TheVariants as stage
 use Rattle.rml_command.specs.declared.goal.About.{About}
 use Rattle.rml_command.specs.declared.goal.About.TheVariants as about
 use Rattle.rml_command.specs.declared.goal.Goal.{Goal}
+use Rattle.rml_command.specs.declared.goal.Head.{Head}
 
--- what a group of goals is about
-pub record Group : Type 0 where
-  pub stage : Stage
-  pub about : About
-
--- the groups of init or an action: abort, and each conjecture
-abbrev pub stage_groups : ModelTree → Stage → List Group
+-- the groups of init or an action, each by its head: abort, and each conjecture
+abbrev pub stage_groups : ModelTree → Stage → List Head
 stage_groups m s = record { stage = s; about = about.Abort }
     ∷ map (λ k. record { stage = s; about = about.Conjecture k }) (count_from 0 (length m.conjectures))
 
 -- the groups of a model, in order: those of init, those of each action, and final's abort
-abbrev pub groups_of : ModelTree → List Group
+abbrev pub groups_of : ModelTree → List Head
 groups_of m =
     stage_groups m stage.Init
     ++ (flat_map (λ a. stage_groups m (stage.Action a)) (count_from 0 (length m.actions))
@@ -74,7 +70,7 @@ is_for about.Abort p = has_abort p
 is_for (about.Conjecture k) p = not (has_abort p)
 
 -- the goals among paths that are numbered from n on
-abbrev pub goals_among : Group → ℕ → List (List PrimitiveTree) → List Goal
+abbrev pub goals_among : Head → ℕ → List (List PrimitiveTree) → List Goal
 goals_among group n [] = []
 goals_among group n (p ∷ ps) =
     if is_for group.about p
@@ -82,7 +78,7 @@ goals_among group n (p ∷ ps) =
     else goals_among group (suc n) ps
 
 -- the goals of a group, in the order of its paths, which are numbered from 1
-abbrev pub group_goals : ModelTree → Group → List Goal
+abbrev pub group_goals : ModelTree → Head → List Goal
 group_goals m group = goals_among group 1 (stage_paths m group.stage)
 
 -- all goals, in order
@@ -148,5 +144,5 @@ abbrev pub HasNone : ModelTree → Goal → Type 0
 HasNone m goal = (s : Tables) (elements values : List ℕ) → IsCounterexample m goal s elements values → ⊥
 
 -- A group holds where no goal of it has a counterexample.
-abbrev pub Holds : ModelTree → Group → Type 0
+abbrev pub Holds : ModelTree → Head → Type 0
 Holds m group = AllByRecursion (HasNone m) (group_goals m group)

@@ -33,7 +33,7 @@ use Rattle.rml_command.specs.Paths.{has_abort, EndsAtAbort, paths_of, havoc_coun
 use Rattle.rml_command.specs.Models.{ModelTree, FitsPrimitive, FitsPath, FitsModel}
 use Rattle.rml_command.specs.Fragment.{IsInFragment, IsChecked}
 use Rattle.rml_command.specs.Runs.{Safe}
-use Rattle.rml_command.specs.Goals.{groups_of, goals_of, goal_path, IsGoal, FalseUnder, Holds}
+use Rattle.rml_command.specs.Goals.{HasAbout, groups_of, goals_of, goal_path, IsGoal, FalseUnder, Holds}
 use Rattle.rml_command.specs.declared.goal.Goal.{Goal}
 
 -- The outcomes of a block are those of its paths.
@@ -96,6 +96,10 @@ pub record ListsReadFromTheLeft : Type 0 where
 -- The goals in the ordered list are the goals of the model.
 abbrev pub GoalsAreListed : Type 0
 GoalsAreListed = (m : ModelTree) (goal : Goal) → SomeOf (λ g. g ≡ goal) (goals_of m) ↔ IsGoal m goal
+
+-- Each group is of a block of the model, and of a conjecture of it if of one.
+abbrev pub GroupsAreKnown : Type 0
+GroupsAreKnown = (m : ModelTree) → AllByRecursion (λ h. HasAbout m h.stage h.about) (groups_of m)
 
 -- The path of a goal has only symbols of the model's signature, and that of a checked model's goal is in the fragment.
 pub record GoalPathsFit : Type 0 where

@@ -1,6 +1,6 @@
 // A model in the fragment, with what the check of it found: the strata of its signature and the paths of its blocks.
 // They are kept, since whoever decides a goal of the model wants both.
-ghost use Rattle.std.specs.Prelude.{◌≡◌, [], map};
+ghost use Rattle.std.specs.Prelude.{◌≡◌, ◌≤◌, [], length, map};
 ghost use Rattle.std.specs.List.{AllByRecursion};
 ghost use Rattle.fol_sig.specs.Symbols.{symbols};
 ghost use Rattle.fol_sig.specs.Strata.{IsStrata};
@@ -98,8 +98,8 @@ impl Checked {
         &self.strata
     }
 
-    /// The paths of a stage's block, in order. An action that the model lacks has none.
-    pub fn stage_paths(&self, stage: Stage) -> &Paths
+    // The paths of a stage's block.
+    fn block_paths(&self, stage: Stage) -> &Paths
         ensures paths { result.now ≡ stage_paths self.now stage }
         ensures checked { IsChecked self.now }
     {
@@ -111,6 +111,15 @@ impl Checked {
             },
             Stage::Final => &self.last,
         }
+    }
+
+    /// The paths of a stage's block, in order, of which there are few. An action that the model lacks has none.
+    pub fn stage_paths(&self, stage: Stage) -> &Paths
+        ensures paths { result.now ≡ stage_paths self.now stage }
+        ensures few { length result.now ≤ 4096 }
+        ensures checked { IsChecked self.now }
+    {
+        self.block_paths(stage)
     }
 
     /// The path of a goal of this model.

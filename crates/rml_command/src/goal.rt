@@ -20,6 +20,15 @@ pub enum About {
     Conjecture(u32),
 }
 
+/// What a stage must not do: the head of a group of goals, one for each path of its block that could.
+#[derive(Clone, Copy, Debug, PartialEq, Eq)]
+pub struct Head {
+    /// The block.
+    pub stage: Stage,
+    /// What its paths must not do.
+    pub about: About,
+}
+
 /// A path of a stage's block, by its number from 1, and what it must not do.
 #[derive(Clone, Copy, Debug, PartialEq, Eq)]
 pub struct Goal {

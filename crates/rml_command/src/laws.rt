@@ -8,6 +8,7 @@ ghost use Rattle.rml_command.specs.Laws.{
   UpdatesKeepSymbols,
   FalsehoodHasValues,
   GoalsAreListed,
+  GroupsAreKnown,
   GoalPathsFit,
   InductionIsSound,
 };
@@ -44,9 +45,10 @@ pub fn value_law()
     ensures { FalsehoodHasValues }
 {}
 
-/// The goals in the ordered list are the goals of the model. Their paths have only symbols of the
-/// signature, and are in the fragment where the model is checked.
+/// The goals in the ordered list are the goals of the model, and its groups are of its blocks and conjectures. Paths of
+/// goals have only symbols of the signature, and are in the fragment where the model is checked.
 pub fn goal_law()
+    ensures groups { GroupsAreKnown }
     ensures listed { GoalsAreListed }
     ensures fit { GoalPathsFit }
 {}

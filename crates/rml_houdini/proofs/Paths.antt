@@ -7,7 +7,8 @@ use Rattle.std.specs.List.{flat_map}
 use Rattle.rml_command.specs.Trees.{PrimitiveTree}
 use Rattle.base.specs.Lists.{count_from, numbered}
 use Rattle.rml_command.specs.Models.{ModelTree}
-use Rattle.rml_command.specs.Goals.{Group, goals_among, stage_paths, is_for, HasAbout, IsGoal}
+use Rattle.rml_command.specs.Goals.{goals_among, stage_paths, is_for, HasAbout, IsGoal}
+use Rattle.rml_command.specs.declared.goal.Head.{Head}
 use Rattle.rml_command.specs.declared.goal.Stage.{Stage}
 use Rattle.rml_command.specs.declared.goal.Stage.TheVariants as stage
 use Rattle.rml_command.specs.declared.goal.About.TheVariants as about
@@ -22,7 +23,7 @@ dropped (x ∷ ps) (suc i) p e = let next : suc (i + 1) ≡ suc i + 1 = omega ar
     ∙ ap (λ n. p ∷ drop n (x ∷ ps)) next
 
 -- the goals from a path on
-turn : (group : Group) (ps : List (List PrimitiveTree)) (i : ℕ) (p : List PrimitiveTree) (b : Bool)
+turn : (group : Head) (ps : List (List PrimitiveTree)) (i : ℕ) (p : List PrimitiveTree) (b : Bool)
     → slice_get ps i ≡ Some p → is_for group.about p ≡ b
     → goals_among group (i + 1) (drop i ps) ≡ cond b
     (record { stage = group.stage; path = i + 1; about = group.about }
@@ -37,13 +38,13 @@ turn group ps i p b at is =
     ∙ ap (λ n. cond b (first ∷ goals_among group n rest) (goals_among group n rest)) next
 
 -- a path of the other kind is no goal
-pub passed : (group : Group) (ps : List (List PrimitiveTree)) (i : ℕ) (p : List PrimitiveTree)
+pub passed : (group : Head) (ps : List (List PrimitiveTree)) (i : ℕ) (p : List PrimitiveTree)
     → slice_get ps i ≡ Some p → is_for group.about p ≡ false
     → goals_among group (i + 1) (drop i ps) ≡ goals_among group (i + 1 + 1) (drop (i + 1) ps)
 passed group ps i p at is = turn group ps i p false at is
 
 -- another is the next
-pub listed : (group : Group) (ps : List (List PrimitiveTree)) (i : ℕ) (p : List PrimitiveTree)
+pub listed : (group : Head) (ps : List (List PrimitiveTree)) (i : ℕ) (p : List PrimitiveTree)
     → slice_get ps i ≡ Some p → is_for group.about p ≡ true
     → goals_among group (i + 1) (drop i ps)
     ≡ record { stage = group.stage; path = i + 1; about = group.about }
@@ -51,12 +52,12 @@ pub listed : (group : Group) (ps : List (List PrimitiveTree)) (i : ℕ) (p : Lis
 listed group ps i p at is = turn group ps i p true at is
 
 -- no path is left
-pub no_path : (group : Group) (ps : List (List PrimitiveTree)) (i : ℕ) → length ps ≤ i
+pub no_path : (group : Head) (ps : List (List PrimitiveTree)) (i : ℕ) → length ps ≤ i
     → goals_among group (i + 1) (drop i ps) ≡ []
 no_path group ps i le = ap (goals_among group (i + 1)) (drop_all i ps le)
 
 -- such a path is a goal of the model
-pub is_goal : (m : ModelTree) (group : Group) (i : ℕ) (ps : List (List PrimitiveTree)) (p : List PrimitiveTree)
+pub is_goal : (m : ModelTree) (group : Head) (i : ℕ) (ps : List (List PrimitiveTree)) (p : List PrimitiveTree)
     → ps ≡ stage_paths m group.stage → slice_get ps i ≡ Some p → is_for group.about p ≡ true
     → HasAbout m group.stage group.about
     → IsGoal m (record { stage = group.stage; path = i + 1; about = group.about })

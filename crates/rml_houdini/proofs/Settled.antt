@@ -14,7 +14,8 @@ use Rattle.rml_command.specs.Models.{ModelTree}
 use Rattle.rml_command.specs.Outcomes.{ended, is_true, PathHasOutcome}
 use Rattle.rml_command.specs.Paths.{has_abort}
 use Rattle.rml_command.specs.Laws.{PathHasFollowedOutcomes, PathsKeepKind, FalsehoodHasValues}
-use Rattle.rml_command.specs.Goals.{Group, goals_among, group_goals, stage_paths, paths_of_block, is_for}
+use Rattle.rml_command.specs.Goals.{goals_among, group_goals, stage_paths, paths_of_block, is_for}
+use Rattle.rml_command.specs.declared.goal.Head.{Head}
 use Rattle.rml_command.specs.declared.goal.Stage.{Stage}
 use Rattle.rml_command.specs.declared.goal.Stage.TheVariants as stage
 use Rattle.rml_command.specs.declared.goal.About.TheVariants as about
@@ -36,7 +37,7 @@ all-joined P f (y ∷ ys) x (inl is) h = subst (λ z. AllByRecursion P (f z)) is
 all-joined P f (y ∷ ys) x (inr here) h = all-joined P f ys x here (all_back P (f y) (flat_map f ys) h)
 
 -- of the goal at a path
-at-path : (P : Goal → Type 0) (group : Group) (n : ℕ) (ps : List (List PrimitiveTree)) (j : ℕ) (p : List PrimitiveTree)
+at-path : (P : Goal → Type 0) (group : Head) (n : ℕ) (ps : List (List PrimitiveTree)) (j : ℕ) (p : List PrimitiveTree)
     → slice_get ps j ≡ Some p → is_for group.about p ≡ true → AllByRecursion P (goals_among group n ps)
     → P (record { stage = group.stage; path = n + j; about = group.about })
 at-path P group n [] j p at is h = absurd (cc at)

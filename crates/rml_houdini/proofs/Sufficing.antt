@@ -14,7 +14,8 @@ use Rattle.rml_command.specs.Trees.{PrimitiveTree}
 use Rattle.rml_command.specs.Models.{ModelTree}
 use Rattle.rml_command.specs.Fragment.{IsChecked}
 use Rattle.rml_command.specs.Outcomes.{satisfies}
-use Rattle.rml_command.specs.Goals.{Group, goals_among, group_goals, is_for, stage_paths}
+use Rattle.rml_command.specs.Goals.{goals_among, group_goals, is_for, stage_paths}
+use Rattle.rml_command.specs.declared.goal.Head.{Head}
 use Rattle.rml_command.specs.declared.goal.Goal.{Goal}
 use Rattle.rml_command.specs.declared.goal.Stage.{Stage}
 use Rattle.rml_command.specs.declared.goal.Stage.TheVariants as stage
@@ -138,7 +139,7 @@ open-now None g c e = absurd (cc e)
 open-now (Some first) g c e = absurd (cc e)
 
 -- the goals of a group, along its paths
-module _ (m : ModelTree) (group : Group) (ps : List (List PrimitiveTree)) where
+module _ (m : ModelTree) (group : Head) (ps : List (List PrimitiveTree)) where
   -- What is assumed suffices for the goals so far, if none is left open; and so does whatever has it.
   abbrev pub SufficesThrough : Option (Goal × Cause) → List ℕ → ℕ → Type 0
   SufficesThrough first ks i = (more : List ℕ) → first ≡ None → IsWithin ks more

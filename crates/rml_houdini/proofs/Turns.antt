@@ -6,7 +6,8 @@ use Rattle.std.specs.List.{flat_map}
 use Rattle.rml_command.specs.Trees.{PrimitiveTree}
 use Rattle.base.specs.Lists.{count_from}
 use Rattle.rml_command.specs.Models.{ModelTree}
-use Rattle.rml_command.specs.Goals.{Group, goals_among, group_goals, is_for, stage_paths, IsGoal}
+use Rattle.rml_command.specs.Goals.{goals_among, group_goals, is_for, stage_paths, IsGoal}
+use Rattle.rml_command.specs.declared.goal.Head.{Head}
 use Rattle.rml_command.specs.declared.goal.Stage.{Stage}
 use Rattle.rml_command.specs.declared.goal.Stage.TheVariants as stage
 use Rattle.rml_command.specs.declared.goal.Goal.{Goal}
@@ -27,7 +28,7 @@ use Rattle.rml_houdini.proofs.Paths.{passed, listed, no_path, next_of, none_of, 
 
 module _ (counted : Counted) (limits : Ceilings) (m : ModelTree) (held : List ℕ) (start : Option (Goal × Cause)) where
   -- the goals of a group, along its paths
-  module _ (group : Group) (ps : List (List PrimitiveTree)) where
+  module _ (group : Head) (ps : List (List PrimitiveTree)) where
     abbrev pub ThroughPaths : Option (Goal × Cause) → ℕ → Type 0
     ThroughPaths now i = Completes counted limits m held start (group_goals m group) now
         (goals_among group (i + 1) (drop i ps))

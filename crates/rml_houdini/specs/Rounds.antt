@@ -3,7 +3,8 @@ use Rattle.std.specs.Prelude.{◌≡◌, ◌⊎◌, ℕ, List, ◌∷◌, ◌++�
 use Rattle.std.specs.List.{AllByRecursion, flat_map}
 use Rattle.base.specs.Lists.{count_from}
 use Rattle.rml_command.specs.Models.{ModelTree}
-use Rattle.rml_command.specs.Goals.{Group, group_goals, IsGoal}
+use Rattle.rml_command.specs.Goals.{group_goals, IsGoal}
+use Rattle.rml_command.specs.declared.goal.Head.{Head}
 use Rattle.rml_command.specs.declared.goal.Stage.{Stage}
 use Rattle.rml_command.specs.declared.goal.Stage.TheVariants as stage
 use Rattle.rml_command.specs.declared.goal.About.TheVariants as about
@@ -22,7 +23,7 @@ use Rattle.rml_houdini.specs.declared.round.Round.TheVariants.{Fails, Passes}
 abbrev pub conjecture_stages : ModelTree → List Stage
 conjecture_stages m = stage.Init ∷ map (λ a. stage.Action a) (count_from 0 (length m.actions))
 
-abbrev pub group_at : Stage → ℕ → Group
+abbrev pub group_at : Stage → ℕ → Head
 group_at s k = record { stage = s; about = about.Conjecture k }
 
 -- the goals of these conjectures behind one stage

@@ -6,7 +6,8 @@ use Rattle.std.specs.List.{AllByRecursion, filter}
 use Rattle.std.proofs.lemmas.List.{append-nil, drop_all, drop_more, map-append}
 use Rattle.base.proofs.Lists.{all_push}
 use Rattle.rml_command.specs.Models.{ModelTree}
-use Rattle.rml_command.specs.Goals.{Group, HasAbout}
+use Rattle.rml_command.specs.Goals.{HasAbout}
+use Rattle.rml_command.specs.declared.goal.Head.{Head}
 use Rattle.rml_command.specs.declared.goal.Stage.{Stage}
 use Rattle.rml_command.specs.declared.goal.Stage.TheVariants as stage
 use Rattle.rml_command.specs.declared.goal.About.TheVariants as about
@@ -23,7 +24,7 @@ own_below m stage.Init k has = has
 own_below m (stage.Action a) k has = has
 own_below m stage.Final k has = absurd has
 
-module _ (limits : Ceilings) (m : ModelTree) (group : Group) (held : List ℕ) where
+module _ (limits : Ceilings) (m : ModelTree) (group : Head) (held : List ℕ) where
   -- what is lacking without each of these
   abbrev pub AreLacks : List Need → Type 0
   AreLacks needs = AllByRecursion (λ n. IsLack limits m group (without n.conjecture held) n.lack) needs

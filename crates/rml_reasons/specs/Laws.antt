@@ -1,11 +1,12 @@
 -- What a reason means.
 use Rattle.std.specs.Prelude.{ℕ, List}
 use Rattle.rml_command.specs.Models.{ModelTree}
-use Rattle.rml_command.specs.Goals.{Group, Holds}
+use Rattle.rml_command.specs.Goals.{Holds}
+use Rattle.rml_command.specs.declared.goal.Head.{Head}
 use Rattle.ea_decide.specs.Passing.{Ceilings}
 use Rattle.rml_reasons.specs.Reasons.{IsReason}
 
 -- A group that some conjectures carry holds: none of its goals has a counterexample where all conjectures are held.
 abbrev pub CarriedGroupsHold : Type 0
-CarriedGroupsHold = (limits : Ceilings) (m : ModelTree) (group : Group) (ks : List ℕ) → IsReason limits m group ks
+CarriedGroupsHold = (limits : Ceilings) (m : ModelTree) (group : Head) (ks : List ℕ) → IsReason limits m group ks
     → Holds m group

@@ -3,7 +3,8 @@ use Rattle.std.specs.Prelude.{◌≡◌, ◌==◌, ◌<◌, ℕ, not, List, [], 
 use Rattle.std.specs.List.{AllByRecursion, filter}
 use Rattle.base.specs.Lists.{count_from}
 use Rattle.rml_command.specs.Models.{ModelTree}
-use Rattle.rml_command.specs.Goals.{Group, group_goals}
+use Rattle.rml_command.specs.Goals.{group_goals}
+use Rattle.rml_command.specs.declared.goal.Head.{Head}
 use Rattle.ea_decide.specs.Passing.{Ceilings}
 use Rattle.lean_decide.specs.declared.settling.Counted.TheVariants.{Whole}
 use Rattle.rml_houdini.specs.Rounds.{IsSafe, IsFirstFailing, IsFirstOpen}
@@ -31,23 +32,23 @@ needed_conjectures needs = map (λ n. n.conjecture) needs
 
 -- These conjectures carry the group: where only they hold before its stage, none of its goals passes a limit or has a
 -- counterexample.
-abbrev pub IsReason : Ceilings → ModelTree → Group → List ℕ → Type 0
+abbrev pub IsReason : Ceilings → ModelTree → Head → List ℕ → Type 0
 IsReason limits m group ks = AllByRecursion (IsSafe Whole limits m ks) (group_goals m group)
 
 -- What the group lacks where only these hold: the first of its goals that fails does so by this execution; or none
 -- fails, and this is the first that is left open.
-abbrev pub IsLack : Ceilings → ModelTree → Group → List ℕ → Lack → Type 0
+abbrev pub IsLack : Ceilings → ModelTree → Head → List ℕ → Lack → Type 0
 IsLack limits m group ks (Fails shown) = IsFirstFailing Whole limits m ks (group_goals m group) shown
 IsLack limits m group ks (Open goal c) = IsFirstOpen Whole limits m ks (group_goals m group) goal c
 
 -- They carry the group, and without any one of them the group lacks what is told of that one.
-pub record IsMinimalReason (limits : Ceilings) (m : ModelTree) (group : Group) (needs : List Need) : Type 0 where
+pub record IsMinimalReason (limits : Ceilings) (m : ModelTree) (group : Head) (needs : List Need) : Type 0 where
   pub conjectures : AreConjectures m (needed_conjectures needs)
   pub carry : IsReason limits m group (needed_conjectures needs)
   pub needed : AllByRecursion
       (λ n. IsLack limits m group (without n.conjecture (needed_conjectures needs)) n.lack) needs
 
 -- what carries the group, or what it lacks where all conjectures are held
-abbrev pub IsCarried : Ceilings → ModelTree → Group → Carried → Type 0
+abbrev pub IsCarried : Ceilings → ModelTree → Head → Carried → Type 0
 IsCarried limits m group (By needs) = IsMinimalReason limits m group needs
 IsCarried limits m group (Not lack) = IsLack limits m group (count_from 0 (length m.conjectures)) lack

@@ -3,6 +3,7 @@ use Rattle.std.proofs.Common.{◌≡◌, Bool, true, false, if◌then◌else◌,
 use Rattle.std.specs.List.{AllByRecursion, list_all, list_any}
 use Rattle.std.proofs.lemmas.Bool.{and_parts}
 use Rattle.rml_command.specs.Models.{ModelTree}
+use Rattle.rml_command.specs.declared.goal.Head.{Head}
 use Rattle.rml_command.specs.Goals as goals
 use Rattle.rml_command.specs.Laws.{InductionIsSound}
 use Rattle.rml_report.specs.Reports.{head_of, IsAnswer, IsRight, says_holds, says_fails, ShowsRefutation, CanRender}
@@ -12,7 +13,7 @@ use Rattle.rml_report.specs.declared.report.Answer.{Answer}
 use Rattle.rml_report.specs.declared.report.Answer.TheVariants as answer
 use Rattle.rml_report.specs.declared.report.Group.{Group}
 
-holds : (m : ModelTree) (group : goals.Group) (a : Answer) → says_holds a ≡ true → IsAnswer m group a
+holds : (m : ModelTree) (group : Head) (a : Answer) → says_holds a ≡ true → IsAnswer m group a
     → goals.Holds m group
 holds m group answer.Holds e h = h
 holds m group (answer.Fails paths l shown) e h = cc e
@@ -38,7 +39,7 @@ safe sound m report fits right says =
     (inductive (list_all (λ g. says_holds g.answer) report.groups)
     (list_any (λ g. says_fails g.answer) report.groups) (sym right.verdict ∙ says)) right.right))
 
-shows : (m : ModelTree) (group : goals.Group) (a : Answer) → IsAnswer m group a → ShowsRefutation m a
+shows : (m : ModelTree) (group : Head) (a : Answer) → IsAnswer m group a → ShowsRefutation m a
 shows m group answer.Holds h = tt
 shows m group (answer.Fails paths l shown) h = h.0.refutation
 shows m group (answer.Undecided path cause) h = tt

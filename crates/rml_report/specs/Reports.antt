@@ -7,7 +7,7 @@ use Rattle.fol_sig.specs.Symbols.{FitsStructure, symbols}
 use Rattle.rml_command.specs.Outcomes.{satisfies}
 use Rattle.rml_command.specs.Models.{ModelTree}
 use Rattle.rml_command.specs.Goals.{stage_paths, groups_of, IsGoal, IsCounterexample, HasNone, Holds}
-use Rattle.rml_command.specs.Goals as goals
+use Rattle.rml_command.specs.declared.goal.Head.{Head}
 use Rattle.rml_command.specs.declared.goal.Goal.{Goal}
 use Rattle.rml_exec.specs.declared.trace.Counterexample.{Counterexample}
 use Rattle.rml_report.specs.declared.report.Axioms.{Axioms}
@@ -20,11 +20,11 @@ use Rattle.rml_report.specs.declared.report.Group.{Group}
 use Rattle.rml_report.specs.declared.report.Report.{Report}
 
 -- the group of goals that a line is about
-abbrev pub head_of : Group → goals.Group
+abbrev pub head_of : Group → Head
 head_of g = record { stage = g.stage; about = g.about }
 
 -- the goal of a group at the path of this number
-abbrev pub goal_at : goals.Group → ℕ → Goal
+abbrev pub goal_at : Head → ℕ → Goal
 goal_at group path = record { stage = group.stage; path = path; about = group.about }
 
 -- An execution along the path of a goal of the model, from a structure of its signature.
@@ -38,18 +38,18 @@ pub record IsRefutation (m : ModelTree) (shown : Counterexample) : Type 0 where
   pub refutes : IsCounterexample m shown.goal shown.structure shown.trace.havoc shown.values
 
 -- It is shown of a group: its goal is the group's, at its path.
-pub record IsShown (m : ModelTree) (group : goals.Group) (shown : Counterexample) : Type 0 where
+pub record IsShown (m : ModelTree) (group : Head) (shown : Counterexample) : Type 0 where
   pub goal : shown.goal ≡ goal_at group shown.trace.path
   pub refutation : IsRefutation m shown
 
 -- A group that is left open: this path is one of its goals, and no earlier one has a counterexample.
-pub record IsLeftOpen (m : ModelTree) (group : goals.Group) (path : ℕ) : Type 0 where
+pub record IsLeftOpen (m : ModelTree) (group : Head) (path : ℕ) : Type 0 where
   pub is_goal : IsGoal m (goal_at group path)
   pub earlier : (n : ℕ) → n < path → IsGoal m (goal_at group n) → HasNone m (goal_at group n)
 
 -- What an answer says of its group. `holds`: no goal of it has a counterexample. `fails`: the shown execution is a
 -- counterexample, and its block has so many paths. `undecided`: as above.
-abbrev pub IsAnswer : ModelTree → goals.Group → Answer → Type 0
+abbrev pub IsAnswer : ModelTree → Head → Answer → Type 0
 IsAnswer m group answer.Holds = Holds m group
 IsAnswer m group (answer.Fails paths least shown) = IsShown m group shown × (paths ≡ length (stage_paths m group.stage))
 IsAnswer m group (answer.Undecided path cause) = IsLeftOpen m group path

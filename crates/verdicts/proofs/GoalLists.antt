@@ -7,7 +7,8 @@ use Rattle.std.specs.List.{AllByRecursion}
 use Rattle.rml_command.specs.Trees.{PrimitiveTree}
 use Rattle.base.specs.Lists.{numbered}
 use Rattle.rml_command.specs.Models.{ModelTree}
-use Rattle.rml_command.specs.Goals.{Group, goals_among, group_goals, stage_paths, is_for, HasAbout, IsGoal}
+use Rattle.rml_command.specs.Goals.{goals_among, group_goals, stage_paths, is_for, HasAbout, IsGoal}
+use Rattle.rml_command.specs.declared.goal.Head.{Head}
 use Rattle.rml_command.specs.declared.goal.Goal.{Goal}
 use Rattle.rml_report.specs.Reports.{goal_at}
 
@@ -19,7 +20,7 @@ dropped (x ∷ ps) (suc i) p e = let next : suc (i + 1) ≡ suc i + 1 = omega ar
     ∙ ap (λ n. p ∷ drop n (x ∷ ps)) next
 
 -- the goals from a path on
-turn : (group : Group) (ps : List (List PrimitiveTree)) (i : ℕ) (p : List PrimitiveTree) (b : Bool)
+turn : (group : Head) (ps : List (List PrimitiveTree)) (i : ℕ) (p : List PrimitiveTree) (b : Bool)
     → slice_get ps i ≡ Some p → is_for group.about p ≡ b
     → goals_among group (i + 1) (drop i ps) ≡ cond b
     (goal_at group (i + 1) ∷ goals_among group (i + 1 + 1) (drop (i + 1) ps))
@@ -33,14 +34,14 @@ turn group ps i p b at is =
     ∙ ap (λ n. cond b (goal_at group (i + 1) ∷ goals_among group n rest) (goals_among group n rest)) next
 
 -- a path is none of the goals
-pub passed : (group : Group) (ps : List (List PrimitiveTree)) (i : ℕ) (p : List PrimitiveTree)
+pub passed : (group : Head) (ps : List (List PrimitiveTree)) (i : ℕ) (p : List PrimitiveTree)
     (before whole : List Goal) → slice_get ps i ≡ Some p → is_for group.about p ≡ false
     → before ++ goals_among group (i + 1) (drop i ps) ≡ whole
     → before ++ goals_among group (i + 1 + 1) (drop (i + 1) ps) ≡ whole
 passed group ps i p before whole at is h = sym (ap (λ gs. before ++ gs) (turn group ps i p false at is)) ∙ h
 
 -- a path is the next of the goals
-pub listed : (group : Group) (ps : List (List PrimitiveTree)) (i : ℕ) (p : List PrimitiveTree)
+pub listed : (group : Head) (ps : List (List PrimitiveTree)) (i : ℕ) (p : List PrimitiveTree)
     (before new whole : List Goal) → slice_get ps i ≡ Some p → is_for group.about p ≡ true
     → new ≡ before ++ goal_at group (i + 1) ∷ []
     → before ++ goals_among group (i + 1) (drop i ps) ≡ whole
@@ -51,14 +52,14 @@ listed group ps i p before new whole at is e h =
     ∙ sym (ap (λ gs. before ++ gs) (turn group ps i p true at is)) ∙ h
 
 -- no path is left
-pub listed_all : (group : Group) (ps : List (List PrimitiveTree)) (i : ℕ) (goals whole : List Goal) → length ps ≤ i
+pub listed_all : (group : Head) (ps : List (List PrimitiveTree)) (i : ℕ) (goals whole : List Goal) → length ps ≤ i
     → goals ++ goals_among group (i + 1) (drop i ps) ≡ whole → goals ≡ whole
 listed_all group ps i goals whole le h =
     let none : drop i ps ≡ [] = drop_all i ps le in
     sym (append-nil goals) ∙ sym (ap (λ qs. goals ++ goals_among group (i + 1) qs) none) ∙ h
 
 -- each of the goals is a goal of the model
-each_among : (m : ModelTree) (group : Group) → HasAbout m group.stage group.about
+each_among : (m : ModelTree) (group : Head) → HasAbout m group.stage group.about
     → (k : ℕ) (ps : List (List PrimitiveTree))
     → ((j : ℕ) (p : List PrimitiveTree) → slice_get ps j ≡ Some p
     → numbered (stage_paths m group.stage) (k + j) ≡ Some p)
@@ -86,7 +87,7 @@ each_among m group about k (q ∷ ps) at = by (is_for group.about q) refl (each_
         )
     by false is rest = rest
 
-pub each_goal : (m : ModelTree) (group : Group) → HasAbout m group.stage group.about
+pub each_goal : (m : ModelTree) (group : Head) → HasAbout m group.stage group.about
     → AllByRecursion (IsGoal m) (group_goals m group)
 each_goal m group about = each_among m group about 1 (stage_paths m group.stage) at
   where

@@ -10,7 +10,7 @@ use Rattle.rml_command.specs.Models.{ModelTree}
 use Rattle.rml_command.specs.Laws.{GoalsAreListed}
 use Rattle.rml_command.specs.Goals.{stage_paths, groups_of, group_goals, goals_among, is_for, IsGoal, IsCounterexample}
 use Rattle.rml_command.specs.Goals.{HasNone}
-use Rattle.rml_command.specs.Goals as goals
+use Rattle.rml_command.specs.declared.goal.Head.{Head}
 use Rattle.rml_command.specs.declared.goal.Goal.{Goal}
 use Rattle.rml_exec.specs.declared.trace.Counterexample.{Counterexample}
 use Rattle.rml_report.specs.declared.cause.Cause.{Cause}
@@ -47,7 +47,7 @@ some_flat f y x (z ∷ xs) here there = elim here [
   | inr more ↦ some_right (λ w. w ≡ y) (f z) (flat_map f xs) (some_flat f y x xs more there)
 ]
 
-module _ (counted : Counted) (limits : Ceilings) (m : ModelTree) (group : goals.Group) where
+module _ (counted : Counted) (limits : Ceilings) (m : ModelTree) (group : Head) where
   -- each goal of the group is the one at its path
   are_at : (k : ℕ) (ps : List (List PrimitiveTree))
       → AllByRecursion (λ g. g ≡ goal_at group g.path) (goals_among group k ps)
@@ -214,7 +214,7 @@ module _ (counted : Counted) (limits : Ceilings) (m : ModelTree) (group : goals.
         (settled h.answers h.right (first_failing h.answers) refl (open_or_holds (group_goals m group) h.answers) refl)
 
 -- the sizes of what is shown are least, or the search for smaller ones stopped
-module _ (counted : Counted) (limits : Ceilings) (m : ModelTree) (group : goals.Group) where
+module _ (counted : Counted) (limits : Ceilings) (m : ModelTree) (group : Head) where
   least-settled : (gs : List Goal) (paths : ℕ) (answers : List GoalAnswer)
       → AllByRecursion (λ g. g ≡ goal_at group g.path) gs → AreAnswers counted limits m gs answers
       → (o : Option Failure) → first_failing answers ≡ o → (b : Answer) → open_or_holds gs answers ≡ b
@@ -245,7 +245,7 @@ pub shown_are_least : ShownAreLeast
 shown_are_least counted limits m r h = each_least counted limits m r.groups h.answers
 
 each_right : (counted : Counted) (limits : Ceilings) (m : ModelTree) → GoalsAreListed → (gs : List Group)
-    → ((h : goals.Group) → SomeOf (λ x. x ≡ h) (map head_of gs) → SomeOf (λ x. x ≡ h) (groups_of m))
+    → ((h : Head) → SomeOf (λ x. x ≡ h) (map head_of gs) → SomeOf (λ x. x ≡ h) (groups_of m))
     → AllByRecursion (IsGroupNow counted limits m) gs → AllByRecursion (IsRight m) gs
 each_right counted limits m listed [] among h = tt
 each_right counted limits m listed (g ∷ gs) among h = (
@@ -263,7 +263,7 @@ pub reports_are_right : GoalsAreListed → ReportsAreRight
 reports_are_right listed counted limits m r h = record {
   groups = h.groups;
   right = each_right counted limits m listed r.groups (λ x is. subst
-      (λ (hs : List goals.Group). SomeOf (λ y. y ≡ x) hs) h.groups is) h.answers;
+      (λ (hs : List Head). SomeOf (λ y. y ≡ x) hs) h.groups is) h.answers;
   verdict = h.verdict;
   axioms = axioms_right limits m r.axioms h.axioms;
 }

@@ -4,7 +4,7 @@ use Rattle.std.specs.Prelude.{◌≡◌, ℕ, List, [], ◌∷◌, length, map, 
 use Rattle.std.specs.List.{AllByRecursion}
 use Rattle.rml_command.specs.Models.{ModelTree}
 use Rattle.rml_command.specs.Goals.{stage_paths, groups_of, group_goals, HasNone}
-use Rattle.rml_command.specs.Goals as goals
+use Rattle.rml_command.specs.declared.goal.Head.{Head}
 use Rattle.rml_command.specs.declared.goal.Goal.{Goal}
 use Rattle.rml_exec.specs.declared.trace.Counterexample.{Counterexample}
 use Rattle.rml_report.specs.declared.cause.Cause.{Cause}
@@ -84,7 +84,7 @@ pub record IsAnswerTo (counted : Counted) (limits : Ceilings) (m : ModelTree) (p
   pub right : AreAnswers counted limits m goals answers
   pub is : a ≡ printed paths goals answers
 
-abbrev pub IsGroupAnswer : Counted → Ceilings → ModelTree → goals.Group → Answer → Type 0
+abbrev pub IsGroupAnswer : Counted → Ceilings → ModelTree → Head → Answer → Type 0
 IsGroupAnswer counted limits m group a =
     IsAnswerTo counted limits m (length (stage_paths m group.stage)) (group_goals m group) a
 

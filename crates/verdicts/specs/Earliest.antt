@@ -1,8 +1,5 @@
 -- The first open goal so far. Private contracts alone cite this.
-use Rattle.std.specs.Prelude.{◌<◌, length, Option, Some, None}
-use Rattle.rml_command.specs.Models.{ModelTree}
-use Rattle.rml_command.specs.declared.goal.Stage.{Stage}
-use Rattle.rml_command.specs.declared.goal.Stage.TheVariants as stages
+use Rattle.std.specs.Prelude.{Option, Some, None}
 use Rattle.rml_report.specs.declared.report.Answer.{Answer}
 use Rattle.rml_report.specs.declared.report.Answer.TheVariants as answer
 use Rattle.verdicts.specs.declared.deciding.OpenGoal.{OpenGoal}
@@ -18,9 +15,3 @@ open_or (Some goal) a = answer.Undecided goal.path goal.cause
 
 abbrev pub answer_of : Option OpenGoal → Answer
 answer_of earliest = open_or earliest answer.Holds
-
--- it is init or an action of the model
-abbrev pub IsBeforeFinal : ModelTree → Stage → Type 0
-IsBeforeFinal m stages.Init = Unit {0}
-IsBeforeFinal m (stages.Action a) = a < length m.actions
-IsBeforeFinal m stages.Final = ⊥

@@ -12,7 +12,7 @@ use base::Mem;
 use cti_minimise::least;
 use lean_decide::{Counted, Settled, settle};
 use lrat_log::Limits;
-use rml_command::{About, Checked, Goal, Stage};
+use rml_command::{Checked, Goal, Head};
 use rml_report::{Answer, Cause, Group};
 use std::alloc::Global;
 
@@ -82,19 +82,18 @@ pub fn decide_group(
     checked: &Checked,
     counted: Counted,
     limits: &Limits,
-    stage: Stage,
-    about: About,
+    head: Head,
 ) -> Mem<Group>
-    requires about { HasAbout checked.now stage about }
+    requires about { HasAbout checked.now head.stage head.about }
     ensures now { IfOk result (IsGroupNow counted (ceilings limits.now) checked.now) }
-    ensures head { IfOk result (λ g. head_of g ≡ record { stage = stage; about = about }) }
+    ensures head { IfOk result (λ g. head_of g ≡ head) }
 {
-    let goals = group_goals(alloc, checked, stage, about)?;
-    let paths = checked.stage_paths(stage).len() as u32;
+    let goals = group_goals(alloc, checked, head)?;
+    let paths = checked.stage_paths(head.stage).len() as u32;
     let answer = decide_goals(alloc, checked, counted, limits, &goals, paths)?;
     Ok(Group {
-        stage,
-        about,
+        stage: head.stage,
+        about: head.about,
         answer,
     })
 }

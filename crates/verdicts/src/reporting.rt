@@ -1,56 +1,41 @@
 // The report on a model: all its groups in order, each with its answer.
-ghost use Rattle.std.specs.Prelude.{◌≡◌, ◌<◌, ◌++◌, length, map, IfOk, OnOk};
+ghost use Rattle.std.specs.Prelude.{◌≡◌, map, IfOk};
 ghost use Rattle.std.specs.List.{AllByRecursion, list_all, list_any};
-ghost use Rattle.rml_command.specs.Goals.{stage_groups, groups_of};
+ghost use Rattle.rml_command.specs.Goals.{HasAbout, groups_of};
 ghost use Rattle.rml_report.specs.Reports.{head_of, says_holds, says_fails, verdict_of};
 ghost use Rattle.ea_decide.specs.Passing.{ceilings};
 ghost use Rattle.verdicts.specs.Answers.{IsGroupNow, IsReportBy};
-ghost use Rattle.verdicts.specs.Earliest.{IsBeforeFinal};
 
 use crate::deciding::decide_group;
 use base::{Mem, Row};
 use lean_decide::{Counted, settle_axioms};
 use lrat_log::Limits;
 use progress::{Progress, Work};
-use rml_command::{About, Checked, Stage};
+use rml_command::{Checked, Head, goal_law, heads};
 use rml_report::{Answer, Group, Report, Verdict};
 use std::alloc::Global;
 
-// How many groups a model has: for abort and for each conjecture one of init and of each action, and one of final.
-fn group_count(checked: &Checked) -> u64 {
-    let model = checked.model();
-    let blocks = (model.actions().len() as u64).saturating_add(1);
-    let targets = (model.conjectures().len() as u64).saturating_add(1);
-    blocks.saturating_mul(targets).saturating_add(1)
-}
-
-// Adds the groups of init or an action, in order.
-fn add_stage<P: Progress>(
+// The groups of these heads, each with its answer.
+fn decide_all<P: Progress>(
     alloc: Global,
     checked: &Checked,
     counted: Counted,
     limits: &Limits,
-    stage: Stage,
-    groups: &mut Vec<Group>,
+    heads: &[Head],
     progress: &mut P,
-) -> Mem<()>
-    requires stage { IsBeforeFinal checked.now stage }
-    ensures heads { OnOk result (map head_of groups.new.items
-        ≡ map head_of groups.old.items ++ stage_groups checked.now stage) }
-    ensures now { OnOk result (AllByRecursion (IsGroupNow counted (ceilings limits.now) checked.now) groups.old.items
-        → AllByRecursion (IsGroupNow counted (ceilings limits.now) checked.now) groups.new.items) }
+) -> Mem<Vec<Group>>
+    requires { AllByRecursion (λ h. HasAbout checked.now h.stage h.about) heads.now }
+    ensures now { IfOk result (λ gs. AllByRecursion (IsGroupNow counted (ceilings limits.now) checked.now) gs.items) }
+    ensures heads { IfOk result (λ gs. map head_of gs.items ≡ heads.now) }
 {
-    let all = group_count(checked);
-    let abort = decide_group(alloc, checked, counted, limits, stage, About::Abort)?;
-    groups.push(abort)?;
-    progress.tell(Work::Groups, groups.len() as u64, all);
-    let count = checked.model().conjectures().len() as u32;
-    for k in 0..count {
-        let about = About::Conjecture(k);
-        groups.push(decide_group(alloc, checked, counted, limits, stage, about)?)?;
-        progress.tell(Work::Groups, groups.len() as u64, all);
+    let mut groups = Vec::new(alloc);
+    let mut rest = heads;
+    while let [head, after @ ..] = rest {
+        groups.push(decide_group(alloc, checked, counted, limits, *head)?)?;
+        progress.tell(Work::Groups, groups.len() as u64, heads.len() as u64);
+        rest = after;
     }
-    Ok(())
+    Ok(groups)
 }
 
 // All groups in order.
@@ -64,30 +49,9 @@ fn all_groups<P: Progress>(
     ensures now { IfOk result (λ gs. AllByRecursion (IsGroupNow counted (ceilings limits.now) checked.now) gs.items) }
     ensures heads { IfOk result (λ gs. map head_of gs.items ≡ groups_of checked.now) }
 {
-    let mut groups = Vec::new(alloc);
-    add_stage(
-        alloc,
-        checked,
-        counted,
-        limits,
-        Stage::Init,
-        &mut groups,
-        progress,
-    )?;
-    let count = checked.model().actions().len() as u32;
-    for a in 0..count {
-        add_stage(
-            alloc,
-            checked,
-            counted,
-            limits,
-            Stage::Action(a),
-            &mut groups,
-            progress,
-        )?;
-    }
-    groups.push(decide_group(alloc, checked, counted, limits, Stage::Final, About::Abort)?)?;
-    progress.tell(Work::Groups, groups.len() as u64, group_count(checked));
+    goal_law();
+    let heads = heads(alloc, checked)?;
+    let groups = decide_all(alloc, checked, counted, limits, &heads, progress)?;
     Ok(groups)
 }
 

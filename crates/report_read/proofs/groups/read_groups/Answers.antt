@@ -5,7 +5,8 @@ use Rattle.std.specs.List.{flat_map}
 use Rattle.base.specs.Lists.{count_from}
 use Rattle.rml_command.specs.Trees.{CommandTree}
 use Rattle.rml_command.specs.Models.{ModelTree}
-use Rattle.rml_command.specs.Goals.{Group, stage_groups, groups_of}
+use Rattle.rml_command.specs.Goals.{stage_groups, groups_of}
+use Rattle.rml_command.specs.declared.goal.Head.{Head}
 use Rattle.rml_command.specs.declared.goal.Stage.TheVariants as stage
 use Rattle.rml_command.specs.declared.goal.About.TheVariants as about
 use Rattle.printed_report.specs.declared.printed.PrintedGroup.{PrintedGroup}
@@ -13,13 +14,13 @@ use Rattle.report_read.specs.Reading.{Reads, read_groups}
 use Rattle.report_read.proofs.GroupTurns.{groups_next, groups_err, flat_step, flat_end}
 use Rattle.report_read.proofs.groups.read_groups.Goals as goal
 
-abbrev of_action : ModelTree → ℕ → List Group
+abbrev of_action : ModelTree → ℕ → List Head
 of_action m a = stage_groups m (stage.Action a)
 
-abbrev last : List Group
+abbrev last : List Head
 last = record { stage = stage.Final; about = about.Abort } ∷ []
 
-abbrev others : ModelTree → ℕ → ℕ → List Group
+abbrev others : ModelTree → ℕ → ℕ → List Head
 others m a n = flat_map (of_action m) (count_from a n) ++ last
 
 pub loop-a-init : goal.loop-a-init

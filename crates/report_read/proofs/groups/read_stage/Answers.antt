@@ -3,17 +3,18 @@ use Rattle.std.specs.Prelude.{Err}
 use Rattle.base.specs.Lists.{count_from}
 use Rattle.fol_formula.specs.Syntax.{FormTree}
 use Rattle.rml_command.specs.Models.{ModelTree}
-use Rattle.rml_command.specs.Goals.{Group, stage_groups}
+use Rattle.rml_command.specs.Goals.{stage_groups}
+use Rattle.rml_command.specs.declared.goal.Head.{Head}
 use Rattle.rml_command.specs.declared.goal.Stage.{Stage}
 use Rattle.rml_command.specs.declared.goal.About.TheVariants as about
 use Rattle.report_read.specs.Reading.{Reads, read_groups}
 use Rattle.report_read.proofs.GroupTurns.{groups_next, groups_err, map_step}
 use Rattle.report_read.proofs.groups.read_stage.Goals as goal
 
-abbrev form : Stage → ℕ → Group
+abbrev form : Stage → ℕ → Head
 form s k = record { stage = s; about = about.Conjecture k }
 
-abbrev abort : Stage → Group
+abbrev abort : Stage → Head
 abort s = record { stage = s; about = about.Abort }
 
 pub loop-k-init : goal.loop-k-init

@@ -1,6 +1,6 @@
 use Rattle.std.proofs.Common.{◌≡◌, ◌==◌, ◌<◌, ℕ, not, List, length, sym, ap, ◌∙◌, subst}
 use Rattle.std.specs.List.{filter}
-use Rattle.rml_command.specs.Goals.{Group}
+use Rattle.rml_command.specs.declared.goal.Head.{Head}
 use Rattle.ea_decide.specs.Passing.{ceilings}
 use Rattle.rml_reasons.specs.Reasons.{IsReason}
 use Rattle.rml_reasons.specs.Shrinking.{IsJudged}
@@ -13,7 +13,7 @@ pub loop-held-smaller : goal.loop-held-smaller
 loop-held-smaller c =
     let held = c.loop-held.held.items in
     let k = c.in-Superfluous.conjecture in
-    let group : Group = record { stage = c.args.stage; about = c.args.about } in
+    let group : Head = record { stage = c.args.stage; about = c.args.about } in
     let judged : IsJudged (ceilings c.args.limits.now) c.args.checked.now group held (Superfluous k) =
     subst (λ (ks : List ℕ). IsJudged (ceilings c.args.limits.now) c.args.checked.now group ks (Superfluous k))
     c.deref.ensures.value (rw c.in-Superfluous.is at c.in_ok-needs.ensures) in
@@ -28,7 +28,7 @@ loop-held-preserved c =
     let m = c.args.checked.now in
     let held = c.loop-held.held.items in
     let k = c.in-Superfluous.conjecture in
-    let group : Group = record { stage = c.args.stage; about = c.args.about } in
+    let group : Head = record { stage = c.args.stage; about = c.args.about } in
     let judged : IsJudged limits m group held (Superfluous k) =
     subst (λ (ks : List ℕ). IsJudged limits m group ks (Superfluous k))
     c.deref.ensures.value (rw c.in-Superfluous.is at c.in_ok-needs.ensures) in

@@ -4,5 +4,4 @@ use Rattle.verdicts.proofs.listing.goals_among.Given as goal
 
 abbrev pub invariant-loop-i : goal.invariant-loop-i
 invariant-loop-i l =
-    l.goals.items ++ goals_among (record { stage = l.fn.stage; about = l.fn.about }) (l.i + 1) (drop l.i l.paths)
-    ≡ goals_among (record { stage = l.fn.stage; about = l.fn.about }) 1 l.paths
+    l.goals.items ++ goals_among l.fn.head (l.i + 1) (drop l.i l.paths) ≡ goals_among l.fn.head 1 l.paths

@@ -7,6 +7,6 @@ use Rattle.verdicts.proofs.listing.group_goals.Goals as goal
 pub returns-clause-each : goal.returns-clause-each
 returns-clause-each c =
     subst (AllByRecursion (IsGoal c.args.checked.now))
-    (sym (c.in_ok-goals.ensures ∙ ap (goals_among (record { stage = c.args.stage; about = c.args.about }) 1)
+    (sym (c.in_ok-goals.ensures ∙ ap (goals_among c.args.head 1)
     c.stage_paths-paths.ensures.paths))
-    (each_goal c.args.checked.now (record { stage = c.args.stage; about = c.args.about }) c.requires)
+    (each_goal c.args.checked.now c.args.head c.requires)
