@@ -4,7 +4,8 @@ use Rattle.std.specs.Prelude.{MatchOption, slice_get}
 use Rattle.std.specs.List.{AllByRecursion}
 use Rattle.fol_sig.specs.Tables.{Tables}
 use Rattle.fol_sig.specs.Symbols.{FitsStructure, symbols}
-use Rattle.rml_command.specs.Trees.{PrimitiveTree, assume, set_rel, set_fun, havoc, abort}
+use Rattle.fol_sig.specs.TupleSets.{with_table}
+use Rattle.rml_command.specs.Trees.{PrimitiveTree, assume, set_rel, set_fun, havoc, havoc_rel, abort}
 use Rattle.rml_command.specs.Outcomes.{ended, PrimitiveHasOutcome, PathHasOutcome}
 use Rattle.rml_command.specs.Outcomes.{set_relation, set_function, set_variable}
 use Rattle.rml_command.specs.Models.{ModelTree, FitsPrimitive, FitsPath}
@@ -45,6 +46,9 @@ module _ (keep : UpdatesKeepSymbols) (followed : PathHasFollowedOutcomes) (fit :
   step_fits (havoc v) s new f fits h =
       let same : new ≡ set_variable s v h.0 = cc h.2.0 in
       subst Fits (sym same) (keep.variable (symbols m.signature) s v h.0 f h.1 fits)
+  step_fits (havoc_rel r) s new f fits h =
+      let same : new ≡ with_table s r h.0 = cc h.1.0 in
+      subst Fits (sym same) (keep.table (symbols m.signature) s r h.0 f fits)
   step_fits abort s new f fits h = absurd (cc h)
 
   path_fits : (p : List PrimitiveTree) (s new : Tables) → FitsPath (symbols m.signature) p → Fits s
@@ -64,7 +68,7 @@ module _ (keep : UpdatesKeepSymbols) (followed : PathHasFollowedOutcomes) (fit :
       (fit.symbols_fit m (record { stage = part.stage; path = part.trace.path; about = about.Abort }) is.path
       checked.model.fits is.is_path) fits
       ((followed m.axioms is.path s (outcome_of part.end)).1
-      (record { elements = part.trace.havoc; count = is.count; ends = is.ends }))
+      (record { havocs = part.trace.havoc; count = is.count; ends = is.ends }))
 
   parts_fit : (e : Option Tables) (parts : List Part) → EndFits m e
       → MatchOption e (parts ≡ []) (λ t. AreParts m t parts) → AllByRecursion (λ part. EndFits m part.end) parts

@@ -5,6 +5,7 @@ use Rattle.std.specs.Fmt.{decimal}
 use Rattle.fol_sig.specs.Tables.{Tables}
 use Rattle.fol_sig.specs.Symbols.{FitsStructure, symbols}
 use Rattle.rml_command.specs.Models.{ModelTree}
+use Rattle.rml_command.specs.Elements.{elements_of}
 use Rattle.rml_command.specs.Goals.{stage_paths}
 use Rattle.rml_command.specs.declared.names.Names.{Names}
 use Rattle.rml_command.specs.declared.goal.About.{About}
@@ -37,7 +38,7 @@ part_line m part =
 -- the path that is taken, the elements of its havocs, and how it ends
 unfoldable pub part_text : ModelTree → Part → List ℕ
 part_text m part =
-    part_line m part ++ numbers_line (codes "  havoc:") part.trace.havoc ++ end_text m.names part.end
+    part_line m part ++ numbers_line (codes "  havoc:") (elements_of part.trace.havoc) ++ end_text m.names part.end
 
 -- the values, of a conjecture that is broken
 abbrev pub values_text : About → List ℕ → List ℕ

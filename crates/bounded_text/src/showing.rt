@@ -7,7 +7,7 @@ ghost use Rattle.bounded_text.specs.BoundedText.{broken_text, run_text};
 use base::{Mem, push_number, push_text};
 use fol_sig::Structure;
 use rml_bmc::{Part, Run};
-use rml_command::{About, Checked, Names};
+use rml_command::{About, Checked, Names, elements_of};
 use rml_report::{push_labelled, push_numbers_line, push_sorts, push_stage, push_tables};
 use std::alloc::Global;
 
@@ -53,8 +53,9 @@ fn push_part(alloc: Global, out: &mut Vec<u8>, checked: &Checked, part: &Part) -
     requires { EndFits checked.now part.now.end }
     ensures { OnOk result (out.new.items ≡ out.old.items ++ part_text checked.now part.now) }
 {
+    let elements = elements_of(alloc, part.trace.havoc.as_slice())?;
     push_part_line(out, checked, part)?;
-    push_numbers_line(out, "  havoc:", part.trace.havoc.as_slice())?;
+    push_numbers_line(out, "  havoc:", elements.as_slice())?;
     push_end(alloc, out, checked, part)?;
     Ok(())
 }

@@ -10,6 +10,7 @@ use Rattle.std.proofs.lemmas.List.Sums.{sum_by-cons, sum_by-append}
 use Rattle.fol_sig.specs.Tables.{Tables, relation_at, rel_at}
 use Rattle.fol_sig.specs.Tuples.{join_below, tuples}
 use Rattle.rml_command.specs.Models.{ModelTree}
+use Rattle.rml_command.specs.Elements.{elements_of}
 use Rattle.rml_command.specs.declared.names.Names.{Names}
 use Rattle.rml_command.specs.declared.goal.About.{About}
 use Rattle.rml_exec.specs.declared.trace.Counterexample.{Counterexample}
@@ -141,7 +142,7 @@ module _ (m : ModelTree) where
   execution_long a shown =
       let s = shown.structure in
       let before = codes "  before\n" ++ sorts_text m.names s in
-      let havoc = numbers_line (codes "  havoc:") shown.trace.havoc in
+      let havoc = numbers_line (codes "  havoc:") (elements_of shown.trace.havoc) in
       le_trans (inside before (tables_text m.names s) havoc)
       (front (before ++ tables_text m.names s ++ havoc) (outcome_text m a shown))
 

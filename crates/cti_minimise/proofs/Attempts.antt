@@ -34,9 +34,9 @@ module _ (m : ModelTree) (goal : Goal) (numbers : List ℕ) (few : length number
     (named : AreBounds m.signature (bound_at m.signature)) where
   pub none-otherwise : (said : ℕ → ℕ → FormTree) → AreImplied m.signature said
       → HasNoneWhere m (bounds_by said 0 numbers) goal → HasNoneWhere m (bounds_on m.signature numbers) goal
-  none-otherwise said laws none t elements values counterexample lawful =
+  none-otherwise said laws none t havocs values counterexample lawful =
       let fits = counterexample.structure in
-      none t elements values counterexample
+      none t havocs values counterexample
       (bounded said m.signature t fits laws 0 numbers (omega (arith, few))
       (within (bound_at m.signature) m.signature t fits named 0 numbers (omega (arith, few)) lawful))
 

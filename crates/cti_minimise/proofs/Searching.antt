@@ -11,6 +11,7 @@ use Rattle.rml_command.specs.Models.{ModelTree}
 use Rattle.rml_command.specs.Outcomes.{satisfies}
 use Rattle.rml_command.specs.Goals.{IsCounterexample}
 use Rattle.rml_command.specs.declared.goal.Goal.{Goal}
+use Rattle.rml_command.specs.declared.havoc.Havoc.{Havoc}
 use Rattle.obligation_decide.specs.Restricted.{HasNoneWhere}
 use Rattle.cti_minimise.specs.Bounding.{bound_at, bounds_on}
 use Rattle.cti_minimise.specs.Extents.{extent, places, lowest}
@@ -53,13 +54,13 @@ lowest-le sig s fits place =
 module _ (m : ModelTree) (goal : Goal) where
   -- at the first place nothing is smaller
   pub at-first : HasNoSmaller m goal []
-  at-first s elements values counterexample less = none-below (extent s) less
+  at-first s havocs values counterexample less = none-below (extent s) less
 
   -- nothing is below the lowest number
   pub at-lowest : (numbers : List ℕ) → HasNoSmaller m goal numbers
       → HasNoSmaller m goal (numbers ++ lowest m.signature (length numbers) ∷ [])
-  at-lowest numbers least s elements values counterexample less =
-      least s elements values counterexample
+  at-lowest numbers least s havocs values counterexample less =
+      least s havocs values counterexample
       (not-below-lowest (extent s) numbers (lowest m.signature (length numbers))
       (λ lt. lowest-le m.signature s counterexample.structure (length numbers)) less)
 
@@ -67,32 +68,33 @@ module _ (m : ModelTree) (goal : Goal) where
     module _ (numbers : List ℕ) (n : ℕ) (few : length (numbers ++ n ∷ []) ≤ places m.signature) where
       -- what is within the bounds satisfies them
       not-within : HasNoneWhere m (bounds_on m.signature (numbers ++ n ∷ [])) goal
-          → (s : Tables) (elements values : List ℕ) → IsCounterexample m goal s elements values
+          → (s : Tables) (havocs : List Havoc) (values : List ℕ) → IsCounterexample m goal s havocs values
           → AreAtMost (extent s) (numbers ++ n ∷ []) → ⊥
-      not-within none s elements values counterexample most =
-          none s elements values counterexample
+      not-within none s havocs values counterexample most =
+          none s havocs values counterexample
           (bounded (bound_at m.signature) m.signature s counterexample.structure
           (implied-by m.signature (bound_at m.signature) laws) 0 (numbers ++ n ∷ []) (omega (arith, few)) most)
 
       -- the bound was refuted
       pub at-next : HasNoneWhere m (bounds_on m.signature (numbers ++ n ∷ [])) goal
           → HasNoSmaller m goal (numbers ++ n ∷ []) → HasNoSmaller m goal (numbers ++ (n + 1) ∷ [])
-      at-next none least s elements values counterexample less =
+      at-next none least s havocs values counterexample less =
           ⊎_elim
-          (λ smaller. least s elements values counterexample smaller)
-          (λ most. not-within none s elements values counterexample most)
+          (λ smaller. least s havocs values counterexample smaller)
+          (λ most. not-within none s havocs values counterexample most)
           (below-next (extent s) numbers n less)
 
       -- the bound was refuted, and nothing smaller was tried
       pub at-above : HasNoneWhere m (bounds_on m.signature (numbers ++ n ∷ [])) goal → HasNoSmaller m goal numbers
           → HasNoSmaller m goal (numbers ++ (n + 1) ∷ [])
-      at-above none least s elements values counterexample less =
+      at-above none least s havocs values counterexample less =
           ⊎_elim
-          (λ smaller. least s elements values counterexample smaller)
-          (λ most. not-within none s elements values counterexample most)
+          (λ smaller. least s havocs values counterexample smaller)
+          (λ most. not-within none s havocs values counterexample most)
           (below-above (extent s) numbers n less)
 
-      module _ (s : Tables) (elements values : List ℕ) (counterexample : IsCounterexample m goal s elements values)
+      module _ (s : Tables) (havocs : List Havoc) (values : List ℕ)
+          (counterexample : IsCounterexample m goal s havocs values)
           (lawful : satisfies s (bounds_on m.signature (numbers ++ n ∷ [])) ≡ true) where
         at-most : AreAtMost (extent s) (numbers ++ n ∷ [])
         at-most =
@@ -103,13 +105,13 @@ module _ (m : ModelTree) (goal : Goal) where
         pub just-these : HasNoSmaller m goal (numbers ++ n ∷ [])
             → take (length (numbers ++ n ∷ [])) (extent s) ≡ numbers ++ n ∷ []
         just-these least =
-            same-front (extent s) (numbers ++ n ∷ []) at-most (least s elements values counterexample)
+            same-front (extent s) (numbers ++ n ∷ []) at-most (least s havocs values counterexample)
 
         -- and before the place these, where no numbers before it are smaller
         pub these-before : HasNoSmaller m goal numbers → take (length numbers) (extent s) ≡ numbers
         these-before least =
             same-front (extent s) numbers (at-most-front (extent s) numbers (n ∷ []) at-most)
-            (least s elements values counterexample)
+            (least s havocs values counterexample)
 
     module _ (s : Tables) (place n : ℕ) (known : place < places m.signature)
         (fits : FitsStructure (symbols m.signature) s) where
@@ -119,21 +121,22 @@ module _ (m : ModelTree) (goal : Goal) where
       few-numbers : length (numbers_up_to s place n) ≤ places m.signature
       few-numbers = let count = length-up-to (extent s) place n inside in omega (arith, count, known)
 
-      module _ (t : Tables) (elements values : List ℕ) (counterexample : IsCounterexample m goal t elements values)
+      module _ (t : Tables) (havocs : List Havoc) (values : List ℕ)
+          (counterexample : IsCounterexample m goal t havocs values)
           (lawful : satisfies t (bounds_on m.signature (numbers_up_to s place n)) ≡ true) where
         -- the numbers up to the place are those that the bound left
         pub settled-by : HasNoSmaller m goal (numbers_up_to s place n)
             → numbers_up_to s place n ≡ take (suc place) (extent t)
         settled-by least =
             let count = length-up-to (extent s) place n inside in
-            let same = just-these (take place (extent s)) n few-numbers t elements values counterexample lawful least in
+            let same = just-these (take place (extent s)) n few-numbers t havocs values counterexample lawful least in
             sym (ap (λ j. take j (extent t)) (sym count) ∙ same)
 
         -- the numbers before the place stay
         pub before-stays : HasNoSmaller m goal (take place (extent s)) → take place (extent s) ≡ take place (extent t)
         before-stays least =
             let count = length-take-le place (extent s) (let lt = inside in omega (arith, lt)) in
-            let same = these-before (take place (extent s)) n few-numbers t elements values counterexample lawful
+            let same = these-before (take place (extent s)) n few-numbers t havocs values counterexample lawful
             least in
             sym (ap (λ j. take j (extent t)) (sym count) ∙ same)
 

@@ -4,6 +4,7 @@ use Rattle.fol_sig.specs.Tables.{Tables}
 use Rattle.rml_command.specs.Models.{ModelTree}
 use Rattle.rml_command.specs.Goals.{IsCounterexample}
 use Rattle.rml_command.specs.declared.goal.Goal.{Goal}
+use Rattle.rml_command.specs.declared.havoc.Havoc.{Havoc}
 use Rattle.rml_report.specs.declared.cause.Cause.{Cause}
 use Rattle.rml_report.specs.declared.cause.Least.{Least}
 use Rattle.rml_report.specs.declared.cause.Least.TheVariants as least
@@ -21,7 +22,7 @@ IsSmaller (x ∷ xs) (y ∷ ys) = (x < y) ⊎ ((x ≡ y) × IsSmaller xs ys)
 -- No counterexample of the goal has a smaller list of sizes and then of numbers of true tuples.
 abbrev pub HasNoSmaller : ModelTree → Goal → List ℕ → Type 0
 HasNoSmaller m goal numbers =
-    (s : Tables) (elements values : List ℕ) → IsCounterexample m goal s elements values
+    (s : Tables) (havocs : List Havoc) (values : List ℕ) → IsCounterexample m goal s havocs values
     → IsSmaller (extent s) numbers → ⊥
 
 -- the structure's numbers before this place, and then this number

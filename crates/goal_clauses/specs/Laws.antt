@@ -8,6 +8,7 @@ use Rattle.rml_command.specs.Models.{ModelTree}
 use Rattle.rml_command.specs.Fragment.{IsChecked}
 use Rattle.rml_command.specs.Goals.{IsGoal, IsCounterexample, HasNone}
 use Rattle.rml_command.specs.declared.goal.Goal.{Goal}
+use Rattle.rml_command.specs.declared.havoc.Havoc.{Havoc}
 use Rattle.ea_decide.specs.GroundForm.{IsClauseForm}
 use Rattle.ea_decide.specs.Laws.{IsSatisfiable}
 use Rattle.obligation_decide.specs.GoalPassing.{refuting_sentence}
@@ -18,10 +19,10 @@ GoalClausesRefute = (m : ModelTree) (goal : Goal) (order : List ℕ) (f : Formul
     → AreSorted (symbols m.signature) → IsStrata (symbols m.signature) order → IsGoal m goal
     → IsClauseForm m.signature (refuting_sentence m goal) f → IsUnsatisfiable f → HasNone m goal
 
--- some structure, elements and values are a counterexample of the goal
+-- some structure, trace and values are a counterexample of the goal
 abbrev pub HasCounterexample : ModelTree → Goal → Type 0
 HasCounterexample m goal =
-    (s : Tables) × (elements : List ℕ) × (values : List ℕ) × IsCounterexample m goal s elements values
+    (s : Tables) × (havocs : List Havoc) × (values : List ℕ) × IsCounterexample m goal s havocs values
 
 -- Truth values satisfy the clauses exactly where the goal has a counterexample.
 abbrev pub GoalClausesAreExact : Type 0

@@ -5,6 +5,7 @@ use Rattle.base.specs.Lists.{numbered}
 use Rattle.fol_sig.specs.Tables.{Tables}
 use Rattle.rml_command.specs.Trees.{PrimitiveTree}
 use Rattle.rml_command.specs.Models.{ModelTree}
+use Rattle.rml_command.specs.Elements.{elements_of}
 use Rattle.rml_command.specs.Goals.{stage_paths}
 use Rattle.rml_command.specs.declared.names.Names.{Names}
 use Rattle.rml_bmc.specs.Lengths.{verdict_of}
@@ -35,7 +36,7 @@ unfoldable pub part_data : ModelTree → Part → Data
 part_data m part =
     object_of ((codes "stage", stage_data m.names part.stage) ∷ (codes "path", number_data part.trace.path)
     ∷ (codes "paths", number_data (length (stage_paths m part.stage)))
-    ∷ (codes "takes", takes_along m.names (part_path m part) part.trace.havoc)
+    ∷ (codes "takes", takes_along m.names (part_path m part) (elements_of part.trace.havoc))
     ∷ (codes "end", end_data m.names part.end) ∷ [])
 
 abbrev pub bound_cause_data : BoundCause → Data

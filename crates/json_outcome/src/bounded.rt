@@ -1,6 +1,7 @@
 // Bounded runs.
 ghost use Rattle.std.specs.Prelude.{◌≡◌, map, IfOk, OnOk};
 ghost use Rattle.std.specs.List.{AllByRecursion};
+ghost use Rattle.rml_command.specs.Elements.{elements_of};
 ghost use Rattle.bounded_text.specs.BoundedText.{EndFits, CanShow, CanRender};
 ghost use Rattle.json_values.specs.Values.{set_each};
 ghost use Rattle.json_report.specs.ExecutionData.{takes_along};
@@ -11,7 +12,7 @@ use base::Mem;
 use json_report::{about_value, cause_value, havocs, stage_value, structure_value};
 use json_values::{Json, JsonList, JsonObject, counted, numbers};
 use rml_bmc::{BoundCause, Bounded, Length, Part, Run, Verdict, verdict_for};
-use rml_command::Checked;
+use rml_command::{Checked, elements_of};
 use std::alloc::Global;
 
 // The structure in which a part ends; null where it aborts.
@@ -28,7 +29,8 @@ fn end_value(alloc: Global, checked: &Checked, part: &Part) -> Mem<Json>
 // What the havocs of the part's path take.
 fn takes_value(alloc: Global, checked: &Checked, part: &Part) -> Mem<Json>
     ensures { IfOk result
-        (λ j. j ≡ takes_along checked.now.names (part_path checked.now part.now) part.now.trace.havoc) }
+        (λ j. j ≡ takes_along checked.now.names (part_path checked.now part.now)
+        (elements_of part.now.trace.havoc)) }
 {
     let paths = checked.stage_paths(part.stage);
     let number = part.trace.path as usize;
@@ -36,7 +38,8 @@ fn takes_value(alloc: Global, checked: &Checked, part: &Part) -> Mem<Json>
         return Ok(JsonList::new(alloc).into_json());
     }
     let path = paths.path(number - 1);
-    let list = havocs(alloc, checked, &path, part.trace.havoc.as_slice())?;
+    let elements = elements_of(alloc, part.trace.havoc.as_slice())?;
+    let list = havocs(alloc, checked, &path, elements.as_slice())?;
     Ok(list.into_json())
 }
 

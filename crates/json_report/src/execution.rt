@@ -1,5 +1,6 @@
 // An execution.
 ghost use Rattle.std.specs.Prelude.{◌≡◌, IfOk, OnOk};
+ghost use Rattle.rml_command.specs.Elements.{elements_of};
 ghost use Rattle.rml_command.specs.Goals.{goal_path};
 ghost use Rattle.rml_report.specs.Reports.{IsExecution};
 ghost use Rattle.rml_report.specs.ReportText.{outcome_of};
@@ -12,7 +13,7 @@ use crate::structure::structure_value;
 use base::Mem;
 use fol_sig::FunId;
 use json_values::{Json, JsonList, JsonObject, numbers};
-use rml_command::{Checked, Names, Path, Primitive};
+use rml_command::{Checked, Names, Path, Primitive, elements_of};
 use rml_exec::{Counterexample, Followed, follow};
 use std::alloc::Global;
 
@@ -57,10 +58,11 @@ pub fn havocs(alloc: Global, checked: &Checked, path: &Path, elements: &[u32]) -
 fn takes_value(alloc: Global, checked: &Checked, shown: &Counterexample) -> Mem<Json>
     requires { IsExecution checked.now shown.now }
     ensures { IfOk result (λ j. j ≡ takes_along checked.now.names (goal_path checked.now shown.now.goal)
-        shown.now.trace.havoc) }
+        (elements_of shown.now.trace.havoc)) }
 {
     let path = checked.path(&shown.goal);
-    let list = havocs(alloc, checked, &path, shown.trace.havoc.as_slice())?;
+    let elements = elements_of(alloc, shown.trace.havoc.as_slice())?;
+    let list = havocs(alloc, checked, &path, elements.as_slice())?;
     Ok(list.into_json())
 }
 

@@ -47,9 +47,9 @@ module _ (exact : RefutingIsExact) (affected : AffectedRefutingIsSame) (m : Mode
     (fits : FitsModel m) (g : IsGoal m goal) where
   pub kept_alone : (a k : ℕ) → goal.stage ≡ stage.Action a → goal.about ≡ Conjecture k
       → HasNoModel m.signature (breaks_alone m goal) → HasNone m goal
-  kept_alone a k is_stage is_about none s elements values counter =
+  kept_alone a k is_stage is_about none s havocs values counter =
       let last = negation (goal_precondition_by Affected m goal) in
-      let full = (exact m goal s fits g counter.structure).1 (elements, values, counter) in
+      let full = (exact m goal s fits g counter.structure).1 (havocs, values, counter) in
       let lean = affected m m.conjectures goal s fits g counter.structure ∙ full in
       let parted = subst (λ (x : Stage). is_true s
       (all_of (parts_before x (all_of m.axioms) (all_of m.conjectures) ++ last ∷ [])) ≡ true) is_stage lean in

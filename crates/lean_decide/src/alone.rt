@@ -63,6 +63,7 @@ fn changed_by(primitive: &Primitive) -> Option<Symbol> {
         Primitive::SetRel(rel, _) => Some(Symbol::Relation(*rel)),
         Primitive::SetFun(fun, _) => Some(Symbol::Function(*fun)),
         Primitive::Havoc(variable) => Some(Symbol::Function(*variable)),
+        Primitive::HavocRel(rel) => Some(Symbol::Relation(*rel)),
         Primitive::Abort => None,
     }
 }

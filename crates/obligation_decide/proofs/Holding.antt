@@ -39,9 +39,9 @@ module _ (limits : Ceilings) (m : ModelTree) (goal : Goal) (held : List FormTree
         → IsDecisionBy limits m held goal d
     by_sentence (Holds proof) h = (
       passes None (None, h.0, refl),
-      (λ s elements values counterexample.
+      (λ s havocs values counterexample.
           h.1 s counterexample.structure
-          ((exact m held goal s fits g counterexample.structure).1 (elements, values, counterexample))),
+          ((exact m held goal s fits g counterexample.structure).1 (havocs, values, counterexample))),
       h.2,
     )
     by_sentence (Fails shown) h = (passes None (None, h.0, refl), failing shown h.1)

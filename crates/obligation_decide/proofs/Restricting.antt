@@ -140,8 +140,8 @@ module _ (limits : Ceilings) (m : ModelTree) (goal : Goal) where
           → IsRestrictedDecision limits m more goal d
       by_sentence (Holds proof) h = (
         passes None (None, h.0, refl),
-        (λ s elements values counterexample lawful.
-            let parts = (laws.all m goal s fits g counterexample.structure).1 (elements, values, counterexample) in
+        (λ s havocs values counterexample lawful.
+            let parts = (laws.all m goal s fits g counterexample.structure).1 (havocs, values, counterexample) in
             h.1 s counterexample.structure (both-true (reading s) (refuting_parts m m.conjectures goal) more parts
             lawful)),
         h.2,
@@ -177,7 +177,7 @@ module _ (limits : Ceilings) (m : ModelTree) (goal : Goal) where
     pub unrestricted : (d : Decision) → IsRestrictedDecision limits m [] goal d → IsDecision limits m goal d
     unrestricted (Holds proof) h = (
       first-alone None h.0,
-      (λ s elements values counterexample. h.1 s elements values counterexample refl),
+      (λ s havocs values counterexample. h.1 s havocs values counterexample refl),
       subst (λ (q : FormTree). Refutes m.signature q proof) (alone All m m.conjectures goal) h.2,
     )
     unrestricted (Fails shown) h = (first-alone None h.0, h.1.0)

@@ -13,6 +13,7 @@ use Rattle.rml_command.specs.Models.{ModelTree}
 use Rattle.rml_command.specs.Fragment.{IsChecked}
 use Rattle.rml_command.specs.Goals.{IsGoal}
 use Rattle.rml_command.specs.declared.goal.Goal.{Goal}
+use Rattle.rml_command.specs.Elements.{havocs_of}
 use Rattle.rml_wp.specs.declared.premises.Premises.{Premises}
 use Rattle.rml_wp.specs.declared.premises.Premises.TheVariants.{All}
 use Rattle.rml_wp.specs.Added.{refuting_all_by, RefutingSentencesFit, NoPartsAreAdded, ConjecturesAreAdded}
@@ -84,7 +85,7 @@ module _ (normals : RefutingNormalsFit) (premises : Premises) (m : ModelTree) (g
     pub is-shown : ModelsGiveCounterexamples → (xs : List ℕ)
         → ((i : ℕ) → i < n → get_or xs i 0 ≡ fun_at t (f + i) [])
         → RefutesAs premises m goal p (reduct (symbols m.signature) t)
-        (values_at xs (witness_places_by premises m goal).havocs)
+        (havocs_of (values_at xs (witness_places_by premises m goal).havocs))
         (values_at xs (witness_places_by premises m goal).values)
     is-shown models xs values held more added is =
         let each = λ (q : FormTree).

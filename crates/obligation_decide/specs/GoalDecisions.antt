@@ -6,6 +6,7 @@ use Rattle.rml_command.specs.Models.{ModelTree}
 use Rattle.rml_command.specs.Outcomes.{all_of}
 use Rattle.rml_command.specs.Goals.{IsCounterexample, HasNone}
 use Rattle.rml_command.specs.declared.goal.Goal.{Goal}
+use Rattle.rml_command.specs.declared.havoc.Havoc.{Havoc}
 use Rattle.rml_exec.specs.declared.trace.Counterexample.{Counterexample}
 use Rattle.rml_wp.specs.Preconditions.{refuting_of}
 use Rattle.rml_wp.specs.Laws.{IsCounterexampleBy}
@@ -69,7 +70,7 @@ pub record IsFailingBy (limits : Ceilings) (m : ModelTree) (held : List FormTree
 -- the goal has no counterexample where these sentences hold before the stage
 abbrev pub HasNoneBy : ModelTree → List FormTree → Goal → Type 0
 HasNoneBy m held goal =
-    (s : Tables) (elements values : List ℕ) → IsCounterexampleBy m held goal s elements values → ⊥
+    (s : Tables) (havocs : List Havoc) (values : List ℕ) → IsCounterexampleBy m held goal s havocs values → ⊥
 
 -- The answer to a goal under limits, where these sentences hold before the stage in place of the conjectures.
 abbrev pub IsDecisionBy : Ceilings → ModelTree → List FormTree → Goal → Decision → Type 0

@@ -7,6 +7,7 @@ use Rattle.rml_command.specs.Models.{ModelTree}
 use Rattle.rml_command.specs.Outcomes.{all_of, is_true, satisfies}
 use Rattle.rml_command.specs.Goals.{IsCounterexample}
 use Rattle.rml_command.specs.declared.goal.Goal.{Goal}
+use Rattle.rml_command.specs.declared.havoc.Havoc.{Havoc}
 use Rattle.rml_exec.specs.declared.trace.Counterexample.{Counterexample}
 use Rattle.rml_wp.specs.declared.premises.Premises.{Premises}
 use Rattle.rml_wp.specs.declared.premises.Premises.TheVariants.{All}
@@ -34,12 +35,12 @@ pub record IsRefutingWith (premises : Premises) (m : ModelTree) (goal : Goal) (p
   pub added : AreAdded m held more
   pub is : p ≡ refuting_all_by premises m held more goal
 
--- Whatever holds before the stage where the sentence is such a refuting sentence of the goal, with these elements and
+-- Whatever holds before the stage where the sentence is such a refuting sentence of the goal, with this trace and these
 -- values the structure is a counterexample.
-abbrev pub RefutesAs : Premises → ModelTree → Goal → FormTree → Tables → List ℕ → List ℕ → Type 0
-RefutesAs premises m goal p s elements values =
+abbrev pub RefutesAs : Premises → ModelTree → Goal → FormTree → Tables → List Havoc → List ℕ → Type 0
+RefutesAs premises m goal p s havocs values =
     (held more : List FormTree) → AreAdded m held more → p ≡ refuting_all_by premises m held more goal
-    → IsCounterexampleBy m held goal s elements values
+    → IsCounterexampleBy m held goal s havocs values
 
 -- The execution is one, of a structure that satisfies the sentence. Private contracts alone cite this.
 pub record IsSentenceFailing (limits : Ceilings) (premises : Premises) (m : ModelTree) (p : FormTree) (goal : Goal)
@@ -62,7 +63,8 @@ IsSentenceDecision limits m p goal (Undecided c) =
 -- no counterexample of the goal is in a structure that satisfies these sentences
 abbrev pub HasNoneWhere : ModelTree → List FormTree → Goal → Type 0
 HasNoneWhere m more goal =
-    (s : Tables) (elements values : List ℕ) → IsCounterexample m goal s elements values → satisfies s more ≡ true → ⊥
+    (s : Tables) (havocs : List Havoc) (values : List ℕ) → IsCounterexample m goal s havocs values
+    → satisfies s more ≡ true → ⊥
 
 module _ (limits : Ceilings) (m : ModelTree) (more : List FormTree) (goal : Goal) where
   -- the refuting sentence with these parts

@@ -12,7 +12,7 @@ ghost use Rattle.obligation_decide.specs.WithConstants.{constant_sorts, HoldsWit
 use base::Mem;
 use fol_formula::Ea;
 use fol_sig::{FunId, Structure};
-use rml_command::{Checked, Goal};
+use rml_command::{Checked, Goal, havocs_of};
 use rml_exec::{Counterexample, Trace};
 use rml_wp::{Premises, read_witness};
 use std::alloc::Global;
@@ -49,13 +49,14 @@ pub fn read_counterexample(
     let count = sentence.sentence().formula().existentials() as u32;
     let constants = constants(alloc, &model, functions, count)?;
     let witness = read_witness(alloc, checked, premises, goal, &constants)?;
+    let havoc = havocs_of(alloc, witness.havoc.as_slice())?;
     let mut structure = model;
     structure.restrict(signature);
     Ok(Counterexample {
         structure,
         trace: Trace {
             path: goal.path,
-            havoc: witness.havoc,
+            havoc,
         },
         goal: *goal,
         values: witness.values,

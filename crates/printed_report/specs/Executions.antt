@@ -4,8 +4,10 @@ use Rattle.std.specs.Prelude.{◌≡◌, ℕ, ◌≤◌, List, [], ◌∷◌, le
 use Rattle.fol_sig.specs.Tables.{Tables, InRange}
 use Rattle.fol_sig.specs.Symbols.{Symbols, FitsStructure, symbols}
 use Rattle.fol_formula.specs.Syntax.{FormTree}
-use Rattle.rml_command.specs.Trees.{PrimitiveTree, assume, set_rel, set_fun, havoc, abort}
+use Rattle.rml_command.specs.Trees.{PrimitiveTree, assume, set_rel, set_fun, havoc, havoc_rel, abort}
 use Rattle.rml_command.specs.Models.{ModelTree}
+use Rattle.rml_command.specs.Elements.{elements_of, havocs_of}
+use Rattle.rml_command.specs.Paths.{havoc_count}
 use Rattle.rml_command.specs.Goals.{stage_paths, goal_path, leading_sorts, IsGoal}
 use Rattle.rml_command.specs.declared.goal.Head.{Head}
 use Rattle.rml_command.specs.declared.goal.About.{About}
@@ -24,6 +26,7 @@ havoc_sorts sig (assume p ∷ qs) = havoc_sorts sig qs
 havoc_sorts sig (set_rel r by ∷ qs) = havoc_sorts sig qs
 havoc_sorts sig (set_fun f by ∷ qs) = havoc_sorts sig qs
 havoc_sorts sig (havoc v ∷ qs) = sig.into_of v ∷ havoc_sorts sig qs
+havoc_sorts sig (havoc_rel r ∷ qs) = havoc_sorts sig qs
 havoc_sorts sig (abort ∷ qs) = havoc_sorts sig qs
 
 abbrev pub sorts_along : Symbols → Option (List PrimitiveTree) → List ℕ
@@ -44,7 +47,7 @@ HasEnd m s (about.Conjecture k) values after =
     × InRange s.sizes (leading_sorts c) values
 
 -- A path that is a goal of the group, among so many of its block; a structure of the model; an element for each havoc
--- of the path, and an end.
+-- of the path, none of which is of a relation in a model; and an end.
 pub record IsExecution (m : ModelTree) (group : Head) (paths : ℕ) (shown : Counterexample) (after : Option Tables)
     : Type 0 where
   pub goal : shown.goal ≡ goal_at group shown.trace.path
@@ -52,6 +55,8 @@ pub record IsExecution (m : ModelTree) (group : Head) (paths : ℕ) (shown : Cou
   pub count : paths ≡ length (stage_paths m group.stage)
   pub structure : FitsStructure (symbols m.signature) shown.structure
   pub sizes : All IsSize shown.structure.sizes
+  pub taken : length shown.trace.havoc ≡ havoc_count is_goal.path
+  pub entries : havocs_of (elements_of shown.trace.havoc) ≡ shown.trace.havoc
   pub havoc : InRange shown.structure.sizes (sorts_along (symbols m.signature) (goal_path m shown.goal))
-      shown.trace.havoc
+      (elements_of shown.trace.havoc)
   pub end : HasEnd m shown.structure group.about shown.values after

@@ -3,6 +3,7 @@ use Rattle.std.specs.Prelude.{◌≡◌, ℕ, ◌<◌, ◌≤◌, List, [], ◌�
 use Rattle.fol_sig.specs.Tables.{Tables, size_at}
 use Rattle.base.specs.Lists.{count_from}
 use Rattle.rml_command.specs.Models.{ModelTree}
+use Rattle.rml_command.specs.Elements.{elements_of}
 use Rattle.rml_command.specs.Goals.{IsGoal}
 use Rattle.rml_command.specs.declared.names.Names.{Names}
 use Rattle.rml_command.specs.declared.goal.Head.{Head}
@@ -96,4 +97,4 @@ abbrev pub block_lines : Names → About → ℕ → List ℕ → Counterexample
 block_lines names a paths least shown after =
     path_line shown.trace.path paths ∷ least ∷ codes "  before\n"
     ∷ (sort_lines names shown.structure ++ (table_lines names shown.structure
-    ++ numbers_line (codes "  havoc:") shown.trace.havoc ∷ end_lines names a shown.values after))
+    ++ numbers_line (codes "  havoc:") (elements_of shown.trace.havoc) ∷ end_lines names a shown.values after))

@@ -11,8 +11,10 @@ use Rattle.fol_sig.specs.Symbols.{Symbols, FitsStructure, symbols}
 use Rattle.fol_sig.specs.Tuples.{TuplesAreNumbered}
 use Rattle.fol_formula.specs.Syntax.{FormTree, for_all}
 use Rattle.fol_formula.specs.Fits.{FitsForm}
-use Rattle.rml_command.specs.Trees.{PrimitiveTree, assume, set_rel, set_fun, havoc, abort}
+use Rattle.rml_command.specs.Trees.{PrimitiveTree, assume, set_rel, set_fun, havoc, havoc_rel, abort}
 use Rattle.rml_command.specs.Models.{ModelTree, FitsPath, FitsModel}
+use Rattle.rml_command.specs.Elements.{elements_of, havocs_of}
+use Rattle.rml_command.specs.declared.havoc.Havoc.{Havoc}
 use Rattle.rml_command.specs.Goals.{stage_paths, goal_path, leading_sorts, HasAbout, IsGoal}
 use Rattle.rml_command.specs.Laws.{GoalPathsFit}
 use Rattle.rml_command.specs.declared.goal.Head.{Head}
@@ -44,6 +46,7 @@ use Rattle.report_read.specs.Reading.{read_execution}
 use Rattle.report_read.specs.Reading.{read_block, AreSizes}
 use Rattle.report_read.specs.declared.block.End.{End}
 use Rattle.report_read.specs.declared.block.Course.{Course}
+use Rattle.report_read.proofs.Traces.{elements-back, all-taken}
 use Rattle.report_read.proofs.Parts.{Lines, IsPart, IsLine, IsOne, IsBoth, IsMade, part_as, one_part, both_part}
 use Rattle.report_read.proofs.Parts.{made_part}
 use Rattle.report_read.proofs.HeadLines.{words_line, IsPathLine, path_line_is}
@@ -60,6 +63,7 @@ havocs_known sig (assume f ∷ qs) fits = havocs_known sig qs fits.1
 havocs_known sig (set_rel r by ∷ qs) fits = havocs_known sig qs fits.1
 havocs_known sig (set_fun f by ∷ qs) fits = havocs_known sig qs fits.1
 havocs_known sig (havoc v ∷ qs) fits = (fits.0.2, havocs_known sig qs fits.1)
+havocs_known sig (havoc_rel r ∷ qs) fits = havocs_known sig qs fits.1
 havocs_known sig (abort ∷ qs) fits = havocs_known sig qs fits.1
 
 pub along_known : (m : ModelTree) → FitsModel m → GoalPathsFit → (group : Head) (path : ℕ)
@@ -91,6 +95,9 @@ make_end t values = record { after = t; values = values }
 
 abbrev make_course : List ℕ → End → Course
 make_course elements end = record { havoc = elements; end = end }
+
+abbrev make_trace : ℕ → List Havoc → Trace
+make_trace path havocs = record { path = path; havoc = havocs }
 
 abbrev make_shown : Tables → Trace → Goal → List ℕ → Counterexample
 make_shown s trace goal values = record { structure = s; trace = trace; goal = goal; values = values }
@@ -487,7 +494,11 @@ module _ (x : ScansAreExact) (numbered_are : TuplesAreNumbered) (m : ModelTree) 
                 count = refl;
                 structure = is.4.3.0;
                 sizes = is.4.3.1;
-                havoc = is.4.4.1.0;
+                taken = all-taken m fits law (goal_at group is.0) is.3.is_goal is.4.0.sizes is.4.4.0.havoc is.4.4.1.0;
+                entries = ap havocs_of (elements-back is.4.4.0.havoc);
+                havoc = subst (InRange is.4.0.sizes
+                    (sorts_along (symbols m.signature) (goal_path m (goal_at group is.0))))
+                    (sym (elements-back is.4.4.0.havoc)) is.4.4.1.0;
                 end = is.4.4.1.1;
               };
               least = is.3.least;
@@ -498,7 +509,11 @@ module _ (x : ScansAreExact) (numbered_are : TuplesAreNumbered) (m : ModelTree) 
                   ∙ ap (λ l. (sort_lines m.names is.4.0 ++ table_lines m.names is.4.0) ++ l) is.4.4.1.2
                   ∙ append_assoc (sort_lines m.names is.4.0) (table_lines m.names is.4.0)
                   (numbers_line (codes "  havoc:") is.4.4.0.havoc
-                  ∷ end_lines m.names group.about is.4.4.0.end.values is.4.4.0.end.after));
+                  ∷ end_lines m.names group.about is.4.4.0.end.values is.4.4.0.end.after)
+                  ∙ ap (λ xs. sort_lines m.names is.4.0 ++ (table_lines m.names is.4.0
+                  ++ numbers_line (codes "  havoc:") xs
+                  ∷ end_lines m.names group.about is.4.4.0.end.values is.4.4.0.end.after))
+                  (sym (elements-back is.4.4.0.havoc)));
             },
           )
 
@@ -507,29 +522,33 @@ module _ (x : ScansAreExact) (numbered_are : TuplesAreNumbered) (m : ModelTree) 
           let is_goal : IsGoal m (goal_at group is.1.trace.path) = subst (IsGoal m) is.4.execution.goal
           is.4.execution.is_goal in
           let same : fails_of group (length (stage_paths m group.stage)) is.1.trace.path is.1.structure
-          (make_course is.1.trace.havoc (make_end is.2 is.1.values)) ≡ a =
+          (make_course (elements_of is.1.trace.havoc) (make_end is.2 is.1.values)) ≡ a =
           ap (λ k. answer.Fails k (shown_of group is.1.trace.path is.1.structure
-          (make_course is.1.trace.havoc (make_end is.2 is.1.values))) is.2) (sym is.4.execution.count)
+          (make_course (elements_of is.1.trace.havoc) (make_end is.2 is.1.values))) is.2) (sym is.4.execution.count)
+          ∙ ap (λ hs. answer.Fails is.0 (make_shown is.1.structure (make_trace is.1.trace.path hs)
+          (goal_at group is.1.trace.path) is.1.values) is.2) is.4.execution.entries
           ∙ ap (λ g. answer.Fails is.0 (make_shown is.1.structure is.1.trace g is.1.values) is.2)
           (sym is.4.execution.goal) ∙ sym is.3 in
-          let last : Lines = numbers_line (codes "  havoc:") is.1.trace.havoc
+          let last : Lines = numbers_line (codes "  havoc:") (elements_of is.1.trace.havoc)
           ∷ end_lines m.names group.about is.1.values is.2 in
           let tail : Lines = (sort_lines m.names is.1.structure ++ table_lines m.names is.1.structure) ++ last in (
             is.1.trace.path,
             path_line is.1.trace.path (length (stage_paths m group.stage)) ∷ is.4.least ∷ codes "  before\n" ∷ [],
             (sort_lines m.names is.1.structure ++ table_lines m.names is.1.structure)
-                ++ (numbers_line (codes "  havoc:") is.1.trace.havoc ∷ end_lines m.names group.about is.1.values is.2),
+                ++ (numbers_line (codes "  havoc:") (elements_of is.1.trace.havoc) ∷ end_lines m.names group.about
+                is.1.values is.2),
             record { is_goal = is_goal; least = is.4.least; is_least = is.4.is_least; text = refl },
             (
               is.1.structure,
               sort_lines m.names is.1.structure ++ table_lines m.names is.1.structure,
-              numbers_line (codes "  havoc:") is.1.trace.havoc ∷ end_lines m.names group.about is.1.values is.2,
+              numbers_line (codes "  havoc:") (elements_of is.1.trace.havoc) ∷ end_lines m.names group.about
+                  is.1.values is.2,
               (is.4.execution.structure, is.4.execution.sizes, refl),
               (
-                make_course is.1.trace.havoc (make_end is.2 is.1.values),
+                make_course (elements_of is.1.trace.havoc) (make_end is.2 is.1.values),
                 (
                   subst (λ g. InRange is.1.structure.sizes (sorts_along (symbols m.signature) (goal_path m g))
-                      is.1.trace.havoc) is.4.execution.goal is.4.execution.havoc,
+                      (elements_of is.1.trace.havoc)) is.4.execution.goal is.4.execution.havoc,
                   is.4.execution.end,
                   refl,
                 ),
@@ -540,12 +559,14 @@ module _ (x : ScansAreExact) (numbered_are : TuplesAreNumbered) (m : ModelTree) 
             is.4.text
                 ∙ ap (λ k. path_line is.1.trace.path k ∷ is.4.least ∷ codes "  before\n"
                 ∷ (sort_lines m.names is.1.structure ++ (table_lines m.names is.1.structure
-                ++ numbers_line (codes "  havoc:") is.1.trace.havoc ∷ end_lines m.names group.about is.1.values is.2)))
+                ++ numbers_line (codes "  havoc:") (elements_of is.1.trace.havoc) ∷ end_lines m.names group.about
+                is.1.values is.2)))
                 is.4.execution.count
                 ∙ ap (λ l. path_line is.1.trace.path (length (stage_paths m group.stage)) ∷ is.4.least
                 ∷ codes "  before\n" ∷ l)
                 (sym (append_assoc (sort_lines m.names is.1.structure) (table_lines m.names is.1.structure)
-                (numbers_line (codes "  havoc:") is.1.trace.havoc ∷ end_lines m.names group.about is.1.values is.2))),
+                (numbers_line (codes "  havoc:") (elements_of is.1.trace.havoc) ∷ end_lines m.names group.about
+                is.1.values is.2))),
           )
 
       pub block_part : IsPart (read_block m group) (IsBlockText m group)

@@ -6,12 +6,16 @@ use Rattle.std.specs.Prelude.{nat_lt, slice_index}
 use Rattle.std.proofs.lemmas.Bool.{ltb-true}
 use Rattle.fol_sig.specs.Tables.{Tables, InRange}
 use Rattle.fol_sig.specs.Symbols.{Symbols, FitsStructure}
+use Rattle.fol_sig.specs.TupleSets.{has_tuple, with_tuples}
 use Rattle.fol_formula.specs.Syntax.{FormTree}
-use Rattle.rml_command.specs.Trees.{PrimitiveTree, assume, set_rel, set_fun, havoc, abort}
+use Rattle.rml_command.specs.Trees.{PrimitiveTree, assume, set_rel, set_fun, havoc, havoc_rel, abort}
 use Rattle.rml_command.specs.Outcomes.{Outcome, ended, follow_path, is_true, satisfies, set_relation}
-use Rattle.rml_command.specs.Outcomes.{set_function, set_variable, range_of}
+use Rattle.rml_command.specs.Outcomes.{set_function, set_variable, range_of, are_tuples_of}
 use Rattle.rml_command.specs.Paths.{havoc_count, EndsAtAbort}
-use Rattle.rml_command.specs.Models.{FitsPath}
+use Rattle.rml_command.specs.Models.{FitsPath, FitsSteps}
+use Rattle.rml_command.specs.Elements.{elements_of}
+use Rattle.rml_command.specs.declared.havoc.Havoc.{Havoc}
+use Rattle.rml_command.specs.declared.havoc.Havoc.TheVariants.{Element, Tuples}
 use Rattle.rml_command.specs.Laws.{UpdatesKeepSymbols}
 use Rattle.printed_report.specs.Executions.{havoc_sorts}
 use Rattle.report_read.proofs.Pieces.{tested}
@@ -22,66 +26,78 @@ pub record IsEndOf (sig : Symbols) (s t : Tables) : Type 0 where
   pub sizes : t.sizes ≡ s.sizes
 
 module _ (sig : Symbols) (law : UpdatesKeepSymbols) (axioms : List FormTree) where
-  pub ends_in : (qs : List PrimitiveTree) (xs : List ℕ) (s t : Tables) → FitsPath sig qs → FitsStructure sig s
-      → follow_path axioms qs xs s ≡ Some (ended t) → IsEndOf sig s t
-  ends_in [] xs s t path fits e =
+  pub ends_in : (qs : List PrimitiveTree) (hs : List Havoc) (s t : Tables) → FitsPath sig qs → FitsStructure sig s
+      → follow_path axioms qs hs s ≡ Some (ended t) → IsEndOf sig s t
+  ends_in [] hs s t path fits e =
       let i : s ≡ t = cc e in
       record { fits = subst (FitsStructure sig) i fits; sizes = sym (ap (λ (u : Tables). u.sizes) i) }
-  ends_in (assume p ∷ qs) xs s t path fits e =
-      let a = tested (is_true s p) (follow_path axioms qs xs s) (ended t) e in
-      ends_in qs xs s t path.1 fits a.1
-  ends_in (set_rel r by ∷ qs) xs s t path fits e =
-      let a = tested (satisfies (set_relation s r by) axioms) (follow_path axioms qs xs (set_relation s r by)) (ended t)
+  ends_in (assume p ∷ qs) hs s t path fits e =
+      let a = tested (is_true s p) (follow_path axioms qs hs s) (ended t) e in
+      ends_in qs hs s t path.1 fits a.1
+  ends_in (set_rel r by ∷ qs) hs s t path fits e =
+      let a = tested (satisfies (set_relation s r by) axioms) (follow_path axioms qs hs (set_relation s r by)) (ended t)
       e in
-      let h = ends_in qs xs (set_relation s r by) t path.1 (law.relation sig s r by path.0 fits) a.1 in
+      let h = ends_in qs hs (set_relation s r by) t path.1 (law.relation sig s r by path.0 fits) a.1 in
       record { fits = h.fits; sizes = h.sizes }
-  ends_in (set_fun f by ∷ qs) xs s t path fits e =
-      let a = tested (satisfies (set_function s f by) axioms) (follow_path axioms qs xs (set_function s f by)) (ended t)
+  ends_in (set_fun f by ∷ qs) hs s t path fits e =
+      let a = tested (satisfies (set_function s f by) axioms) (follow_path axioms qs hs (set_function s f by)) (ended t)
       e in
-      let h = ends_in qs xs (set_function s f by) t path.1 (law.function sig s f by path.0 fits) a.1 in
+      let h = ends_in qs hs (set_function s f by) t path.1 (law.function sig s f by path.0 fits) a.1 in
       record { fits = h.fits; sizes = h.sizes }
   ends_in (havoc v ∷ qs) [] s t path fits e = absurd (cc e)
-  ends_in (havoc v ∷ qs) (x ∷ xs) s t path fits e =
+  ends_in (havoc v ∷ qs) (Element x ∷ hs) s t path fits e =
       let a = tested (nat_lt x (range_of s v))
-      (cond (satisfies (set_variable s v x) axioms) (follow_path axioms qs xs (set_variable s v x)) None) (ended t) e in
-      let b = tested (satisfies (set_variable s v x) axioms) (follow_path axioms qs xs (set_variable s v x)) (ended t)
+      (cond (satisfies (set_variable s v x) axioms) (follow_path axioms qs hs (set_variable s v x)) None) (ended t) e in
+      let b = tested (satisfies (set_variable s v x) axioms) (follow_path axioms qs hs (set_variable s v x)) (ended t)
       a.1 in
-      let h = ends_in qs xs (set_variable s v x) t path.1
+      let h = ends_in qs hs (set_variable s v x) t path.1
       (law.variable sig s v x path.0 (ltb-true x (range_of s v) a.0) fits) b.1 in
       record { fits = h.fits; sizes = h.sizes }
-  ends_in (abort ∷ qs) xs s t path fits e = absurd (cc e)
+  ends_in (havoc v ∷ qs) (Tuples xss ∷ hs) s t path fits e = absurd (cc e)
+  ends_in (havoc_rel r ∷ qs) [] s t path fits e = absurd (cc e)
+  ends_in (havoc_rel r ∷ qs) (Element x ∷ hs) s t path fits e = absurd (cc e)
+  ends_in (havoc_rel r ∷ qs) (Tuples xss ∷ hs) s t path fits e =
+      let new = with_tuples s r xss in
+      let a = tested (are_tuples_of s r xss)
+      (cond (satisfies new axioms) (follow_path axioms qs hs new) None) (ended t) e in
+      let b = tested (satisfies new axioms) (follow_path axioms qs hs new) (ended t) a.1 in
+      let h = ends_in qs hs new t path.1 (law.table sig s r (has_tuple xss) path.0 fits) b.1 in
+      record { fits = h.fits; sizes = h.sizes }
+  ends_in (abort ∷ qs) hs s t path fits e = absurd (cc e)
 
-  -- an element for each havoc
-  pub elements_fit : (qs : List PrimitiveTree) (xs : List ℕ) (s : Tables) (o : Outcome) → FitsPath sig qs
-      → EndsAtAbort qs → FitsStructure sig s → length xs ≡ havoc_count qs → follow_path axioms qs xs s ≡ Some o
-      → InRange s.sizes (havoc_sorts sig qs) xs
+  -- an element for each havoc, where no relation is havocked
+  pub elements_fit : (qs : List PrimitiveTree) (hs : List Havoc) (s : Tables) (o : Outcome) → FitsSteps sig qs
+      → EndsAtAbort qs → FitsStructure sig s → length hs ≡ havoc_count qs → follow_path axioms qs hs s ≡ Some o
+      → InRange s.sizes (havoc_sorts sig qs) (elements_of hs)
   elements_fit [] [] s o path last fits count e = tt
-  elements_fit [] (x ∷ xs) s o path last fits count e = absurd (omega (arith, count))
-  elements_fit (assume p ∷ qs) xs s o path last fits count e =
-      let a = tested (is_true s p) (follow_path axioms qs xs s) o e in
-      elements_fit qs xs s o path.1 last.1 fits count a.1
-  elements_fit (set_rel r by ∷ qs) xs s o path last fits count e =
-      let a = tested (satisfies (set_relation s r by) axioms) (follow_path axioms qs xs (set_relation s r by)) o e in
-      elements_fit qs xs (set_relation s r by) o path.1 last.1 (law.relation sig s r by path.0 fits) count a.1
-  elements_fit (set_fun f by ∷ qs) xs s o path last fits count e =
-      let a = tested (satisfies (set_function s f by) axioms) (follow_path axioms qs xs (set_function s f by)) o e in
-      elements_fit qs xs (set_function s f by) o path.1 last.1 (law.function sig s f by path.0 fits) count a.1
+  elements_fit [] (h ∷ hs) s o path last fits count e = absurd (omega (arith, count))
+  elements_fit (assume p ∷ qs) hs s o path last fits count e =
+      let a = tested (is_true s p) (follow_path axioms qs hs s) o e in
+      elements_fit qs hs s o path.1 last.1 fits count a.1
+  elements_fit (set_rel r by ∷ qs) hs s o path last fits count e =
+      let a = tested (satisfies (set_relation s r by) axioms) (follow_path axioms qs hs (set_relation s r by)) o e in
+      elements_fit qs hs (set_relation s r by) o path.1 last.1 (law.relation sig s r by path.0 fits) count a.1
+  elements_fit (set_fun f by ∷ qs) hs s o path last fits count e =
+      let a = tested (satisfies (set_function s f by) axioms) (follow_path axioms qs hs (set_function s f by)) o e in
+      elements_fit qs hs (set_function s f by) o path.1 last.1 (law.function sig s f by path.0 fits) count a.1
   elements_fit (havoc v ∷ qs) [] s o path last fits count e = absurd (cc e)
-  elements_fit (havoc v ∷ qs) (x ∷ xs) s o path last fits count e =
+  elements_fit (havoc v ∷ qs) (Element x ∷ hs) s o path last fits count e =
       let a = tested (nat_lt x (range_of s v))
-      (cond (satisfies (set_variable s v x) axioms) (follow_path axioms qs xs (set_variable s v x)) None) o e in
-      let b = tested (satisfies (set_variable s v x) axioms) (follow_path axioms qs xs (set_variable s v x)) o a.1 in
+      (cond (satisfies (set_variable s v x) axioms) (follow_path axioms qs hs (set_variable s v x)) None) o e in
+      let b = tested (satisfies (set_variable s v x) axioms) (follow_path axioms qs hs (set_variable s v x)) o a.1 in
       let lt : x < range_of s v = ltb-true x (range_of s v) a.0 in (
         subst (λ k. x < slice_index s.sizes k) (sym (fits.into_of v path.0.0)) lt,
-        elements_fit qs xs (set_variable s v x) o path.1 last.1 (law.variable sig s v x path.0 lt fits)
+        elements_fit qs hs (set_variable s v x) o path.1 last.1 (law.variable sig s v x path.0 lt fits)
             (omega (arith, count)) b.1,
       )
-  elements_fit (abort ∷ qs) xs s o path last fits count e =
+  elements_fit (havoc v ∷ qs) (Tuples xss ∷ hs) s o path last fits count e = absurd (cc e)
+  elements_fit (havoc_rel r ∷ qs) hs s o path last fits count e = absurd path.0
+  elements_fit (abort ∷ qs) hs s o path last fits count e =
       let none : qs ≡ [] = last.0 refl in
-      after_abort xs (subst (λ (ps : List PrimitiveTree). length xs ≡ havoc_count ps) none count)
+      after_abort hs (subst (λ (ps : List PrimitiveTree). length hs ≡ havoc_count ps) none count)
       (ap (havoc_sorts sig) none)
     where
-      after_abort : (ys : List ℕ) → length ys ≡ 0 → havoc_sorts sig qs ≡ []
-          → InRange s.sizes (havoc_sorts sig qs) ys
+      after_abort : (left : List Havoc) → length left ≡ 0 → havoc_sorts sig qs ≡ []
+          → InRange s.sizes (havoc_sorts sig qs) (elements_of left)
       after_abort [] zero none = subst (λ ks. InRange s.sizes ks []) (sym none) tt
-      after_abort (y ∷ ys) zero none = absurd (omega (arith, zero))
+      after_abort (h ∷ left) zero none = absurd (omega (arith, zero))

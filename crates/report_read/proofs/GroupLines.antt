@@ -38,8 +38,8 @@ use Rattle.report_read.specs.LineReading.{on, has_goal, has_goal_among, head_in,
 use Rattle.report_read.specs.Reading.{passing, read_axioms, read_head, read_answer, read_said, group_of, read_group}
 use Rattle.report_read.specs.Reading.{read_groups, read_verdict, printed_of, read_lines, ended, read_nothing, read_all}
 use Rattle.report_read.specs.Laws.{ReadingIsExact, PrintedIsOne}
-use Rattle.report_read.specs.declared.heads.Head.{Head}
-use Rattle.report_read.specs.declared.heads.Head.TheVariants as head
+use Rattle.report_read.specs.declared.heads.Standing.{Standing}
+use Rattle.report_read.specs.declared.heads.Standing.TheVariants as head
 use Rattle.report_read.proofs.Parts.{Lines, left, IsPart, IsOne, IsBoth, IsMade, IsNothing, part_as, nothing, one_part}
 use Rattle.report_read.proofs.Parts.{both_part, made_part, got_value, stuck_rest}
 use Rattle.report_read.proofs.HeadLines.{IsHead, head_line_is, verdict_line}
@@ -131,15 +131,15 @@ about_groups m =
 module _ (x : ScansAreExact) (numbered_are : TuplesAreNumbered) (m : ModelTree) (ok : IsSignature m.signature)
     (fits : FitsModel m) (law : GoalPathsFit) (few : (s : Stage) → length (stage_paths m s) ≤ 4096) where
   module _ (group : Head) (has : HasAbout m group.stage group.about) where
-    abbrev HeadOf : Head → List ℕ → Type 0
+    abbrev HeadOf : Standing → List ℕ → Type 0
     HeadOf = IsHead x m group has (few group.stage)
 
-    abbrev AnswerOf : Head → ℕ → PrintedAnswer → Lines → Type 0
+    abbrev AnswerOf : Standing → ℕ → PrintedAnswer → Lines → Type 0
     AnswerOf head.Holds = IsNothing answer.Holds
     AnswerOf head.Fails = IsBlockText m group
     AnswerOf head.Undecided = IsNothing answer.Undecided
 
-    answer_part : (h : Head) (line : List ℕ) → HeadOf h line → IsPart (read_answer m group h) (AnswerOf h)
+    answer_part : (h : Standing) (line : List ℕ) → HeadOf h line → IsPart (read_answer m group h) (AnswerOf h)
     answer_part head.Holds line is = nothing answer.Holds
     answer_part head.Fails line is =
         let g = some_goal m group has is.1 in
@@ -149,7 +149,7 @@ module _ (x : ScansAreExact) (numbered_are : TuplesAreNumbered) (m : ModelTree) 
     abbrev SaidFrom : ℕ → PrintedAnswer → Lines → Type 0
     SaidFrom = IsBoth (IsOne HeadOf) AnswerOf
 
-    said_by : (n : ℕ) (a : PrintedAnswer) (h : Head) (line : List ℕ) (back lines : Lines) → HeadOf h line
+    said_by : (n : ℕ) (a : PrintedAnswer) (h : Standing) (line : List ℕ) (back lines : Lines) → HeadOf h line
         → AnswerOf h n a back → lines ≡ line ∷ back → Says m group a lines
     said_by n a head.Holds line back lines is next cut =
         subst (λ b. Says m group b lines) next.0

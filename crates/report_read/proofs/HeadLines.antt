@@ -22,8 +22,8 @@ use Rattle.printed_report.specs.PrintedReports.{head_line}
 use Rattle.report_read.specs.LineReading.{choose, on, behind_counted, behind_cause, ends, is_goal_path, is_goal_at}
 use Rattle.report_read.specs.LineReading.{has_goal, is_open_path, head_end, head_in, path_end, path_in, words_in}
 use Rattle.report_read.specs.LineReading.{verdict_in}
-use Rattle.report_read.specs.declared.heads.Head.{Head}
-use Rattle.report_read.specs.declared.heads.Head.TheVariants as head
+use Rattle.report_read.specs.declared.heads.Standing.{Standing}
+use Rattle.report_read.specs.declared.heads.Standing.TheVariants as head
 use Rattle.report_read.proofs.Pieces.{apart3, apart5, tested, passed_test, numbered_below, behind_then, number_then}
 use Rattle.report_read.proofs.Parts.{IsLine}
 use Rattle.report_read.proofs.LineLaws.{chosen, taken, kept, same_words, are_words, other_words, counted_end}
@@ -184,7 +184,7 @@ module _ (x : ScansAreExact) where
     }
 
     -- the line of a head
-    abbrev pub IsHead : Head → List ℕ → Type 0
+    abbrev pub IsHead : Standing → List ℕ → Type 0
     IsHead head.Holds line = line ≡ head_line m group (codes ": holds\n")
     IsHead head.Fails line = (line ≡ head_line m group (codes ": fails\n")) × (has_goal m group ≡ true)
     IsHead head.Undecided line = IsUndecidedLine m group line
@@ -217,7 +217,7 @@ module _ (x : ScansAreExact) where
         (codes ": holds\n") found refl) in
         let b = other_words (codes ": fails\n") bs (not_words x (codes ": undecided path ") rest bs
         (codes ": fails\n") found refl) in
-        let end : Option Head = on (behind (codes ": undecided path ") bs)
+        let end : Option Standing = on (behind (codes ": undecided path ") bs)
         (λ a. cond (is_open_path m group a) (Some head.Undecided) None) in
         ap (head_end m group)
         (apart5 (codes ": undecided path ") (decimal path) (codes " ") (cause_text c) (codes "\n"))
@@ -226,7 +226,7 @@ module _ (x : ScansAreExact) where
         ∙ ap (λ t. cond t (cond (has_goal m group) (Some head.Fails) None) end) b
         ∙ ap (λ t. cond t (Some head.Undecided) None) (open_path_there path c is can)
 
-    head_there : (h : Head) (line : List ℕ) → IsHead h line → head_in m group line ≡ Some h
+    head_there : (h : Standing) (line : List ℕ) → IsHead h line → head_in m group line ≡ Some h
     head_there head.Holds line is = head_there_end line (codes ": holds\n") is
     head_there head.Fails line is =
         head_there_end line (codes ": fails\n") is.0 ∙ ap (λ t. cond t (Some head.Fails) None) is.1
@@ -253,7 +253,7 @@ module _ (x : ScansAreExact) where
               (behind_then x (codes " ") a.value.1 d.value (cause_text h.cause_is ++ codes "\n") d.found h.text),
         )
 
-    open_sound : (line bs : List ℕ) (h : Head) → line ≡ head_line m group bs
+    open_sound : (line bs : List ℕ) (h : Standing) → line ≡ head_line m group bs
         → on (behind (codes ": undecided path ") bs) (λ a. cond (is_open_path m group a) (Some head.Undecided) None)
         ≡ Some h → IsHead h line
     unfolding undecided_text
@@ -270,7 +270,7 @@ module _ (x : ScansAreExact) where
         subst (λ g. IsHead g line) k.value
         (record { path = u.0; cause = u.1; goal = u.2; can = u.3; text = is ∙ ap (head_line m group) text })
 
-    head_end_sound : (line bs : List ℕ) (h : Head) → line ≡ head_line m group bs → head_end m group bs ≡ Some h
+    head_end_sound : (line bs : List ℕ) (h : Standing) → line ≡ head_line m group bs → head_end m group bs ≡ Some h
         → IsHead h line
     head_end_sound line bs h is e =
         by (bytes_eq bs (codes ": holds\n")) (bytes_eq bs (codes ": fails\n")) refl refl e
@@ -288,7 +288,7 @@ module _ (x : ScansAreExact) where
             (is ∙ ap (head_line m group) (are_words (codes ": fails\n") bs j), k.test)
         by false false i j f = open_sound line bs h is f
 
-    head_sound : (line : List ℕ) (h : Head) → head_in m group line ≡ Some h → IsHead h line
+    head_sound : (line : List ℕ) (h : Standing) → head_in m group line ≡ Some h → IsHead h line
     unfolding head_text
     head_sound line h e =
         let a = taken (behind (stage_text m.names group.stage) line)

@@ -9,6 +9,7 @@ mod TableLines
 mod SizeLines
 mod Fitting
 mod TableParts
+mod Traces
 mod BlockLines
 mod GroupLines
 mod Lengths

@@ -11,7 +11,9 @@ use Rattle.fol_sig.specs.Tables.{Tables, InRange, size_at}
 use Rattle.fol_sig.specs.Symbols.{FitsStructure, symbols}
 use Rattle.fol_sig.specs.Tuples.{join_below}
 use Rattle.rml_command.specs.Trees.{PrimitiveTree}
-use Rattle.rml_command.specs.Models.{ModelTree, FitsPath}
+use Rattle.rml_command.specs.Models.{ModelTree, FitsPath, FitsSteps}
+use Rattle.rml_command.specs.Elements.{elements_of, havocs_of, TracesAreElements}
+use Rattle.rml_command.specs.Paths.{havoc_count}
 use Rattle.rml_command.specs.Fragment.{IsChecked}
 use Rattle.rml_command.specs.Outcomes.{Outcome, ended, aborted, follow_path}
 use Rattle.rml_command.specs.Goals.{stage_paths, goal_path, leading_sorts, IsGoal, FailsGoal}
@@ -107,7 +109,7 @@ in_range_small sizes small (k ∷ ks) [] h = absurd h
 in_range_small sizes small (k ∷ ks) (x ∷ xs) h = (omega (arith, h.0, small k), in_range_small sizes small ks xs h.1)
 
 module _ (cuts : LinesAreCut) (updates : UpdatesKeepSymbols) (law : GoalPathsFit) (ends : PathsEndAtAbort)
-    (m : ModelTree) (ok : IsChecked m) (plain : HasPlainNames m.names) where
+    (traces : TracesAreElements) (m : ModelTree) (ok : IsChecked m) (plain : HasPlainNames m.names) where
   -- a structure's lines
   module _ (s : Tables) (fits : FitsStructure (symbols m.signature) s) (sizes : All IsSize s.sizes) where
     small : (k : ℕ) → slice_index s.sizes k ≤ most
@@ -132,6 +134,9 @@ module _ (cuts : LinesAreCut) (updates : UpdatesKeepSymbols) (law : GoalPathsFit
     abbrev path : List PrimitiveTree
     path = is.refutation.refutes.path
 
+    steps_fit : FitsSteps (symbols m.signature) is.refutation.refutes.path
+    steps_fit = law.steps_fit m shown.goal is.refutation.refutes.path ok.model.fits is.refutation.refutes.is_path
+
     path_fits : FitsPath (symbols m.signature) is.refutation.refutes.path
     path_fits = law.symbols_fit m shown.goal is.refutation.refutes.path ok.model.fits is.refutation.refutes.is_path
 
@@ -151,16 +156,27 @@ module _ (cuts : LinesAreCut) (updates : UpdatesKeepSymbols) (law : GoalPathsFit
     has_outcome about.Abort o f = (aborted, f.0)
     has_outcome (about.Conjecture k) o f = (ended f.1, f.3)
 
+    taken : havocs_of (elements_of shown.trace.havoc) ≡ shown.trace.havoc
+    taken =
+        let o = has_outcome group.about (outcome_of m shown) fails in
+        traces.taken (symbols m.signature) m.axioms is.refutation.refutes.path shown.trace.havoc shown.structure o.0
+        steps_fit (ends.goals m shown.goal is.refutation.refutes.path is.refutation.refutes.is_path)
+        is.refutation.refutes.count (sym outcome ∙ o.1)
+
     in_range : InRange shown.structure.sizes
-        (sorts_along (symbols m.signature) (goal_path m shown.goal)) shown.trace.havoc
+        (sorts_along (symbols m.signature) (goal_path m shown.goal)) (elements_of shown.trace.havoc)
     in_range =
         let o = has_outcome group.about (outcome_of m shown) fails in
-        subst (λ p. InRange shown.structure.sizes (sorts_along (symbols m.signature) p) shown.trace.havoc)
-        (sym is.refutation.refutes.is_path)
+        subst (λ p. InRange shown.structure.sizes (sorts_along (symbols m.signature) p)
+        (elements_of shown.trace.havoc)) (sym is.refutation.refutes.is_path)
         (elements_fit (symbols m.signature) updates m.axioms is.refutation.refutes.path shown.trace.havoc
-        shown.structure o.0 path_fits
+        shown.structure o.0 steps_fit
         (ends.goals m shown.goal is.refutation.refutes.path is.refutation.refutes.is_path)
         is.refutation.refutes.structure is.refutation.refutes.count (sym outcome ∙ o.1))
+
+    -- the path is that of the goal
+    same_path : is.refutation.refutes.path ≡ is.refutation.goal.path
+    same_path = let e = sym is.refutation.refutes.is_path ∙ is.refutation.goal.is_path in cc e
 
     -- how it ends
     end_is : (t : Tables) → outcome_of m shown ≡ Some (ended t) → IsEndOf (symbols m.signature) shown.structure t
@@ -190,6 +206,8 @@ module _ (cuts : LinesAreCut) (updates : UpdatesKeepSymbols) (law : GoalPathsFit
       count = count;
       structure = is.refutation.refutes.structure;
       sizes = sizes;
+      taken = is.refutation.refutes.count ∙ ap havoc_count same_path;
+      entries = taken;
       havoc = in_range;
       end = has_end group.about (outcome_of m shown) refl fails;
     }
@@ -217,10 +235,10 @@ module _ (cuts : LinesAreCut) (updates : UpdatesKeepSymbols) (law : GoalPathsFit
         (end_of group.about (outcome_of m shown)))
         ≡ path_line shown.trace.path paths ++ (least_line m.names l ++ (codes "  before\n"
         ++ (sorts_text m.names shown.structure ++ (tables_text m.names shown.structure
-        ++ (numbers_line (codes "  havoc:") shown.trace.havoc ++ outcome_text m group.about shown)))))
+        ++ (numbers_line (codes "  havoc:") (elements_of shown.trace.havoc) ++ outcome_text m group.about shown)))))
     join_block l =
         let s : Tables = shown.structure in
-        let havoc : List ℕ = numbers_line (codes "  havoc:") shown.trace.havoc in
+        let havoc : List ℕ = numbers_line (codes "  havoc:") (elements_of shown.trace.havoc) in
         let last : Lines = end_lines m.names group.about shown.values (end_of group.about (outcome_of m shown)) in
         ap (λ t. path_line shown.trace.path paths ++ (least_line m.names l ++ (codes "  before\n" ++ t)))
         (join_append (sort_lines m.names s) (table_lines m.names s ++ havoc ∷ last)
@@ -237,7 +255,7 @@ module _ (cuts : LinesAreCut) (updates : UpdatesKeepSymbols) (law : GoalPathsFit
     unfolding block_text execution_text
     block_is l =
         let s : Tables = shown.structure in
-        let havoc : List ℕ = numbers_line (codes "  havoc:") shown.trace.havoc in
+        let havoc : List ℕ = numbers_line (codes "  havoc:") (elements_of shown.trace.havoc) in
         apart4 (codes ": fails\n") (path_line shown.trace.path paths) (least_line m.names l)
         ((((codes "  before\n" ++ sorts_text m.names s) ++ tables_text m.names s) ++ havoc)
         ++ outcome_text m group.about shown)
@@ -292,14 +310,15 @@ module _ (cuts : LinesAreCut) (updates : UpdatesKeepSymbols) (law : GoalPathsFit
             (
               refl,
               all_append Whole (sort_lines m.names s)
-                  (table_lines m.names s ++ numbers_line (codes "  havoc:") shown.trace.havoc ∷ last)
+                  (table_lines m.names s ++ numbers_line (codes "  havoc:") (elements_of shown.trace.havoc) ∷ last)
                   (whole_sorts s fs sizes)
-                  (all_append Whole (table_lines m.names s) (numbers_line (codes "  havoc:") shown.trace.havoc ∷ last)
+                  (all_append Whole (table_lines m.names s)
+                  (numbers_line (codes "  havoc:") (elements_of shown.trace.havoc) ∷ last)
                   (whole_tables s fs sizes) (
-                    whole_numbers (codes "  havoc:") shown.trace.havoc refl
+                    whole_numbers (codes "  havoc:") (elements_of shown.trace.havoc) refl
                         (in_range_small s.sizes (small s fs sizes)
                         (sorts_along (symbols m.signature) (goal_path m shown.goal))
-                        shown.trace.havoc in_range),
+                        (elements_of shown.trace.havoc) in_range),
                     whole_end group.about (outcome_of m shown) refl fails (values_small group.about execution.end),
                   )),
             ),
@@ -367,12 +386,12 @@ module _ (cuts : LinesAreCut) (updates : UpdatesKeepSymbols) (law : GoalPathsFit
   answer_joined (reported.Undecided path cause) group right can head = append-nil (head ++ undecided_text path cause)
 
   -- all groups
-  abbrev all_lines : List report.Head → Lines
+  abbrev all_lines : List report.Group → Lines
   all_lines [] = []
   all_lines (g ∷ gs) = group_lines m g ++ all_lines gs
 
-  groups_are : (gs : List report.Head) (n : ℕ) → AllByRecursion (IsRight m) gs
-      → AllByRecursion (λ (g : report.Head). CanPrint m g.answer) gs
+  groups_are : (gs : List report.Group) (n : ℕ) → AllByRecursion (IsRight m) gs
+      → AllByRecursion (λ (g : report.Group). CanPrint m g.answer) gs
       → AreGroups m n (map head_of gs) (printed_groups m n gs) (all_lines gs)
   groups_are [] n right can = refl
   groups_are (g ∷ gs) n right can = (
@@ -383,15 +402,15 @@ module _ (cuts : LinesAreCut) (updates : UpdatesKeepSymbols) (law : GoalPathsFit
     refl,
   )
 
-  groups_whole : (gs : List report.Head) → AllByRecursion (IsRight m) gs
-      → AllByRecursion (λ (g : report.Head). CanPrint m g.answer) gs → AllByRecursion Whole (all_lines gs)
+  groups_whole : (gs : List report.Group) → AllByRecursion (IsRight m) gs
+      → AllByRecursion (λ (g : report.Group). CanPrint m g.answer) gs → AllByRecursion Whole (all_lines gs)
   groups_whole [] right can = tt
   groups_whole (g ∷ gs) right can =
       all_append Whole (group_lines m g) (all_lines gs) (answer_whole g.answer (head_of g) right.0 can.0)
       (groups_whole gs right.1 can.1)
 
-  groups_joined : (gs : List report.Head) → AllByRecursion (IsRight m) gs
-      → AllByRecursion (λ (g : report.Head). CanPrint m g.answer) gs
+  groups_joined : (gs : List report.Group) → AllByRecursion (IsRight m) gs
+      → AllByRecursion (λ (g : report.Group). CanPrint m g.answer) gs
       → join (all_lines gs) ≡ flat_map (group_text m) gs
   unfolding group_text
   groups_joined [] right can = refl
@@ -436,6 +455,7 @@ module _ (cuts : LinesAreCut) (updates : UpdatesKeepSymbols) (law : GoalPathsFit
       (sym (cuts.cut (report_lines r) (report_whole r right can)) ∙ ap lines_of (report_joined r right can))
       (report_printed r right can)
 
-pub are_printed : LinesAreCut → UpdatesKeepSymbols → GoalPathsFit → PathsEndAtAbort → ReportsArePrinted
-are_printed cuts updates law ends = λ m r ok right can.
-    text_printed cuts updates law ends m ok can.names r right can
+pub are_printed : LinesAreCut → UpdatesKeepSymbols → GoalPathsFit → PathsEndAtAbort → TracesAreElements
+    → ReportsArePrinted
+are_printed cuts updates law ends traces = λ m r ok right can.
+    text_printed cuts updates law ends traces m ok can.names r right can

@@ -16,8 +16,8 @@ use Rattle.rml_report.specs.TableText.{tuple_text}
 use Rattle.rml_report.specs.declared.report.Verdict.{Verdict}
 use Rattle.rml_report.specs.declared.report.Verdict.TheVariants as verdict
 use Rattle.line_scan.specs.Scanning.{behind, number_at, is_end, most}
-use Rattle.report_read.specs.declared.heads.Head.{Head}
-use Rattle.report_read.specs.declared.heads.Head.TheVariants as head
+use Rattle.report_read.specs.declared.heads.Standing.{Standing}
+use Rattle.report_read.specs.declared.heads.Standing.TheVariants as head
 
 -- what is made of what was found, or something else
 abbrev pub choose : {A B : Type 0} → Option A → (A → B) → B → B
@@ -104,13 +104,13 @@ is_open_path m group bs =
     false
 
 -- what stands behind the stage and what it is about
-abbrev pub head_end : ModelTree → Head → List ℕ → Option Head
+abbrev pub head_end : ModelTree → Head → List ℕ → Option Standing
 head_end m group bs =
     if bytes_eq bs (codes ": holds\n") then Some head.Holds
     else (if bytes_eq bs (codes ": fails\n") then (if has_goal m group then Some head.Fails else None)
     else on (behind (codes ": undecided path ") bs) (λ a. if is_open_path m group a then Some head.Undecided else None))
 
-abbrev pub head_in : ModelTree → Head → List ℕ → Option Head
+abbrev pub head_in : ModelTree → Head → List ℕ → Option Standing
 head_in m group line =
     on (behind (stage_text m.names group.stage) line) (λ a. on (behind (about_text m.names group.about) a)
     (head_end m group))

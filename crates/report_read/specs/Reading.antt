@@ -6,6 +6,7 @@ use Rattle.fol_sig.specs.Symbols.{FitsStructure, symbols}
 use Rattle.fol_sig.specs.Updates.{with_relation_cells, with_function_cells}
 use Rattle.fol_formula.specs.Syntax.{FormTree}
 use Rattle.rml_command.specs.Models.{ModelTree}
+use Rattle.rml_command.specs.Elements.{havocs_of}
 use Rattle.rml_command.specs.Goals.{stage_paths, goal_path, leading_sorts, groups_of}
 use Rattle.rml_command.specs.declared.names.Names.{Names}
 use Rattle.rml_command.specs.declared.goal.Head.{Head}
@@ -30,8 +31,8 @@ use Rattle.printed_report.specs.declared.printed.PrintedAnswer.TheVariants as an
 use Rattle.report_read.specs.Got.{Got, got, stuck, one, and_then}
 use Rattle.report_read.specs.LineReading.{is_axioms_line, is_least_line, head_in, path_in, size_in, elements_in}
 use Rattle.report_read.specs.LineReading.{truths_in, values_in, words_in, verdict_in}
-use Rattle.report_read.specs.declared.heads.Head.{Head}
-use Rattle.report_read.specs.declared.heads.Head.TheVariants as head
+use Rattle.report_read.specs.declared.heads.Standing.{Standing}
+use Rattle.report_read.specs.declared.heads.Standing.TheVariants as head
 use Rattle.report_read.specs.declared.block.End.{End}
 use Rattle.report_read.specs.declared.block.Course.{Course}
 
@@ -148,7 +149,7 @@ read_course m goal s left =
 abbrev pub shown_of : Head → ℕ → Tables → Course → Counterexample
 shown_of group path s course = record {
   structure = s;
-  trace = record { path = path; havoc = course.havoc };
+  trace = record { path = path; havoc = havocs_of course.havoc };
   goal = goal_at group path;
   values = course.end.values;
 }
@@ -167,10 +168,10 @@ read_block m group left =
     and_then (read_opening m group (length (stage_paths m group.stage)) left)
     (read_execution m group (length (stage_paths m group.stage)))
 
-abbrev pub read_head : ModelTree → Head → LinesLeft → Got Head
+abbrev pub read_head : ModelTree → Head → LinesLeft → Got Standing
 read_head m group left = one (head_in m group (first_of left.lines)) left
 
-abbrev pub read_answer : ModelTree → Head → Head → LinesLeft → Got PrintedAnswer
+abbrev pub read_answer : ModelTree → Head → Standing → LinesLeft → Got PrintedAnswer
 read_answer m group head.Holds left = got answer.Holds left
 read_answer m group head.Fails left = read_block m group left
 read_answer m group head.Undecided left = got answer.Undecided left

@@ -8,7 +8,7 @@ ghost use Rattle.report_read.specs.LineReading.{path_end, path_in};
 ghost use Rattle.report_read.specs.Reading.{Reads, read_words, read_path, read_least, read_opening};
 ghost use Rattle.report_read.specs.Reading.{read_structure, read_elements, read_havoc, read_values};
 ghost use Rattle.report_read.specs.Reading.{read_end_tables, read_after, read_abort, read_end, read_course};
-ghost use Rattle.report_read.specs.Reading.{read_execution, read_block};
+ghost use Rattle.report_read.specs.Reading.{fails_of, read_execution, read_block};
 
 use crate::elements::{elements_in, havoc_sorts, value_sorts};
 use crate::goals::{is_goal, path_count};
@@ -19,7 +19,7 @@ use base::{Mem, Refused, Row};
 use fol_sig::{Sort, Structure};
 use line_scan::Scan;
 use printed_report::{PrintedAnswer, Unread};
-use rml_command::{About, Checked, Goal, Stage};
+use rml_command::{About, Checked, Goal, Stage, havocs_of};
 use rml_exec::{Counterexample, Trace};
 use std::alloc::Global;
 
@@ -268,6 +268,39 @@ fn read_course(
     Ok(Course { havoc, end })
 }
 
+// What is shown of a group that fails.
+fn fails_of(
+    alloc: Global,
+    goal: &Goal,
+    paths: u32,
+    structure: Structure,
+    course: Course,
+) -> Mem<PrintedAnswer>
+    ensures { IfOk result (λ answer. answer ≡ fails_of (record { stage = goal.now.stage; about = goal.now.about })
+        paths goal.now.path structure course) }
+{
+    match havocs_of(alloc, course.havoc.as_slice()) {
+        Ok(havoc) => Ok(PrintedAnswer::Fails {
+            paths,
+            shown: Counterexample {
+                structure,
+                trace: Trace {
+                    path: goal.path,
+                    havoc,
+                },
+                goal: *goal,
+                values: course.end.values,
+            },
+            after: course.end.after,
+        }),
+        Err(wanting) => {
+            drop(structure);
+            drop(course);
+            Err(wanting)
+        }
+    }
+}
+
 // The structure, the elements and the end.
 fn read_execution(
     reader: &mut Reader,
@@ -280,21 +313,11 @@ fn read_execution(
         paths goal.now.path reader.old) reader.new result }
 {
     let structure = read_structure(reader, checked)?;
-    let path = goal.path;
     match read_course(reader, checked, goal, &structure) {
-        Ok(course) => Ok(PrintedAnswer::Fails {
-            paths,
-            shown: Counterexample {
-                structure,
-                trace: Trace {
-                    path,
-                    havoc: course.havoc,
-                },
-                goal: *goal,
-                values: course.end.values,
-            },
-            after: course.end.after,
-        }),
+        Ok(course) => {
+            let answer = fails_of(reader.alloc(), goal, paths, structure, course)?;
+            Ok(answer)
+        }
         Err(refused) => {
             drop(structure);
             Err(refused)

@@ -5,7 +5,7 @@ ghost use Rattle.report_read.specs.Reading.{Reads, IsBeforeFinal, read_head, rea
 ghost use Rattle.report_read.specs.Reading.{read_groups};
 
 use crate::block::read_block;
-use crate::heads::{Head, head_in};
+use crate::heads::{Standing, head_in};
 use crate::reader::Reader;
 use base::{Refused, Row};
 use printed_report::{PrintedAnswer, PrintedGroup, Unread};
@@ -16,7 +16,7 @@ fn read_head(
     checked: &Checked,
     stage: Stage,
     about: About,
-) -> Result<Head, Refused<Unread>>
+) -> Result<Standing, Refused<Unread>>
     ensures { Reads (read_head checked.now (record { stage = stage; about = about }) reader.old) reader.new result }
 {
     let Some(head) = head_in(reader.first(), checked, stage, about) else {
@@ -31,16 +31,16 @@ fn read_answer(
     checked: &Checked,
     stage: Stage,
     about: About,
-    head: Head,
+    head: Standing,
 ) -> Result<PrintedAnswer, Refused<Unread>>
     requires { HasAbout checked.now stage about }
     ensures { Reads (read_answer checked.now (record { stage = stage; about = about }) head reader.old) reader.new
         result }
 {
     match head {
-        Head::Holds => Ok(PrintedAnswer::Holds),
-        Head::Fails => read_block(reader, checked, stage, about),
-        Head::Undecided => Ok(PrintedAnswer::Undecided),
+        Standing::Holds => Ok(PrintedAnswer::Holds),
+        Standing::Fails => read_block(reader, checked, stage, about),
+        Standing::Undecided => Ok(PrintedAnswer::Undecided),
     }
 }
 

@@ -6,11 +6,10 @@ use Rattle.std.specs.List.{AllByRecursion, flat_map}
 use Rattle.std.proofs.lemmas.Bool.{and_parts, and_from, not-true, eqb-true, cases_lt}
 use Rattle.fol_sig.specs.Tables.{Tables, InRange, tuple_count, place_of, relation_at, function_at, rel_at, fun_at}
 use Rattle.fol_sig.specs.Tables.{reading}
-use Rattle.fol_sig.specs.Symbols.{Symbols, symbols}
 use Rattle.fol_sig.specs.Tuples.{tuple_at, TuplesAreNumbered}
 use Rattle.fol_formula.specs.Syntax.{FormTree}
 use Rattle.fol_formula.specs.Truth.{truth, all_below, same_truth}
-use Rattle.rml_command.specs.Trees.{PrimitiveTree, assume, set_rel, set_fun, havoc, abort}
+use Rattle.rml_command.specs.Trees.{PrimitiveTree}
 use Rattle.base.specs.Lists.{count_from}
 use Rattle.rml_command.specs.Outcomes.{Outcome, ended, aborted, satisfies, follow_path}
 use Rattle.rml_command.specs.Paths.{has_abort, havoc_count}
@@ -19,6 +18,7 @@ use Rattle.rml_command.specs.Goals.{FailsGoal, goal_path, is_allowed, is_for}
 use Rattle.rml_command.specs.Goals.{leading_sorts, body_of}
 use Rattle.rml_command.specs.Laws.{PathHasFollowedOutcomes, PathsKeepKind}
 use Rattle.rml_command.specs.declared.goal.Goal.{Goal}
+use Rattle.rml_command.specs.declared.havoc.Havoc.{Havoc}
 use Rattle.rml_command.specs.declared.goal.Stage.{Stage}
 use Rattle.rml_command.specs.declared.goal.Stage.TheVariants as stage
 use Rattle.rml_command.specs.declared.goal.About.{About}
@@ -27,7 +27,7 @@ use Rattle.rml_exec.specs.declared.trace.Counterexample.{Counterexample}
 use Rattle.rml_report.specs.ReportText.{outcome_of, followed}
 use Rattle.rml_report.specs.declared.report.Verdict.{Verdict}
 use Rattle.rml_report.specs.declared.report.Verdict.TheVariants as verdict
-use Rattle.printed_report.specs.Executions.{IsExecution, HasEnd, havoc_sorts, sorts_along}
+use Rattle.printed_report.specs.Executions.{IsExecution, HasEnd}
 use Rattle.printed_report.specs.declared.printed.Printed.{Printed}
 use Rattle.printed_report.specs.declared.printed.PrintedGroup.{PrintedGroup}
 use Rattle.printed_report.specs.declared.printed.PrintedAnswer.{PrintedAnswer}
@@ -161,31 +161,16 @@ module _ (numbered : TuplesAreNumbered) (t s : Tables) where
             range;
       }
 
--- as many elements as sorts
-range_length : (sizes ks xs : List ℕ) → InRange sizes ks xs → length xs ≡ length ks
-range_length sizes [] [] h = refl
-range_length sizes [] (x ∷ xs) h = absurd h
-range_length sizes (k ∷ ks) [] h = absurd h
-range_length sizes (k ∷ ks) (x ∷ xs) h = ap suc (range_length sizes ks xs h.1)
-
-sort_count : (sig : Symbols) (path : List PrimitiveTree) → length (havoc_sorts sig path) ≡ havoc_count path
-sort_count sig [] = refl
-sort_count sig (assume p ∷ qs) = sort_count sig qs
-sort_count sig (set_rel r by ∷ qs) = sort_count sig qs
-sort_count sig (set_fun f by ∷ qs) = sort_count sig qs
-sort_count sig (havoc v ∷ qs) = ap suc (sort_count sig qs)
-sort_count sig (abort ∷ qs) = sort_count sig qs
-
--- a path of this kind, followed with an element for each havoc
+-- a path of this kind, followed with an entry for each havoc
 module _ (by_paths : PathHasFollowedOutcomes) (kinds : PathsKeepKind) (ax : List FormTree) (path : List PrimitiveTree)
-    (xs : List ℕ) (s : Tables) (count : length xs ≡ havoc_count path) where
-  none_ends : (t : Tables) → follow_path ax path xs s ≡ Some (ended t) → has_abort path ≡ false
+    (hs : List Havoc) (s : Tables) (count : length hs ≡ havoc_count path) where
+  none_ends : (t : Tables) → follow_path ax path hs s ≡ Some (ended t) → has_abort path ≡ false
   none_ends t e = kinds.ends ax path s t ((by_paths ax path s (ended t)).1
-      (record { elements = xs; count = count; ends = e }))
+      (record { havocs = hs; count = count; ends = e }))
 
-  one_aborts : follow_path ax path xs s ≡ Some aborted → has_abort path ≡ true
+  one_aborts : follow_path ax path hs s ≡ Some aborted → has_abort path ≡ true
   one_aborts e = kinds.aborts ax path s ((by_paths ax path s aborted).1
-      (record { elements = xs; count = count; ends = e }))
+      (record { havocs = hs; count = count; ends = e }))
 
 allowed : (m : ModelTree) (x : Stage) (s : Tables) → satisfies s m.axioms ≡ true → is_kept_before m x s ≡ true
     → is_allowed m x s ≡ true
@@ -327,14 +312,7 @@ module _ (numbered : TuplesAreNumbered) (by_paths : PathHasFollowedOutcomes) (ki
         let about_is : shown.goal.about ≡ g.about = ap (λ (x : Goal). x.about) exec.goal in
         let out : outcome_of m shown ≡ follow_path m.axioms exec.is_goal.path shown.trace.havoc shown.structure =
         ap (λ o. followed m o shown) is_path in
-        let elements : InRange shown.structure.sizes (havoc_sorts (symbols m.signature) exec.is_goal.path)
-        shown.trace.havoc =
-        subst (λ o. InRange shown.structure.sizes (sorts_along (symbols m.signature) o) shown.trace.havoc) is_path
-        exec.havoc in
-        let count : length shown.trace.havoc ≡ havoc_count exec.is_goal.path =
-        range_length shown.structure.sizes (havoc_sorts (symbols m.signature) exec.is_goal.path) shown.trace.havoc
-        elements
-        ∙ sort_count (symbols m.signature) exec.is_goal.path in
+        let count : length shown.trace.havoc ≡ havoc_count exec.is_goal.path = exec.taken in
         let so = are_met m g shown after met in
         let ends = ends_so numbered m g shown g.about after (outcome_of m shown) exec.is_goal.path
         (subst (λ a. is_for a exec.is_goal.path ≡ true) about_is exec.is_goal.kind)

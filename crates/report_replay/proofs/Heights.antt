@@ -6,6 +6,7 @@ use Rattle.base.specs.Lists.{count_from}
 use Rattle.fol_sig.specs.Tables.{Tables, size_at}
 use Rattle.fol_sig.specs.Symbols.{FitsStructure, symbols}
 use Rattle.rml_command.specs.Models.{ModelTree}
+use Rattle.rml_command.specs.Elements.{elements_of}
 use Rattle.rml_command.specs.Goals.{groups_of}
 use Rattle.rml_command.specs.declared.names.Names.{Names}
 use Rattle.rml_command.specs.declared.goal.Head.{Head}
@@ -74,10 +75,12 @@ block_takes m group paths least shown after exec =
     let tables = tables_take m shown.structure exec.structure in
     let last = end_takes m group.about shown.structure shown.values after exec.end in
     let inner = length-append (table_lines m.names shown.structure)
-    (numbers_line (codes "  havoc:") shown.trace.havoc ∷ end_lines m.names group.about shown.values after) in
+    (numbers_line (codes "  havoc:") (elements_of shown.trace.havoc) ∷ end_lines m.names group.about shown.values
+    after) in
     let outer = length-append (sort_lines m.names shown.structure)
     (table_lines m.names shown.structure
-    ++ numbers_line (codes "  havoc:") shown.trace.havoc ∷ end_lines m.names group.about shown.values after) in
+    ++ numbers_line (codes "  havoc:") (elements_of shown.trace.havoc) ∷ end_lines m.names group.about shown.values
+    after) in
     let whole = fails_takes m group.about in
     omega (arith, sorts, of_sig, tables, last, inner, outer, whole)
 

@@ -67,7 +67,7 @@ module _ (blocks : BlockHasPathOutcomes) (followed : PathHasFollowedOutcomes) (f
   part_outcome s part is =
       of_block part.stage (block_of m part.stage) part.trace.path is.path s (outcome_of part.end) refl is.is_path
       ((followed m.axioms is.path s (outcome_of part.end)).1
-      (record { elements = part.trace.havoc; count = is.count; ends = is.ends }))
+      (record { havocs = part.trace.havoc; count = is.count; ends = is.ends }))
 
   init_outcome : (s : Stage) (from : Tables) (o : Outcome) → IsInit s → OfBlock s from o
       → HasOutcome m.axioms m.init from o

@@ -68,12 +68,12 @@ fn shown_run(alloc: Global, checked: &Checked, walk: &Walk, shown: Counterexampl
     rml_command::path_law();
     let _checked = checked.model();
     let start = shown.structure;
-    let elements = shown.trace.havoc;
+    let havocs = shown.trace.havoc;
     let parts = follow_legs(
         alloc,
         checked,
         walk.parts.as_slice(),
-        elements.as_slice(),
+        havocs.as_slice(),
         &start,
     )?;
     Ok(Run {

@@ -7,6 +7,7 @@ use Rattle.std.proofs.lemmas.Bool.{true_from_ne_false}
 use Rattle.base.proofs.Lists.{all_front, all_back, all_at, at-below}
 use Rattle.fol_sig.specs.Tables.{Tables, reading}
 use Rattle.fol_sig.specs.Symbols.{FitsStructure, symbols}
+use Rattle.fol_sig.specs.TupleSets.{TablesAreTuples}
 use Rattle.fol_formula.specs.Syntax.{FormTree, forms_of}
 use Rattle.fol_formula.specs.Truth.{all_true}
 use Rattle.rml_command.specs.Trees.{PrimitiveTree, CommandTree}
@@ -14,7 +15,7 @@ use Rattle.rml_command.specs.Outcomes.{Outcome, ended, aborted, HasOutcome, Path
 use Rattle.rml_command.specs.Outcomes.{follow_path}
 use Rattle.base.specs.Lists.{count_from}
 use Rattle.rml_command.specs.Paths.{paths_of}
-use Rattle.rml_command.specs.Models.{ModelTree, FitsCommand, FitsModel}
+use Rattle.rml_command.specs.Models.{ModelTree, FitsCommand, FitsBlock, FitsModel}
 use Rattle.rml_command.specs.Runs.{Step, Run, From, Leads, Closes, IsRun, SomeAborts, Aborts, BreaksAt, SomeBreaks}
 use Rattle.rml_command.specs.Runs.{Breaks}
 use Rattle.rml_command.specs.Goals.{stage_groups, block_of, paths_of_block, is_for, goals_among, is_allowed}
@@ -28,6 +29,7 @@ use Rattle.rml_command.specs.declared.goal.About.TheVariants as about
 use Rattle.rml_command.specs.declared.goal.Goal.{Goal}
 use Rattle.rml_command.proofs.Some.{some_at}
 use Rattle.rml_command.proofs.PathLaw.{by_path, path_ends, path_aborts}
+use Rattle.rml_command.proofs.EachPath.{block-fits}
 use Rattle.rml_command.proofs.Following.{followed}
 use Rattle.rml_command.proofs.Structures.{IsLawful, kept, step_lawful}
 use Rattle.rml_command.proofs.Values.{falsified}
@@ -72,7 +74,7 @@ goal_among Q group (x ∷ ps) (suc i) n j p e at is all =
     (all_but_first Q (is_for group.about x) (record { stage = group.stage; path = n; about = group.about })
     (goals_among group (suc n) ps) all)
 
-module _ (keep : UpdatesKeepSymbols) (m : ModelTree) where
+module _ (tables : TablesAreTuples) (keep : UpdatesKeepSymbols) (m : ModelTree) where
   abbrev the_group : Stage → About → Head
   the_group s a = record { stage = s; about = a }
 
@@ -84,17 +86,17 @@ module _ (keep : UpdatesKeepSymbols) (m : ModelTree) where
       → ((f : Option Outcome) → f ≡ Some o → FailsGoal m a values f) → ⊥
   no_such_end st a c s o values block holds fits allowed h kind fails =
       let w = some_at (λ p. PathHasOutcome m.axioms p s o) (paths_of c) (by_path m.axioms c s o h) in
-      let g = followed m.axioms w.1 s o w.3 in
+      let g = followed tables m.axioms w.1 s o w.3 in
       let none = goal_among (HasNone m) (the_group st a) (paths_of c) w.0 1 (suc w.0) w.1 (omega arith) w.2
       (kind w.1 w.3)
       (subst (λ b. AllByRecursion (HasNone m) (goals_among (the_group st a) 1 (paths_of_block b))) block holds) in
-      none s g.elements values (record {
+      none s g.havocs values (record {
         path = w.1;
         is_path = ap (λ b. slice_get (paths_of_block b) w.0) block ∙ w.2;
         structure = fits;
         allowed = allowed;
         count = g.count;
-        fails = fails (follow_path m.axioms w.1 g.elements s) g.ends;
+        fails = fails (follow_path m.axioms w.1 g.havocs s) g.ends;
       })
 
   no_abort : (st : Stage) (c : CommandTree) (s : Tables) → block_of m st ≡ Some c → Holds m (the_group st about.Abort)
@@ -192,7 +194,8 @@ module _ (keep : UpdatesKeepSymbols) (m : ModelTree) where
     step_well from good step steps to go leads (ended s) is =
         let out = subst (λ (e : Outcome). From m leads.0 (ended from) e) is leads.2 in
         let well = ends_well (stage.Action step.action) leads.0 from s leads.1
-        (all_at (FitsCommand (symbols m.signature)) m.actions step.action leads.0 leads.1 fits.blocks.actions)
+        (block-fits (symbols m.signature) leads.0
+        (all_at (FitsBlock (symbols m.signature)) m.actions step.action leads.0 leads.1 fits.blocks.actions))
         (actions step.action (at-below m.actions step.action leads.0 leads.1)) good.lawful (good_allowed from good)
         out in
         let rest = go s well (subst (λ (e : Outcome). Leads m e steps to) is leads.3) in
@@ -243,7 +246,8 @@ module _ (keep : UpdatesKeepSymbols) (m : ModelTree) where
             (subst (λ (e : Outcome). HasOutcome m.axioms m.init run.start e) is ok.init))
         begin (ended s) is =
             let out = subst (λ (e : Outcome). HasOutcome m.axioms m.init run.start e) is ok.init in
-            let well = ends_well stage.Init m.init run.start s refl fits.blocks.init init
+            let well = ends_well stage.Init m.init run.start s refl
+            (block-fits (symbols m.signature) m.init fits.blocks.init) init
             (record { structure = ok.structure; axioms_hold = ok.lawful }) ok.lawful out in
             let rest = goes_well s well run.steps ok.to
             (subst (λ (e : Outcome). Leads m e run.steps ok.to) is ok.leads) in
@@ -261,8 +265,8 @@ module _ (keep : UpdatesKeepSymbols) (m : ModelTree) where
                   ];
             }
 
-pub induction : UpdatesKeepSymbols → InductionIsSound
-induction keep m fits all =
+pub induction : TablesAreTuples → UpdatesKeepSymbols → InductionIsSound
+induction tables keep m fits all =
     let back = all_back (Holds m) (stage_groups m stage.Init) _ all in
     let init = all_front (Holds m) (stage_groups m stage.Init) _ all in
     let middle = flat_map (λ a. stage_groups m (stage.Action a)) (count_from 0 (length m.actions)) in
@@ -273,6 +277,6 @@ induction keep m fits all =
     subst P (zero-add a)
     (all_flat (Holds m) (λ a. stage_groups m (stage.Action a)) 0 (length m.actions) front a lt)) in
     record {
-      never_aborts = λ run ok. (runs_well keep m fits actions init final.0 run ok).none_aborts;
-      never_breaks = λ run ok. (runs_well keep m fits actions init final.0 run ok).none_breaks;
+      never_aborts = λ run ok. (runs_well tables keep m fits actions init final.0 run ok).none_aborts;
+      never_breaks = λ run ok. (runs_well tables keep m fits actions init final.0 run ok).none_breaks;
     }

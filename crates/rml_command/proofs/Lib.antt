@@ -14,3 +14,5 @@ pub mod Loops
 pub mod SpanLists
 pub mod RouteLists
 pub mod AbortLast
+pub mod Fresh
+pub mod Elements

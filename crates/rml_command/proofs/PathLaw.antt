@@ -3,8 +3,8 @@ use Rattle.std.proofs.Common.{◌≡◌, ◌⊎◌, inl, inr, Bool, true, false,
 use Rattle.std.proofs.Common.{ap, ◌∙◌, subst}
 use Rattle.fol_sig.specs.Tables.{Tables}
 use Rattle.fol_formula.specs.Syntax.{FormTree}
-use Rattle.rml_command.specs.Trees.{PrimitiveTree, assume, set_rel, set_fun, havoc, abort, CommandTree, CommandTrees}
-use Rattle.rml_command.specs.Trees.{prim, seq, choose, no_commands, command_then}
+use Rattle.rml_command.specs.Trees.{PrimitiveTree, assume, set_rel, set_fun, havoc, havoc_rel, abort, CommandTree}
+use Rattle.rml_command.specs.Trees.{CommandTrees, prim, seq, choose, no_commands, command_then}
 use Rattle.rml_command.specs.Outcomes.{Outcome, ended, aborted, PrimitiveHasOutcome, HasOutcome, SequenceHasOutcome}
 use Rattle.rml_command.specs.Outcomes.{ChoiceHasOutcome, PathHasOutcome}
 use Rattle.rml_command.specs.Paths.{is_abort, has_abort, continued, paths_of, paths_in_turn, paths_of_each}
@@ -20,6 +20,7 @@ module _ (axioms : List FormTree) where
   prim_aborts (set_rel r by) s h = let e = h.0 in cc
   prim_aborts (set_fun f by) s h = let e = h.0 in cc
   prim_aborts (havoc v) s h = let e = h.2.0 in cc
+  prim_aborts (havoc_rel r) s h = let e = h.1.0 in cc
   prim_aborts abort s h = refl
 
   pub prim_ends : (q : PrimitiveTree) (s new : Tables) → PrimitiveHasOutcome axioms q s (ended new) → is_abort q ≡ false
@@ -27,6 +28,7 @@ module _ (axioms : List FormTree) where
   prim_ends (set_rel r by) s new h = refl
   prim_ends (set_fun f by) s new h = refl
   prim_ends (havoc v) s new h = refl
+  prim_ends (havoc_rel r) s new h = refl
   prim_ends abort s new h = cc h
 
   later : (a b : Bool) → b ≡ true → (a || b) ≡ true

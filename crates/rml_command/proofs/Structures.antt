@@ -2,9 +2,10 @@
 use Rattle.std.proofs.Common.{◌≡◌, inl, inr, true, List, sym, subst}
 use Rattle.fol_sig.specs.Tables.{Tables}
 use Rattle.fol_sig.specs.Symbols.{Symbols, FitsStructure}
+use Rattle.fol_sig.specs.TupleSets.{with_table}
 use Rattle.fol_formula.specs.Syntax.{FormTree}
-use Rattle.rml_command.specs.Trees.{PrimitiveTree, assume, set_rel, set_fun, havoc, abort, CommandTree, CommandTrees}
-use Rattle.rml_command.specs.Trees.{prim, seq, choose, no_commands, command_then, EachPrimitiveOf}
+use Rattle.rml_command.specs.Trees.{PrimitiveTree, assume, set_rel, set_fun, havoc, havoc_rel, abort, CommandTree}
+use Rattle.rml_command.specs.Trees.{CommandTrees, prim, seq, choose, no_commands, command_then, EachPrimitiveOf}
 use Rattle.rml_command.specs.Outcomes.{ended, PrimitiveHasOutcome, HasOutcome, SequenceHasOutcome, ChoiceHasOutcome}
 use Rattle.rml_command.specs.Outcomes.{satisfies, set_relation, set_function, set_variable}
 use Rattle.rml_command.specs.Models.{FitsPrimitive, FitsCommand}
@@ -50,4 +51,7 @@ step_lawful keep axioms sig (set_fun g by) s new f law h =
 step_lawful keep axioms sig (havoc v) s new f law h =
     subst (IsLawful axioms sig) (sym (same_end new (set_variable s v h.0) h.2.0))
     (record { structure = keep.variable sig s v h.0 f h.1 law.structure; axioms_hold = h.2.1 })
+step_lawful keep axioms sig (havoc_rel r) s new f law h =
+    subst (IsLawful axioms sig) (sym (same_end new (with_table s r h.0) h.1.0))
+    (record { structure = keep.table sig s r h.0 f law.structure; axioms_hold = h.1.1 })
 step_lawful keep axioms sig abort s new f law h = absurd (cc h)

@@ -19,4 +19,5 @@ updates_keep_symbols relations functions values = record {
       (subst (λ ks. InRange s.sizes (reverse ks) tuple) (sym (h.from_of g f.0)) inside)))
       h;
   variable = λ sig s v x f lt h. (functions s v (λ tuple. x)).fits sig f.0 (λ tuple inside. lt) h;
+  table = λ sig s r f known h. (relations s r (λ tuple. f (reverse tuple))).fits sig known h;
 }

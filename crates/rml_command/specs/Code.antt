@@ -10,6 +10,7 @@ use Rattle.rml_command.specs.Trees.{
   set_rel,
   set_fun,
   havoc,
+  havoc_rel,
   abort,
   CommandTree,
   CommandTrees,
@@ -38,7 +39,8 @@ primitive_parts (assume p) = (0, (0, (p, bound 0)))
 primitive_parts (set_rel r by) = (1, (r, (by, bound 0)))
 primitive_parts (set_fun f by) = (2, (f, (top, by)))
 primitive_parts (havoc v) = (3, (v, (top, bound 0)))
-primitive_parts abort = (4, (0, (top, bound 0)))
+primitive_parts (havoc_rel r) = (4, (r, (top, bound 0)))
+primitive_parts abort = (5, (0, (top, bound 0)))
 
 abbrev pub primitive_back : PrimitiveParts → PrimitiveTree
 primitive_back t =
@@ -46,6 +48,7 @@ primitive_back t =
     else if t.0 == 1 then set_rel t.1.0 t.1.1.0
     else if t.0 == 2 then set_fun t.1.0 t.1.1.1
     else if t.0 == 3 then havoc t.1.0
+    else if t.0 == 4 then havoc_rel t.1.0
     else abort
 
 pub primitive-back : (q : PrimitiveTree) → primitive_back (primitive_parts q) ≡ q
@@ -53,6 +56,7 @@ primitive-back (assume p) = refl
 primitive-back (set_rel r by) = refl
 primitive-back (set_fun f by) = refl
 primitive-back (havoc v) = refl
+primitive-back (havoc_rel r) = refl
 primitive-back abort = refl
 
 abbrev pub primitive_code : Coded PrimitiveTree

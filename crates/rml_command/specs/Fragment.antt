@@ -5,7 +5,8 @@ use Rattle.fol_sig.specs.Strata.{IsOnCycle}
 use Rattle.fol_sig.specs.Symbols.{symbols}
 use Rattle.fol_formula.specs.Syntax.{FormTree}
 use Rattle.fol_formula.specs.Fragments.{IsEa, IsAe, IsPlainUniversal, IsQuantifierFree, IsQuantifierFreeTerm}
-use Rattle.rml_command.specs.Trees.{PrimitiveTree, assume, set_rel, set_fun, havoc, abort, CommandTree, EachPrimitive}
+use Rattle.rml_command.specs.Trees.{PrimitiveTree, assume, set_rel, set_fun, havoc, havoc_rel, abort, CommandTree}
+use Rattle.rml_command.specs.Trees.{EachPrimitive}
 use Rattle.rml_command.specs.Paths.{paths_of}
 use Rattle.rml_command.specs.Models.{ModelTree, EachBlock, IsModel}
 use Rattle.rml_command.specs.declared.places.Word.{Word}
@@ -24,6 +25,7 @@ IsInFragment (assume p) = IsEa p
 IsInFragment (set_rel r by) = IsQuantifierFree by
 IsInFragment (set_fun f by) = IsQuantifierFreeTerm by
 IsInFragment (havoc v) = Unit {0}
+IsInFragment (havoc_rel r) = Unit {0}
 IsInFragment abort = Unit {0}
 
 -- The functions are stratified: none stands on a cycle from argument sorts to the sorts of values. Axioms are

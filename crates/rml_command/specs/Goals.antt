@@ -38,6 +38,7 @@ use Rattle.rml_command.specs.declared.goal.About.{About}
 use Rattle.rml_command.specs.declared.goal.About.TheVariants as about
 use Rattle.rml_command.specs.declared.goal.Goal.{Goal}
 use Rattle.rml_command.specs.declared.goal.Head.{Head}
+use Rattle.rml_command.specs.declared.havoc.Havoc.{Havoc}
 
 -- the groups of init or an action, each by its head: abort, and each conjecture
 abbrev pub stage_groups : ModelTree → Stage → List Head
@@ -130,18 +131,20 @@ FailsGoal m (about.Conjecture k) values outcome =
     (c : FormTree) × (s : Tables) × (slice_get m.conjectures k ≡ Some c) × (outcome ≡ Some (ended s))
     × FalseUnder s c values
 
--- A counterexample of a goal: a structure that induction allows, an element for each havoc of the goal's path, and
--- values. Followed with these elements, no step of the path is blocked, and it ends as the goal forbids.
-pub record IsCounterexample (m : ModelTree) (goal : Goal) (s : Tables) (elements values : List ℕ) : Type 0 where
+-- A counterexample of a goal: a structure that induction allows, for each havoc of the goal's path an element or, where
+-- a relation is havocked, the tuples of which it is true, and values. Followed with these, no step of the path is
+-- blocked, and it ends as the goal forbids.
+pub record IsCounterexample (m : ModelTree) (goal : Goal) (s : Tables) (havocs : List Havoc) (values : List ℕ)
+    : Type 0 where
   pub path : List PrimitiveTree
   pub is_path : goal_path m goal ≡ Some path
   pub structure : FitsStructure (symbols m.signature) s
   pub allowed : is_allowed m goal.stage s ≡ true
-  pub count : length elements ≡ havoc_count path
-  pub fails : FailsGoal m goal.about values (follow_path m.axioms path elements s)
+  pub count : length havocs ≡ havoc_count path
+  pub fails : FailsGoal m goal.about values (follow_path m.axioms path havocs s)
 
 abbrev pub HasNone : ModelTree → Goal → Type 0
-HasNone m goal = (s : Tables) (elements values : List ℕ) → IsCounterexample m goal s elements values → ⊥
+HasNone m goal = (s : Tables) (havocs : List Havoc) (values : List ℕ) → IsCounterexample m goal s havocs values → ⊥
 
 -- A group holds where no goal of it has a counterexample.
 abbrev pub Holds : ModelTree → Head → Type 0

@@ -1,14 +1,16 @@
 -- What is proved of blocks, paths, goals and runs.
-use Rattle.std.specs.Prelude.{◌≡◌, ◌⊎◌, ◌↔◌, ◌<◌, ℕ, true, false, List, length, Some}
+use Rattle.std.specs.Prelude.{◌≡◌, ◌⊎◌, ◌↔◌, ◌<◌, ℕ, Bool, true, false, List, length, Some}
 use Rattle.std.specs.List.{AllByRecursion}
 use Rattle.fol_sig.specs.Tables.{Tables}
 use Rattle.fol_sig.specs.Symbols.{Symbols, FitsStructure, symbols}
+use Rattle.fol_sig.specs.TupleSets.{with_table}
 use Rattle.fol_formula.specs.Syntax.{FormTree, TermTree}
 use Rattle.rml_command.specs.Trees.{
   PrimitiveTree,
   set_rel,
   set_fun,
   havoc,
+  havoc_rel,
   CommandTree,
   CommandTrees,
   seq,
@@ -30,11 +32,12 @@ use Rattle.rml_command.specs.Outcomes.{
 }
 use Rattle.base.specs.Lists.{SomeOf}
 use Rattle.rml_command.specs.Paths.{has_abort, EndsAtAbort, paths_of, havoc_count}
-use Rattle.rml_command.specs.Models.{ModelTree, FitsPrimitive, FitsPath, FitsModel}
+use Rattle.rml_command.specs.Models.{ModelTree, FitsPrimitive, FitsPath, FitsSteps, FitsModel}
 use Rattle.rml_command.specs.Fragment.{IsInFragment, IsChecked}
 use Rattle.rml_command.specs.Runs.{Safe}
 use Rattle.rml_command.specs.Goals.{HasAbout, groups_of, goals_of, goal_path, IsGoal, FalseUnder, Holds}
 use Rattle.rml_command.specs.declared.goal.Goal.{Goal}
+use Rattle.rml_command.specs.declared.havoc.Havoc.{Havoc}
 
 -- The outcomes of a block are those of its paths.
 abbrev pub BlockHasPathOutcomes : Type 0
@@ -42,13 +45,13 @@ BlockHasPathOutcomes =
     (axioms : List FormTree) (c : CommandTree) (s : Tables) (o : Outcome)
     → HasOutcome axioms c s o ↔ SomeOf (λ p. PathHasOutcome axioms p s o) (paths_of c)
 
--- following the path with some elements, one for each havoc, has this outcome
+-- following the path with some elements and tuples, one entry for each havoc, has this outcome
 pub record IsFollowed (axioms : List FormTree) (p : List PrimitiveTree) (s : Tables) (o : Outcome) : Type 0 where
-  pub elements : List ℕ
-  pub count : length elements ≡ havoc_count p
-  pub ends : follow_path axioms p elements s ≡ Some o
+  pub havocs : List Havoc
+  pub count : length havocs ≡ havoc_count p
+  pub ends : follow_path axioms p havocs s ≡ Some o
 
--- The outcomes of a path are those of following it with some elements.
+-- The outcomes of a path are those of following it with some elements and tuples.
 abbrev pub PathHasFollowedOutcomes : Type 0
 PathHasFollowedOutcomes =
     (axioms : List FormTree) (p : List PrimitiveTree) (s : Tables) (o : Outcome)
@@ -74,6 +77,8 @@ pub record UpdatesKeepSymbols : Type 0 where
       → FitsPrimitive sig (set_fun f by) → FitsStructure sig s → FitsStructure sig (set_function s f by)
   pub variable : (sig : Symbols) (s : Tables) (v x : ℕ)
       → FitsPrimitive sig (havoc v) → x < range_of s v → FitsStructure sig s → FitsStructure sig (set_variable s v x)
+  pub table : (sig : Symbols) (s : Tables) (r : ℕ) (f : List ℕ → Bool)
+      → FitsPrimitive sig (havoc_rel r) → FitsStructure sig s → FitsStructure sig (with_table s r f)
 
 -- A sentence is false exactly where some values for its leading quantifiers make its body false.
 abbrev pub FalsehoodHasValues : Type 0
@@ -101,10 +106,13 @@ GoalsAreListed = (m : ModelTree) (goal : Goal) → SomeOf (λ g. g ≡ goal) (go
 abbrev pub GroupsAreKnown : Type 0
 GroupsAreKnown = (m : ModelTree) → AllByRecursion (λ h. HasAbout m h.stage h.about) (groups_of m)
 
--- The path of a goal has only symbols of the model's signature, and that of a checked model's goal is in the fragment.
+-- The path of a goal has only symbols of the model's signature and no havoc of a relation, and that of a checked
+-- model's goal is in the fragment.
 pub record GoalPathsFit : Type 0 where
   pub symbols_fit : (m : ModelTree) (goal : Goal) (p : List PrimitiveTree)
       → FitsModel m → goal_path m goal ≡ Some p → FitsPath (symbols m.signature) p
+  pub steps_fit : (m : ModelTree) (goal : Goal) (p : List PrimitiveTree)
+      → FitsModel m → goal_path m goal ≡ Some p → FitsSteps (symbols m.signature) p
   pub in_fragment : (m : ModelTree) (goal : Goal) (p : List PrimitiveTree)
       → IsChecked m → goal_path m goal ≡ Some p → AllByRecursion IsInFragment p
 

@@ -7,6 +7,8 @@ pub mod Routes
 pub mod Counts
 pub mod Models
 pub mod Fragment
+pub mod Fresh
+pub mod Elements
 pub mod Runs
 pub mod Goals
 pub mod Code

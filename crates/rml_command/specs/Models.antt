@@ -12,6 +12,7 @@ use Rattle.rml_command.specs.Trees.{
   set_rel,
   set_fun,
   havoc,
+  havoc_rel,
   abort,
   CommandTree,
   EachPrimitive,
@@ -41,12 +42,13 @@ pub record EachBlock (P : CommandTree → Type 0) (m : ModelTree) : Type 0 where
   pub actions : AllByRecursion P m.actions
   pub last : P m.last
 
--- a primitive has only symbols of the signature, with the right sorts; a havoc is of a variable
+-- a primitive has only symbols of the signature, with the right sorts; a havoc is of a variable or of a relation
 abbrev pub FitsPrimitive : Symbols → PrimitiveTree → Type 0
 FitsPrimitive sig (assume p) = FitsForm sig [] p
 FitsPrimitive sig (set_rel r by) = (r < sig.relations) × FitsForm sig (reverse (sig.sorts_of r)) by
 FitsPrimitive sig (set_fun f by) = (f < sig.functions) × FitsTerm sig (reverse (sig.from_of f)) by (sig.into_of f)
 FitsPrimitive sig (havoc v) = (v < sig.functions) × (sig.from_of v ≡ []) × (sig.into_of v < sig.sorts)
+FitsPrimitive sig (havoc_rel r) = r < sig.relations
 FitsPrimitive sig abort = Unit {0}
 
 abbrev pub FitsCommand : Symbols → CommandTree → Type 0
@@ -55,11 +57,27 @@ FitsCommand sig c = EachPrimitive (FitsPrimitive sig) c
 abbrev pub FitsPath : Symbols → List PrimitiveTree → Type 0
 FitsPath sig p = AllByRecursion (FitsPrimitive sig) p
 
--- the sentences and blocks of a model have only symbols of its signature, with the right sorts
+-- a primitive that fits and is no havoc of a relation
+abbrev pub FitsStep : Symbols → PrimitiveTree → Type 0
+FitsStep sig (assume p) = FitsPrimitive sig (assume p)
+FitsStep sig (set_rel r by) = FitsPrimitive sig (set_rel r by)
+FitsStep sig (set_fun f by) = FitsPrimitive sig (set_fun f by)
+FitsStep sig (havoc v) = FitsPrimitive sig (havoc v)
+FitsStep sig (havoc_rel r) = ⊥
+FitsStep sig abort = FitsPrimitive sig abort
+
+abbrev pub FitsSteps : Symbols → List PrimitiveTree → Type 0
+FitsSteps sig p = AllByRecursion (FitsStep sig) p
+
+abbrev pub FitsBlock : Symbols → CommandTree → Type 0
+FitsBlock sig c = EachPrimitive (FitsStep sig) c
+
+-- The sentences and blocks of a model have only symbols of its signature, with the right sorts. No text has a form for
+-- the havoc of a relation, and so no block of a model has one.
 pub record FitsModel (m : ModelTree) : Type 0 where
   pub axioms : AllByRecursion (FitsForm (symbols m.signature) []) m.axioms
   pub conjectures : AllByRecursion (FitsForm (symbols m.signature) []) m.conjectures
-  pub blocks : EachBlock (FitsCommand (symbols m.signature)) m
+  pub blocks : EachBlock (FitsBlock (symbols m.signature)) m
 
 -- each thing has a name
 pub record IsNamed (m : ModelTree) : Type 0 where
@@ -106,6 +124,7 @@ HasPlainSides (assume p) = HasPlainTerms p
 HasPlainSides (set_rel r by) = IsQuantifierFree by
 HasPlainSides (set_fun f by) = IsQuantifierFreeTerm by
 HasPlainSides (havoc v) = Unit {0}
+HasPlainSides (havoc_rel r) = Unit {0}
 HasPlainSides abort = Unit {0}
 
 -- no quantifier stands inside an `ite` or on the right of an update

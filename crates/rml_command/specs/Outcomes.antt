@@ -1,7 +1,8 @@
 -- What a command may do from a structure.
 use Rattle.std.specs.Prelude.{◌≡◌, ◌⊎◌, ℕ, ◌<◌, nat_lt, Bool, true, if◌then◌else◌, List, [], ◌∷◌, Option, Some, None}
-use Rattle.fol_sig.specs.Tables.{Tables, reading, size_at, function_at}
+use Rattle.fol_sig.specs.Tables.{Tables, reading, size_at, relation_at, function_at}
 use Rattle.fol_sig.specs.Updates.{with_relation, with_function}
+use Rattle.fol_sig.specs.TupleSets.{are_in_range, with_table, with_tuples}
 use Rattle.fol_formula.specs.Syntax.{FormTree, TermTree, conjunction, forms_of}
 use Rattle.fol_formula.specs.Truth.{truth, value}
 use Rattle.rml_command.specs.Trees.{
@@ -10,6 +11,7 @@ use Rattle.rml_command.specs.Trees.{
   set_rel,
   set_fun,
   havoc,
+  havoc_rel,
   abort,
   CommandTree,
   CommandTrees,
@@ -19,6 +21,8 @@ use Rattle.rml_command.specs.Trees.{
   no_commands,
   command_then,
 }
+use Rattle.rml_command.specs.declared.havoc.Havoc.{Havoc}
+use Rattle.rml_command.specs.declared.havoc.Havoc.TheVariants.{Element, Tuples}
 
 -- a command ends in a structure, or it aborts
 pub data Outcome : Type 0 where
@@ -53,17 +57,23 @@ set_variable s v x = with_function s v (λ tuple. x)
 abbrev pub range_of : Tables → ℕ → ℕ
 range_of s v = size_at s (function_at s v).into
 
+-- whether each of these tuples is one of a relation's sorts
+abbrev pub are_tuples_of : Tables → ℕ → List (List ℕ) → Bool
+are_tuples_of s r xss = are_in_range s.sizes (relation_at s r).sorts xss
+
 module _ (axioms : List FormTree) where
   -- the outcome is an end in this structure, which satisfies the axioms
   abbrev pub EndsIn : Outcome → Tables → Type 0
   EndsIn o new = (o ≡ ended new) × (satisfies new axioms ≡ true)
 
-  -- The outcomes of a primitive. A false assumption has none; an update or a havoc has none that breaks an axiom.
+  -- The outcomes of a primitive. A false assumption has none; an update or a havoc has none that breaks an axiom. The
+  -- havoc of a relation may make it true of any tuples.
   abbrev pub PrimitiveHasOutcome : PrimitiveTree → Tables → Outcome → Type 0
   PrimitiveHasOutcome (assume p) s o = (o ≡ ended s) × (is_true s p ≡ true)
   PrimitiveHasOutcome (set_rel r by) s o = EndsIn o (set_relation s r by)
   PrimitiveHasOutcome (set_fun f by) s o = EndsIn o (set_function s f by)
   PrimitiveHasOutcome (havoc v) s o = (x : ℕ) × (x < range_of s v) × EndsIn o (set_variable s v x)
+  PrimitiveHasOutcome (havoc_rel r) s o = (f : List ℕ → Bool) × EndsIn o (with_table s r f)
   PrimitiveHasOutcome abort s o = o ≡ aborted
 
   -- The outcomes of a command. A sequence aborts where its first part can, and goes on from each end of that part; both
@@ -91,18 +101,27 @@ module _ (axioms : List FormTree) where
       ((o ≡ aborted) × PrimitiveHasOutcome q s aborted)
       ⊎ ((mid : Tables) × PrimitiveHasOutcome q s (ended mid) × PathHasOutcome qs mid o)
 
-  -- Following a path with an element for each havoc: the outcome, or None where a step is blocked. A step is blocked
-  -- where an assumption is false, an element is missing or out of range, or the new structure breaks an axiom.
-  abbrev pub follow_path : List PrimitiveTree → List ℕ → Tables → Option Outcome
-  follow_path [] elements s = Some (ended s)
-  follow_path (assume p ∷ qs) elements s = if is_true s p then follow_path qs elements s else None
-  follow_path (set_rel r by ∷ qs) elements s =
-      if satisfies (set_relation s r by) axioms then follow_path qs elements (set_relation s r by) else None
-  follow_path (set_fun f by ∷ qs) elements s =
-      if satisfies (set_function s f by) axioms then follow_path qs elements (set_function s f by) else None
+  -- Following a path with an element for each havoc of a variable and tuples for each havoc of a relation, in order:
+  -- the outcome, or None where a step is blocked. A step is blocked where an assumption is false, the next entry is
+  -- missing or of the other kind, an element is out of range, a tuple is none of the relation's sorts, or the new
+  -- structure breaks an axiom.
+  abbrev pub follow_path : List PrimitiveTree → List Havoc → Tables → Option Outcome
+  follow_path [] havocs s = Some (ended s)
+  follow_path (assume p ∷ qs) havocs s = if is_true s p then follow_path qs havocs s else None
+  follow_path (set_rel r by ∷ qs) havocs s =
+      if satisfies (set_relation s r by) axioms then follow_path qs havocs (set_relation s r by) else None
+  follow_path (set_fun f by ∷ qs) havocs s =
+      if satisfies (set_function s f by) axioms then follow_path qs havocs (set_function s f by) else None
   follow_path (havoc v ∷ qs) [] s = None
-  follow_path (havoc v ∷ qs) (x ∷ elements) s =
+  follow_path (havoc v ∷ qs) (Element x ∷ havocs) s =
       if nat_lt x (range_of s v)
-      then (if satisfies (set_variable s v x) axioms then follow_path qs elements (set_variable s v x) else None)
+      then (if satisfies (set_variable s v x) axioms then follow_path qs havocs (set_variable s v x) else None)
       else None
-  follow_path (abort ∷ qs) elements s = Some aborted
+  follow_path (havoc v ∷ qs) (Tuples xss ∷ havocs) s = None
+  follow_path (havoc_rel r ∷ qs) [] s = None
+  follow_path (havoc_rel r ∷ qs) (Element x ∷ havocs) s = None
+  follow_path (havoc_rel r ∷ qs) (Tuples xss ∷ havocs) s =
+      if are_tuples_of s r xss
+      then (if satisfies (with_tuples s r xss) axioms then follow_path qs havocs (with_tuples s r xss) else None)
+      else None
+  follow_path (abort ∷ qs) havocs s = Some aborted

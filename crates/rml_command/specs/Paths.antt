@@ -7,6 +7,7 @@ use Rattle.rml_command.specs.Trees.{
   set_rel,
   set_fun,
   havoc,
+  havoc_rel,
   abort,
   CommandTree,
   CommandTrees,
@@ -22,6 +23,7 @@ is_abort (assume p) = false
 is_abort (set_rel r by) = false
 is_abort (set_fun f by) = false
 is_abort (havoc v) = false
+is_abort (havoc_rel r) = false
 is_abort abort = true
 
 -- whether a path ends in abort: no path goes on behind its first one
@@ -54,11 +56,12 @@ abbrev mutual
   paths_of_each no_commands = []
   paths_of_each (command_then c cs) = paths_of c ++ paths_of_each cs
 
--- how many elements following a path takes, one for each havoc
+-- how many entries following a path takes, one for each havoc
 abbrev pub havoc_count : List PrimitiveTree → ℕ
 havoc_count [] = 0
 havoc_count (assume p ∷ qs) = havoc_count qs
 havoc_count (set_rel r by ∷ qs) = havoc_count qs
 havoc_count (set_fun f by ∷ qs) = havoc_count qs
 havoc_count (havoc v ∷ qs) = suc (havoc_count qs)
+havoc_count (havoc_rel r ∷ qs) = suc (havoc_count qs)
 havoc_count (abort ∷ qs) = havoc_count qs

@@ -8,6 +8,7 @@ pub data PrimitiveTree : Type 0 where
   set_rel : ℕ → FormTree → PrimitiveTree
   set_fun : ℕ → TermTree → PrimitiveTree
   havoc : ℕ → PrimitiveTree
+  havoc_rel : ℕ → PrimitiveTree
   abort : PrimitiveTree
 
 -- A block: a primitive, a sequence, or a choice between branches. An empty sequence is `skip`.

@@ -7,6 +7,7 @@ use Rattle.rml_command.specs.Trees.{
   set_rel,
   set_fun,
   havoc,
+  havoc_rel,
   abort,
   CommandTree,
   CommandTrees,
@@ -25,6 +26,7 @@ primitive (p.Assume sentence) = assume sentence
 primitive (p.SetRel r by) = set_rel r.0 (form by)
 primitive (p.SetFun f by) = set_fun f.0 (term by)
 primitive (p.Havoc v) = havoc v.0
+primitive (p.HavocRel r) = havoc_rel r.0
 primitive p.Abort = abort
 
 -- one level, with the tree of each part in its place

@@ -20,6 +20,8 @@ pub enum Primitive {
     SetFun(FunId, Term),
     /// Gives a variable any value.
     Havoc(FunId),
+    /// Gives a relation any table.
+    HavocRel(RelId),
     /// Ends the run as wrong.
     Abort,
 }
@@ -52,6 +54,7 @@ impl Primitive {
             Primitive::SetRel(rel, by) => Primitive::SetRel(*rel, by.copy(alloc)?),
             Primitive::SetFun(fun, by) => Primitive::SetFun(*fun, by.copy(alloc)?),
             Primitive::Havoc(fun) => Primitive::Havoc(*fun),
+            Primitive::HavocRel(rel) => Primitive::HavocRel(*rel),
             Primitive::Abort => Primitive::Abort,
         })
     }

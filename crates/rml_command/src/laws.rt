@@ -12,20 +12,25 @@ ghost use Rattle.rml_command.specs.Laws.{
   GoalPathsFit,
   InductionIsSound,
 };
+ghost use Rattle.rml_command.specs.Elements.{TracesAreElements};
+ghost use Rattle.rml_command.specs.Fresh.{FreshTablesAreFollowed, WrittenPathsFit, FreshSignaturesGrow};
 
 /// The outcomes of a block are those of its paths.
 pub fn block_law()
     ensures { BlockHasPathOutcomes }
 {}
 
-/// The outcomes of a path are those of following it with some elements, one for each havoc. It aborts
-/// only where it has an abort, and ends only where it has none. A path of a block has nothing behind an
-/// abort.
+/// The outcomes of a path are those of following it with some elements and tuples, one entry for each
+/// havoc; where no relation is havocked, of elements alone. It aborts only where it has an abort, and ends
+/// only where it has none. A path of a block has nothing behind an abort.
 pub fn path_law()
     ensures followed { PathHasFollowedOutcomes }
     ensures kind { PathsKeepKind }
     ensures last { PathsEndAtAbort }
-{}
+    ensures elements { TracesAreElements }
+{
+    fol_sig::tuple_set_laws();
+}
 
 /// A longer sequence or choice is the binary one of the list before its last member, and that member.
 pub fn list_law()
@@ -40,13 +45,30 @@ pub fn update_law()
     fol_formula::agreement();
 }
 
+/// The havoc of a relation may be written out as an update to a fresh relation: the outcomes under the
+/// tables of the fresh relations are those of the path that is written out, which has the symbols of the
+/// signature with the fresh relations.
+pub fn fresh_law()
+    ensures followed { FreshTablesAreFollowed }
+    ensures written { WrittenPathsFit }
+    ensures signatures { FreshSignaturesGrow }
+{
+    fol_sig::growth_laws();
+    fol_sig::relation_growth_laws();
+    fol_sig::tuple_set_laws();
+    fol_sig::range_laws();
+    fol_formula::growth();
+    update_law();
+}
+
 /// A sentence is false exactly where some values for its leading quantifiers make its body false.
 pub fn value_law()
     ensures { FalsehoodHasValues }
 {}
 
 /// The goals in the ordered list are the goals of the model, and its groups are of its blocks and conjectures. Paths of
-/// goals have only symbols of the signature, and are in the fragment where the model is checked.
+/// goals have only symbols of the signature and no havoc of a relation, and are in the fragment where the model is
+/// checked.
 pub fn goal_law()
     ensures groups { GroupsAreKnown }
     ensures listed { GoalsAreListed }
@@ -58,4 +80,5 @@ pub fn run_law()
     ensures { InductionIsSound }
 {
     update_law();
+    fol_sig::tuple_set_laws();
 }

@@ -8,6 +8,7 @@ mod command;
 mod drafts;
 mod goal;
 mod groups;
+mod havoc;
 mod laws;
 mod listing;
 mod model;
@@ -22,7 +23,10 @@ pub use checked::Checked;
 pub use command::{Command, Primitive};
 pub use goal::{About, Goal, Head, Stage};
 pub use groups::{heads, is_for};
-pub use laws::{block_law, goal_law, list_law, path_law, run_law, update_law, value_law};
+pub use havoc::{Havoc, copy_havocs, elements_of, havocs_of};
+pub use laws::{
+    block_law, fresh_law, goal_law, list_law, path_law, run_law, update_law, value_law,
+};
 pub use listing::{MAX_PATHS, TooManyPaths, has_few_paths, paths};
 pub use model::{Model, Parts};
 pub use names::{Name, Names};

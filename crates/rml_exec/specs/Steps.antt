@@ -5,19 +5,21 @@ use Rattle.fol_sig.specs.Tables.{Tables, size_at}
 use Rattle.fol_sig.specs.Symbols.{Symbols, FitsStructure}
 use Rattle.fol_formula.specs.Syntax.{FormTree}
 use Rattle.fol_formula.specs.Fits.{FitsForm}
-use Rattle.rml_command.specs.Trees.{PrimitiveTree, assume, set_rel, set_fun, havoc, abort}
+use Rattle.rml_command.specs.Trees.{PrimitiveTree, assume, set_rel, set_fun, havoc, havoc_rel, abort}
 use Rattle.rml_command.specs.Outcomes.{aborted, follow_path, satisfies}
 use Rattle.rml_command.specs.Models.{FitsPrimitive}
+use Rattle.rml_command.specs.declared.havoc.Havoc.{Havoc}
 use Rattle.rml_exec.specs.declared.trace.Followed.{Followed}
 use Rattle.rml_exec.specs.declared.trace.Followed.TheVariants.{Ended, Aborted, Blocked}
 
--- the elements that a step leaves
-abbrev pub elements_after : PrimitiveTree → List ℕ → List ℕ
-elements_after (assume p) xs = xs
-elements_after (set_rel r by) xs = xs
-elements_after (set_fun f by) xs = xs
-elements_after (havoc v) xs = drop 1 xs
-elements_after abort xs = xs
+-- the entries that a step leaves
+abbrev pub havocs_after : PrimitiveTree → List Havoc → List Havoc
+havocs_after (assume p) hs = hs
+havocs_after (set_rel r by) hs = hs
+havocs_after (set_fun f by) hs = hs
+havocs_after (havoc v) hs = drop 1 hs
+havocs_after (havoc_rel r) hs = drop 1 hs
+havocs_after abort hs = hs
 
 -- the primitive and the structure have the symbols of one signature
 pub record CanUpdate (q : PrimitiveTree) (s : Tables) : Type 0 where
@@ -39,15 +41,15 @@ pub record CanStep (axioms : List FormTree) (q : PrimitiveTree) (s : Tables) : T
   pub axioms_fit : AllByRecursion (FitsForm sig []) axioms
 
 -- a step to a structure of the same symbols, whatever comes behind it
-pub record MovesTo (axioms : List FormTree) (q : PrimitiveTree) (elements : List ℕ) (s new : Tables) : Type 0 where
-  pub onward : (qs : List PrimitiveTree) → follow_path axioms (q ∷ qs) elements s
-      ≡ follow_path axioms qs (elements_after q elements) new
+pub record MovesTo (axioms : List FormTree) (q : PrimitiveTree) (havocs : List Havoc) (s new : Tables) : Type 0 where
+  pub onward : (qs : List PrimitiveTree) → follow_path axioms (q ∷ qs) havocs s
+      ≡ follow_path axioms qs (havocs_after q havocs) new
   pub fits : (sig : Symbols) → FitsStructure sig s → FitsStructure sig new
 
-abbrev pub StepsTo : List FormTree → PrimitiveTree → List ℕ → Tables → Followed → Type 0
-StepsTo axioms q elements s (Ended new) = MovesTo axioms q elements s new
-StepsTo axioms q elements s Aborted = (qs : List PrimitiveTree) → follow_path axioms (q ∷ qs) elements s ≡ Some aborted
-StepsTo axioms q elements s Blocked = (qs : List PrimitiveTree) → follow_path axioms (q ∷ qs) elements s ≡ None
+abbrev pub StepsTo : List FormTree → PrimitiveTree → List Havoc → Tables → Followed → Type 0
+StepsTo axioms q havocs s (Ended new) = MovesTo axioms q havocs s new
+StepsTo axioms q havocs s Aborted = (qs : List PrimitiveTree) → follow_path axioms (q ∷ qs) havocs s ≡ Some aborted
+StepsTo axioms q havocs s Blocked = (qs : List PrimitiveTree) → follow_path axioms (q ∷ qs) havocs s ≡ None
 
 -- the structure is an end where it satisfies the axioms
 abbrev pub Judges : List FormTree → Tables → Followed → Type 0

@@ -2,23 +2,24 @@
 ghost use Rattle.std.specs.Prelude.{◌≡◌, IfOk};
 ghost use Rattle.fol_sig.specs.Symbols.{symbols, FitsStructure};
 ghost use Rattle.rml_command.specs.View.{primitive as primitive_view};
-ghost use Rattle.rml_command.specs.Trees.{havoc as havoc_tree};
+ghost use Rattle.rml_command.specs.Trees.{havoc as havoc_tree, havoc_rel as havoc_rel_tree};
 ghost use Rattle.rml_command.specs.Outcomes.{follow_path, satisfies};
 ghost use Rattle.rml_command.specs.Models.{FitsPath};
 ghost use Rattle.rml_exec.specs.Followed.{outcome_of, EndFits};
-ghost use Rattle.rml_exec.specs.Steps.{elements_after, CanStep, CanJudge, StepsTo, Judges};
+ghost use Rattle.rml_exec.specs.Steps.{havocs_after, CanStep, CanJudge, StepsTo, Judges};
 
 use crate::tables::{set_function, set_relation, set_variable};
 use crate::trace::{Followed, Trace};
 use base::Mem;
 use fol_eval::{Env, holds};
 use fol_formula::Sentence;
-use fol_sig::{FunId, Structure};
-use rml_command::{Checked, Path, Primitive};
+use fol_sig::{FunId, RelId, Structure};
+use rml_command::{Checked, Havoc, Path, Primitive};
 use std::alloc::Global;
 
-/// Follows a path from a structure. It is blocked exactly where an assumption is false, an element for a
-/// havoc is missing or out of range, or an update or a havoc breaks an axiom.
+/// Follows a path from a structure. It is blocked exactly where an assumption is false, the entry for a
+/// havoc is missing or of the other kind, its element is out of range, a tuple of it has a wrong length
+/// or an element out of range, or an update or a havoc breaks an axiom.
 pub fn follow(
     alloc: Global,
     checked: &Checked,
@@ -35,25 +36,26 @@ pub fn follow(
     let model = checked.model();
     let axioms = model.axioms();
     let mut now = structure.copy(alloc)?;
-    let mut elements = trace.havoc.as_slice();
+    let mut havocs = trace.havoc.as_slice();
     for primitive in path.primitives() {
-        match take_step(alloc, axioms, primitive, elements, now)? {
+        match take_step(alloc, axioms, primitive, havocs, now)? {
             Followed::Ended(next) => now = next,
             Followed::Aborted => return Ok(Followed::Aborted),
             Followed::Blocked => return Ok(Followed::Blocked),
         }
-        elements = behind(primitive, elements);
+        havocs = behind(primitive, havocs);
     }
     Ok(Followed::Ended(now))
 }
 
-// The elements that a step leaves.
-fn behind<'a>(primitive: &Primitive, elements: &'a [u32]) -> &'a [u32]
-    ensures { result.now ≡ elements_after (primitive_view primitive.now) elements.now }
+// The entries that a step leaves.
+fn behind<'a>(primitive: &Primitive, havocs: &'a [Havoc]) -> &'a [Havoc]
+    ensures { result.now ≡ havocs_after (primitive_view primitive.now) havocs.now }
 {
     match primitive {
-        Primitive::Havoc(_) if !elements.is_empty() => &elements[1..],
-        _ => elements,
+        Primitive::Havoc(_) if !havocs.is_empty() => &havocs[1..],
+        Primitive::HavocRel(_) if !havocs.is_empty() => &havocs[1..],
+        _ => havocs,
     }
 }
 
@@ -61,11 +63,11 @@ fn take_step(
     alloc: Global,
     axioms: &[Sentence],
     primitive: &Primitive,
-    elements: &[u32],
+    havocs: &[Havoc],
     mut structure: Structure,
 ) -> Mem<Followed>
     requires { CanStep axioms.now (primitive_view primitive.now) structure }
-    ensures { IfOk result (λ f. StepsTo axioms.now (primitive_view primitive.now) elements.now structure f) }
+    ensures { IfOk result (λ f. StepsTo axioms.now (primitive_view primitive.now) havocs.now structure f) }
 {
     match primitive {
         Primitive::Assume(sentence) => {
@@ -84,7 +86,11 @@ fn take_step(
             Ok(judge(axioms, structure))
         }
         Primitive::Havoc(fun) => {
-            let ended = havoc(alloc, axioms, *fun, elements, structure)?;
+            let ended = havoc(alloc, axioms, *fun, havocs, structure)?;
+            Ok(ended)
+        }
+        Primitive::HavocRel(rel) => {
+            let ended = havoc_relation(alloc, axioms, *rel, havocs, structure)?;
             Ok(ended)
         }
         Primitive::Abort => Ok(Followed::Aborted),
@@ -95,19 +101,39 @@ fn havoc(
     alloc: Global,
     axioms: &[Sentence],
     variable: FunId,
-    elements: &[u32],
+    havocs: &[Havoc],
     mut structure: Structure,
 ) -> Mem<Followed>
     requires { CanStep axioms.now (havoc_tree variable.0) structure }
-    ensures { IfOk result (λ f. StepsTo axioms.now (havoc_tree variable.0) elements.now structure f) }
+    ensures { IfOk result (λ f. StepsTo axioms.now (havoc_tree variable.0) havocs.now structure f) }
 {
-    let Some(element) = elements.first() else {
+    let Some(Havoc::Element(element)) = havocs.first() else {
         return Ok(Followed::Blocked);
     };
     if *element >= structure.size(structure.function_into(variable)) {
         return Ok(Followed::Blocked);
     }
     set_variable(alloc, &mut structure, variable, *element)?;
+    Ok(judge(axioms, structure))
+}
+
+fn havoc_relation(
+    alloc: Global,
+    axioms: &[Sentence],
+    rel: RelId,
+    havocs: &[Havoc],
+    mut structure: Structure,
+) -> Mem<Followed>
+    requires { CanStep axioms.now (havoc_rel_tree rel.0) structure }
+    ensures { IfOk result (λ f. StepsTo axioms.now (havoc_rel_tree rel.0) havocs.now structure f) }
+{
+    let Some(Havoc::Tuples(tuples)) = havocs.first() else {
+        return Ok(Followed::Blocked);
+    };
+    if !structure.are_in_range(rel, tuples.as_slice()) {
+        return Ok(Followed::Blocked);
+    }
+    structure.set_tuples(alloc, rel, tuples.as_slice())?;
     Ok(judge(axioms, structure))
 }
 

@@ -43,6 +43,7 @@ use Rattle.rml_command.specs.Trees.{
   set_rel,
   set_fun,
   havoc,
+  havoc_rel,
   abort,
   CommandTree,
   CommandTrees,
@@ -268,6 +269,7 @@ module _ (conditions : List Condition) (all : AllByRecursion (λ c. IsDecidable 
   in_fragment (set_rel r by) written plain = plain
   in_fragment (set_fun f by) written plain = plain
   in_fragment (havoc v) written plain = tt
+  in_fragment (havoc_rel r) written plain = tt
   in_fragment abort written plain = tt
 
   mutual

@@ -110,9 +110,9 @@ module _ (m : ModelTree) (goal : Goal) (a : Assumed) where
   -- where no structure satisfies it, the goal has no counterexample where these conjectures hold
   pub none_assumed : RefutingByIsExact → AffectedRefutingIsSame → FitsModel m → IsGoal m goal → (p : FormTree)
       → p ≡ assumed_sentence m a goal → HasNoModel m.signature p → HasNoneBy m (conjectures_of m a.held.items) goal
-  none_assumed exact affected fits g p is none s elements values counter =
+  none_assumed exact affected fits g p is none s havocs values counter =
       let held = conjectures_of m a.held.items in
-      let full = (exact m held goal s fits g counter.structure).1 (elements, values, counter) in
+      let full = (exact m held goal s fits g counter.structure).1 (havocs, values, counter) in
       let lean = affected m held goal s fits g counter.structure ∙ full in
       none s counter.structure
       (subst (λ (q : FormTree). is_true s q ≡ true) (sym is)

@@ -118,7 +118,7 @@ module _ (followed : PathHasFollowedOutcomes) (kind : PathsKeepKind) (values : F
           let path = (followed m.axioms p s (ended new)).0 outcome in
           let vs = (values new c).0 e in
           let ce : IsCounterexampleBy m (conjectures_of m held)
-          (record { stage = st; path = number; about = about.Conjecture k }) s path.elements vs.0 = record {
+          (record { stage = st; path = number; about = about.Conjecture k }) s path.havocs vs.0 = record {
             path = p;
             is_path = is_path;
             structure = fits;
@@ -126,7 +126,7 @@ module _ (followed : PathHasFollowedOutcomes) (kind : PathsKeepKind) (values : F
             count = path.count;
             fails = (c, new, at, path.ends, vs.1);
           } in
-          absurd (none-at st k number p here has is_path (kind.ends m.axioms p s new outcome) s path.elements vs.0 ce)
+          absurd (none-at st k number p here has is_path (kind.ends m.axioms p s new outcome) s path.havocs vs.0 ce)
 
   pub inductive : ((k : ℕ) → Has held k → k < length m.conjectures) → IsInductive m held
   inductive numbers = record {

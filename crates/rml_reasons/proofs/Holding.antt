@@ -36,7 +36,7 @@ module _ (s : Tables) where
 
 pub carried_groups_hold : CarriedGroupsHold
 carried_groups_hold limits m group ks reason =
-    all_more (IsSafe Whole limits m ks) (HasNone m) (λ goal safe s elements values h. safe.1 s elements values (record {
+    all_more (IsSafe Whole limits m ks) (HasNone m) (λ goal safe s havocs values h. safe.1 s havocs values (record {
       path = h.path;
       is_path = h.is_path;
       structure = h.structure;

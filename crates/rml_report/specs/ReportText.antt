@@ -5,6 +5,7 @@ use Rattle.std.specs.Fmt.{decimal}
 use Rattle.rml_command.specs.Trees.{PrimitiveTree}
 use Rattle.rml_command.specs.Outcomes.{Outcome, ended, aborted, follow_path}
 use Rattle.rml_command.specs.Models.{ModelTree}
+use Rattle.rml_command.specs.Elements.{elements_of}
 use Rattle.rml_command.specs.Goals.{goal_path}
 use Rattle.rml_command.specs.declared.names.Names.{Names}
 use Rattle.rml_command.specs.declared.goal.Stage.{Stage}
@@ -83,11 +84,12 @@ abbrev pub outcome_text : ModelTree → About → Counterexample → List ℕ
 outcome_text m about.Abort shown = codes "  aborts\n"
 outcome_text m (about.Conjecture k) shown = end_text m shown
 
--- an execution: the structure in which it begins, the elements of its havocs, and how it ends
+-- An execution: the structure in which it begins, the elements of its havocs, and how it ends. No model havocs a
+-- relation, so its havocs have elements alone.
 unfoldable pub execution_text : ModelTree → About → Counterexample → List ℕ
 execution_text m a shown =
     codes "  before\n" ++ sorts_text m.names shown.structure ++ tables_text m.names shown.structure
-    ++ numbers_line (codes "  havoc:") shown.trace.havoc ++ outcome_text m a shown
+    ++ numbers_line (codes "  havoc:") (elements_of shown.trace.havoc) ++ outcome_text m a shown
 
 unfoldable pub block_text : ModelTree → About → ℕ → Least → Counterexample → List ℕ
 block_text m a paths l shown =

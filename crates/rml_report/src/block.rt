@@ -9,7 +9,7 @@ use crate::cause::{Bound, Cause, Least};
 use crate::structures::{push_sorts, push_tables};
 use crate::words::{push_cause, push_labelled, push_name, push_numbers_line};
 use base::{Mem, push_number, push_text};
-use rml_command::{About, Checked, Names};
+use rml_command::{About, Checked, Names, elements_of};
 use rml_exec::{Counterexample, Followed, follow};
 use std::alloc::Global;
 
@@ -132,10 +132,11 @@ pub fn push_execution(
     ensures { OnOk result (out.new.items ≡ out.old.items ++ execution_text checked.now about shown.now) }
 {
     let model = checked.model();
+    let elements = elements_of(alloc, shown.trace.havoc.as_slice())?;
     push_text(out, "  before\n")?;
     push_sorts(out, model, &shown.structure)?;
     push_tables(alloc, out, model, &shown.structure)?;
-    push_numbers_line(out, "  havoc:", shown.trace.havoc.as_slice())?;
+    push_numbers_line(out, "  havoc:", elements.as_slice())?;
     push_outcome(alloc, out, checked, about, shown)?;
     Ok(())
 }

@@ -7,9 +7,10 @@ use Rattle.fol_formula.specs.Syntax.{FormTree, FormTrees, TermTree, TermTrees, t
 use Rattle.fol_formula.specs.Syntax.{conjunction, disjunction, implication, equivalence, for_all, for_some, no_forms}
 use Rattle.fol_formula.specs.Syntax.{form_then, bound, app, ite, no_terms, term_then}
 use Rattle.fol_formula.specs.Fits.{FitsForm, FitsForms, FitsTerm, FitsTerms}
-use Rattle.rml_command.specs.Trees.{PrimitiveTree, assume, set_rel, set_fun, havoc, abort, CommandTree, CommandTrees}
+use Rattle.rml_command.specs.Trees.{PrimitiveTree, assume, set_rel, set_fun, havoc, havoc_rel, abort, CommandTree}
+use Rattle.rml_command.specs.Trees.{CommandTrees}
 use Rattle.rml_command.specs.Trees.{prim, seq, choose, no_commands, command_then, EachPrimitive, EachPrimitiveOf}
-use Rattle.rml_command.specs.Models.{FitsPrimitive, FitsCommand}
+use Rattle.rml_command.specs.Models.{FitsStep, FitsBlock}
 
 -- the symbols are among the others
 pub record Extends (old new : Symbols) : Type 0 where
@@ -84,7 +85,7 @@ module _ (old new : Symbols) (x : Extends old new) where
   pub sentence_grows : (p : FormTree) → FitsForm old [] p → FitsForm new [] p
   sentence_grows p h = form_grows old new x [] [] p h
 
-  primitive_grows : (q : PrimitiveTree) → FitsPrimitive old q → FitsPrimitive new q
+  primitive_grows : (q : PrimitiveTree) → FitsStep old q → FitsStep new q
   primitive_grows (assume p) h = sentence_grows p h
   primitive_grows (set_rel r by) h =
       let e : new.sorts_of r ≡ old.sorts_of r = x.sorts_of r h.0 in (
@@ -107,7 +108,8 @@ module _ (old new : Symbols) (x : Extends old new) where
         ∙ h.1,
     subst (λ (k : ℕ). k < new.sorts) (sym (x.into_of v h.0)) (omega (arith, h.2, x.sorts)),
   )
+  primitive_grows (havoc_rel r) h = absurd h
   primitive_grows abort h = tt
 
-  pub command_grows : (c : CommandTree) → FitsCommand old c → FitsCommand new c
-  command_grows c h = each_more (FitsPrimitive old) (FitsPrimitive new) primitive_grows c h
+  pub command_grows : (c : CommandTree) → FitsBlock old c → FitsBlock new c
+  command_grows c h = each_more (FitsStep old) (FitsStep new) primitive_grows c h

@@ -10,7 +10,7 @@ use Rattle.fol_formula.specs.Fits.{FitsForm, FitsForms, FitsTerm, FitsTerms}
 use Rattle.rml_lex.specs.declared.fault_code.FaultCode.TheVariants as fault_code
 use Rattle.rml_terms.specs.declared.tree.Name.{Name}
 use Rattle.rml_terms.specs.Tree.{ExprTree, ExprTrees}
-use Rattle.rml_command.specs.Models.{ModelTree, IsNamed, FitsPrimitive}
+use Rattle.rml_command.specs.Models.{ModelTree, IsNamed, FitsStep}
 use Rattle.rml_names.specs.declared.meaning.Meaning.{Meaning}
 use Rattle.rml_names.specs.declared.meaning.Meaning.TheVariants as meaning
 use Rattle.rml_sort_check.specs.declared.wanted.Wanted.TheVariants.{Term}
@@ -112,7 +112,7 @@ module _ (text : List ℕ) (m : ModelTree) (named : IsNamed m) (sorted : AreSort
   sig = symbols m.signature
 
   insertion_fits : (x : Meaning) (ts : TermTrees) → IsThere m 0 [] x → FitsTerms sig [] ts (argument_sorts m x)
-      → FitsPrimitive sig (insertion x ts)
+      → FitsStep sig (insertion x ts)
   insertion_fits (meaning.Bound i k) ts h f = tt
   insertion_fits (meaning.Relation r) ts h f = let t = tuple_fits sig ts (sig.sorts_of r) f in
       (h, ((h, sorted.relations_short r h, t.parameters_fit), (t.equations_fit, tt)))
@@ -120,7 +120,7 @@ module _ (text : List ℕ) (m : ModelTree) (named : IsNamed m) (sorted : AreSort
   insertion_fits meaning.Unknown ts h f = tt
 
   removal_fits : (x : Meaning) (ts : TermTrees) → IsThere m 0 [] x → FitsTerms sig [] ts (argument_sorts m x)
-      → FitsPrimitive sig (removal x ts)
+      → FitsStep sig (removal x ts)
   removal_fits (meaning.Bound i k) ts h f = tt
   removal_fits (meaning.Relation r) ts h f = let t = tuple_fits sig ts (sig.sorts_of r) f in
       (h, ((h, sorted.relations_short r h, t.parameters_fit), (t.equations_fit, tt)))
@@ -129,7 +129,7 @@ module _ (text : List ℕ) (m : ModelTree) (named : IsNamed m) (sorted : AreSort
 
   placement_fits : (x : Meaning) (ts : TermTrees) (u : TermTree) → IsThere m 0 [] x
       → FitsTerms sig [] ts (argument_sorts m x)
-      → ((k : ℕ) → result_sort m x ≡ Some k → FitsTerm sig [] u k) → FitsPrimitive sig (placement x ts u)
+      → ((k : ℕ) → result_sort m x ≡ Some k → FitsTerm sig [] u k) → FitsStep sig (placement x ts u)
   placement_fits (meaning.Bound i k) ts u h f g = tt
   placement_fits (meaning.Relation r) ts u h f g = tt
   placement_fits (meaning.Function p) ts u h f g =
@@ -172,16 +172,16 @@ module _ (text : List ℕ) (m : ModelTree) (named : IsNamed m) (sorted : AreSort
       (sym (append-nil (argument_demands text m [] args (argument_sorts m x))))) d)
 
   pub insert_fits : (x : Meaning) (at : ℕ) (args : ExprTrees) → IsThere m 0 [] x
-      → first_fault (tuple_demands text m x at args) ≡ None → FitsPrimitive sig (insertion x (terms_of text m [] args))
+      → first_fault (tuple_demands text m x at args) ≡ None → FitsStep sig (insertion x (terms_of text m [] args))
   insert_fits x at args h d = insertion_fits x (terms_of text m [] args) h (tuple_terms x at args d)
 
   pub remove_fits : (x : Meaning) (at : ℕ) (args : ExprTrees) → IsThere m 0 [] x
-      → first_fault (tuple_demands text m x at args) ≡ None → FitsPrimitive sig (removal x (terms_of text m [] args))
+      → first_fault (tuple_demands text m x at args) ≡ None → FitsStep sig (removal x (terms_of text m [] args))
   remove_fits x at args h d = removal_fits x (terms_of text m [] args) h (tuple_terms x at args d)
 
   pub put_fits : (x : Meaning) (at : ℕ) (args : ExprTrees) (e : ExprTree) → IsThere m 0 [] x
       → first_fault (put_demands text m x at args e) ≡ None
-      → FitsPrimitive sig (placement x (terms_of text m [] args) (term_of text m [] e))
+      → FitsStep sig (placement x (terms_of text m [] args) (term_of text m [] e))
   put_fits x at args e h d =
       let target = asks at fault_code.UnknownName (is_known x)
       ∷ asks at fault_code.BadTarget (is_function_with_arguments m x)
@@ -201,7 +201,7 @@ module _ (text : List ℕ) (m : ModelTree) (named : IsNamed m) (sorted : AreSort
   assignment_fits : (x : Meaning) (ps : List Name) (value : Option ExprTree) → IsThere m 0 [] x
       → length ps ≡ length (argument_sorts m x) → (is_some value || is_variable m x) ≡ true
       → first_fault (side_demands text m (with_parameters text [] ps (argument_sorts m x)) x value) ≡ None
-      → FitsPrimitive sig (assignment text m x ps value)
+      → FitsStep sig (assignment text m x ps value)
   assignment_fits (meaning.Bound i k) ps value h n v d = tt
   assignment_fits (meaning.Relation r) ps None h n v d = tt
   assignment_fits (meaning.Relation r) ps (Some e) h n v d =
@@ -227,7 +227,7 @@ module _ (text : List ℕ) (m : ModelTree) (named : IsNamed m) (sorted : AreSort
 
   pub assign_fits : (x : Meaning) (at : ℕ) (ps : List Name) (value : Option ExprTree) → IsThere m 0 [] x
       → first_fault (assign_demands text m x at ps value) ≡ None
-      → FitsPrimitive sig (assignment text m x ps value)
+      → FitsStep sig (assignment text m x ps value)
   assign_fits x at ps value h d =
       let side = side_demands text m (with_parameters text [] ps (argument_sorts m x)) x value in
       let ds = parameter_demands text m [] ps ++ side in

@@ -19,7 +19,7 @@ use Rattle.rml_syntax.specs.Tree.{ItemTree, Relation, Function, Variable, Axiom,
 use Rattle.rml_syntax.specs.Tree.{Final, block_of}
 use Rattle.rml_syntax.specs.Shape.{BlockNests, CommandsNest, ItemNests}
 use Rattle.rml_command.specs.Trees.{CommandTree, EachPrimitive, HasBranches}
-use Rattle.rml_command.specs.Models.{ModelTree, EachBlock, FitsCommand, IsNamed, IsWritten, HasPlainSides, IsPlainModel}
+use Rattle.rml_command.specs.Models.{ModelTree, EachBlock, FitsBlock, IsNamed, IsWritten, HasPlainSides, IsPlainModel}
 use Rattle.rml_command.specs.Models.{IsModel}
 use Rattle.rml_command.specs.declared.names.Names.{Names}
 use Rattle.rml_command.specs.declared.places.Condition.{Condition}
@@ -419,7 +419,7 @@ module _ (text : List ℕ) (m : ModelTree) (s : IsSound m) where
 
   -- what a block adds to a model
   record AddsBlock (cs : List syntax.CommandTree) : Type 0 where
-    fits : FitsCommand (symbols m.signature) (block_command text m cs)
+    fits : FitsBlock (symbols m.signature) (block_command text m cs)
     conditions_fit : AllByRecursion (λ c. FitsForm (symbols m.signature) [] c.sentence)
         (m.places.conditions ++ conditions_of_block text m (block_of cs))
     branches : HasBranches (block_command text m cs)

@@ -13,9 +13,9 @@ use Rattle.rml_syntax.specs.Tree.{Block, Blocks, Skip, Abort, Assume, Assert, If
 use Rattle.rml_syntax.specs.Tree.{Remove, Put, Assign, no_command, and_command, no_block, and_block}
 use Rattle.rml_syntax.specs.Tree as syntax
 use Rattle.rml_syntax.specs.Shape.{CommandNests, BlockNests, BlocksNest}
-use Rattle.rml_command.specs.Trees.{PrimitiveTree, assume, set_rel, set_fun, havoc, abort, CommandTrees, EachPrimitive}
-use Rattle.rml_command.specs.Trees.{EachPrimitiveOf, HasBranches, HaveBranches}
-use Rattle.rml_command.specs.Models.{ModelTree, IsNamed, FitsPrimitive, IsWritten, HasPlainSides}
+use Rattle.rml_command.specs.Trees.{PrimitiveTree, assume, set_rel, set_fun, havoc, havoc_rel, abort, CommandTrees}
+use Rattle.rml_command.specs.Trees.{EachPrimitive, EachPrimitiveOf, HasBranches, HaveBranches}
+use Rattle.rml_command.specs.Models.{ModelTree, IsNamed, FitsStep, IsWritten, HasPlainSides}
 use Rattle.rml_command.specs.declared.places.Condition.{Condition}
 use Rattle.rml_command.specs.declared.places.Word.TheVariants as word
 use Rattle.rml_names.specs.declared.meaning.Meaning.{Meaning}
@@ -44,7 +44,7 @@ module _ (text : List ℕ) (m : ModelTree) (named : IsNamed m) (sorted : AreSort
 
   mutual
     command_fits : (c : syntax.CommandTree) → first_fault (command_demands text m c) ≡ None
-        → EachPrimitive (FitsPrimitive (symbols m.signature)) (command_of text m c)
+        → EachPrimitive (FitsStep (symbols m.signature)) (command_of text m c)
     command_fits (Skip at) d = tt
     command_fits (Abort at) d = tt
     command_fits (Assume at e) d = formula_fits text m named sorted [] e d
@@ -67,7 +67,7 @@ module _ (text : List ℕ) (m : ModelTree) (named : IsNamed m) (sorted : AreSort
         assign_fits text m named sorted (symbol_of m (bytes_of text name)) name.start ps value (there name) d
 
     pub block_fits : (b : Block) → first_fault (block_demands text m b) ≡ None
-        → EachPrimitiveOf (FitsPrimitive (symbols m.signature)) (commands_of text m b)
+        → EachPrimitiveOf (FitsStep (symbols m.signature)) (commands_of text m b)
     block_fits no_command d = tt
     block_fits (and_command c cs) d = (
       command_fits c (met_left (command_demands text m c) _ d),
@@ -76,7 +76,7 @@ module _ (text : List ℕ) (m : ModelTree) (named : IsNamed m) (sorted : AreSort
     )
 
     branches_fit : (bs : Blocks) → first_fault (blocks_demands text m bs) ≡ None
-        → EachPrimitiveOf (FitsPrimitive (symbols m.signature)) (branches_of text m bs)
+        → EachPrimitiveOf (FitsStep (symbols m.signature)) (branches_of text m bs)
     branches_fit no_block d = tt
     branches_fit (and_block b bs) d =
         (block_fits b (met_left (block_demands text m b) _ d), branches_fit bs (met_right (block_demands text m b) _ d))
@@ -155,6 +155,7 @@ written_left xs ys (assume p) h = some_left _ xs ys h
 written_left xs ys (set_rel r by) h = tt
 written_left xs ys (set_fun f by) h = tt
 written_left xs ys (havoc v) h = tt
+written_left xs ys (havoc_rel r) h = tt
 written_left xs ys abort h = tt
 
 pub written_right : (xs ys : List Condition) (q : PrimitiveTree) → IsWritten ys q → IsWritten (xs ++ ys) q
@@ -162,6 +163,7 @@ written_right xs ys (assume p) h = some_right _ xs ys h
 written_right xs ys (set_rel r by) h = tt
 written_right xs ys (set_fun f by) h = tt
 written_right xs ys (havoc v) h = tt
+written_right xs ys (havoc_rel r) h = tt
 written_right xs ys abort h = tt
 
 insertion_written : (cs : List Condition) (x : Meaning) (ts : TermTrees) → IsWritten cs (insertion x ts)

@@ -13,7 +13,7 @@ use Rattle.fol_formula.specs.Fits.{FitsForm}
 use Rattle.fol_subst.specs.Replace.{change_const, changed_form}
 use Rattle.fol_occurs.specs.Occurs.{Named, the_rel, the_fun, form_mentions}
 use Rattle.fol_occurs.specs.Laws.{AreReadAlikeAt, TruthReadsOccurring}
-use Rattle.rml_command.specs.Trees.{PrimitiveTree, assume, set_rel, set_fun, havoc, abort}
+use Rattle.rml_command.specs.Trees.{PrimitiveTree, assume, set_rel, set_fun, havoc, havoc_rel, abort}
 use Rattle.rml_command.specs.Outcomes.{is_true, satisfies, set_relation, set_function, set_variable, range_of, all_of}
 use Rattle.rml_command.specs.Models.{FitsPath}
 use Rattle.rml_command.specs.Laws.{UpdatesKeepSymbols}
@@ -165,6 +165,7 @@ module _ (spares : Spares) (laws : Replaces) (keep : UpdatesKeepSymbols) (sig : 
         (is_true new (pre Affected qs)) (is_true new (pre All qs)) (enough.variable s v x e)
         (λ h. same qs new f.1 (keep.variable sig s v x f.0 lt fits) h)
         ∙ sym (truth-havoc laws sig s fits v x (lawful All (havoc v) qs) f.0 (lawful_fits All (havoc v) qs f.1) lt))
+    same (havoc_rel r ∷ qs) s f fits e = refl
     same (abort ∷ qs) s f fits e = refl
 
 pub affected_suffice : Spares → Replaces → UpdatesKeepSymbols → AffectedPremisesSuffice

@@ -3,7 +3,7 @@ use Rattle.std.proofs.Common.{Bool, true, false, cond, List, [], ◌∷◌}
 use Rattle.std.specs.List.{AllByRecursion}
 use Rattle.fol_formula.specs.Syntax.{FormTree}
 use Rattle.fol_occurs.specs.Occurs.{Named, the_rel, the_fun, form_mentions}
-use Rattle.rml_command.specs.Trees.{PrimitiveTree, assume, set_rel, set_fun, havoc, abort}
+use Rattle.rml_command.specs.Trees.{PrimitiveTree, assume, set_rel, set_fun, havoc, havoc_rel, abort}
 use Rattle.rml_wp.specs.declared.premises.Premises.{Premises}
 use Rattle.rml_wp.specs.declared.premises.Premises.TheVariants.{All, Affected}
 use Rattle.rml_wp.specs.Preconditions.{mentioning, premises_at, premises_of}
@@ -30,4 +30,5 @@ each_of P premises axioms h (assume p) = tt
 each_of P premises axioms h (set_rel r by) = each_at P premises axioms (the_rel r) h
 each_of P premises axioms h (set_fun f by) = each_at P premises axioms (the_fun f) h
 each_of P premises axioms h (havoc v) = each_at P premises axioms (the_fun v) h
+each_of P premises axioms h (havoc_rel r) = each_at P premises axioms (the_rel r) h
 each_of P premises axioms h abort = tt

@@ -109,7 +109,8 @@ fn step_back(
         Primitive::SetRel(rel, by) => before_set_rel(alloc, model, premises, *rel, by, rest),
         Primitive::SetFun(fun, by) => before_set_fun(alloc, model, premises, *fun, by, rest),
         Primitive::Havoc(variable) => before_havoc(alloc, model, premises, *variable, rest.formula),
-        Primitive::Abort => Counted::of(Formula::False),
+        // No model has the havoc of a relation.
+        Primitive::HavocRel(_) | Primitive::Abort => Counted::of(Formula::False),
     }
 }
 

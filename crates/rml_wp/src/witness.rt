@@ -18,8 +18,8 @@ use fol_sig::Symbol;
 use rml_command::{About, Checked, Goal, Model, Path, Primitive};
 use std::alloc::Global;
 
-/// The elements of a counterexample: one for each havoc of the path, and one for each leading quantifier
-/// of the conjecture.
+/// The elements of a counterexample: one for each havoc of the path, none of which is of a relation, and one
+/// for each leading quantifier of the conjecture.
 #[derive(Drop)]
 pub struct Witness {
     pub havoc: Row<u32>,
@@ -119,6 +119,10 @@ fn behind<'a>(
         Primitive::SetFun(fun, _) => skip(
             rest,
             premises.existentials(axioms, Symbol::Function(*fun)),
+        ),
+        Primitive::HavocRel(rel) => skip(
+            rest,
+            premises.existentials(axioms, Symbol::Relation(*rel)),
         ),
         Primitive::Havoc(variable) => {
             let count = premises.existentials(axioms, Symbol::Function(*variable));

@@ -10,7 +10,7 @@ use base::{Mem, Refused, Row};
 use call_files::Call;
 use fol_eval::{Env, holds};
 use fol_sig::Structure;
-use rml_command::{Checked, Path, Stage, goal_law};
+use rml_command::{Checked, Path, Stage, goal_law, havocs_of};
 use rml_exec::{Followed, Trace, follow};
 use rml_front::read_model;
 use std::alloc::{AllocError, Global};
@@ -134,9 +134,10 @@ fn follow_from(
 fn follow_input(alloc: Global, checked: &Checked, input: Input) -> Mem<String> {
     let path_number = input.path.parse::<u32>().unwrap_or(0);
     let sizes = numbers_of(alloc, input.sizes)?;
+    let elements = numbers_of(alloc, input.elements)?;
     let trace = Trace {
         path: path_number,
-        havoc: Row::from_vec(numbers_of(alloc, input.elements)?),
+        havoc: havocs_of(alloc, &elements)?,
     };
     match path_at(checked, path_number.saturating_sub(1) as usize) {
         Some(path) => {

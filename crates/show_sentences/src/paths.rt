@@ -5,7 +5,7 @@ use call_files::Call;
 use rml_command::{Model, Path, Paths, Primitive, paths};
 use std::alloc::{AllocError, Global};
 
-// Havoc is shown by the number of its variable, so that steps of a path can be told from one another.
+// Havoc is shown by the number of its symbol, so that steps of a path can be told from one another.
 fn push_step(alloc: Global, list: &mut String, primitive: &Primitive) -> Mem<()> {
     match primitive {
         Primitive::Assume(_) => list.push_str(" assume")?,
@@ -20,6 +20,10 @@ fn push_step(alloc: Global, list: &mut String, primitive: &Primitive) -> Mem<()>
         Primitive::Havoc(variable) => {
             let number = variable.0;
             list.push_str(format!(in alloc; " {number}")?.as_str())?
+        }
+        Primitive::HavocRel(relation) => {
+            let number = relation.0;
+            list.push_str(format!(in alloc; " relation {number}")?.as_str())?
         }
         Primitive::Abort => list.push_str(" abort")?,
     }

@@ -3,9 +3,10 @@
 use Rattle.std.specs.Prelude.{ℕ, List, [], ◌∷◌, ◌++◌, Option, Some, None, codes, slice_get}
 use Rattle.fol_sig.specs.Tables.{Tables, function_at}
 use Rattle.fol_formula.specs.Syntax.{FormTree}
-use Rattle.rml_command.specs.Trees.{PrimitiveTree, assume, set_rel, set_fun, havoc, abort}
+use Rattle.rml_command.specs.Trees.{PrimitiveTree, assume, set_rel, set_fun, havoc, havoc_rel, abort}
 use Rattle.rml_command.specs.Outcomes.{Outcome, ended, aborted}
 use Rattle.rml_command.specs.Models.{ModelTree}
+use Rattle.rml_command.specs.Elements.{elements_of}
 use Rattle.base.specs.Lists.{numbered}
 use Rattle.rml_command.specs.Goals.{stage_paths, leading_sorts}
 use Rattle.rml_command.specs.declared.names.Names.{Names}
@@ -23,7 +24,7 @@ use Rattle.told_states.specs.ChangeText.{changes_text}
 unfoldable pub havoc_text : Names → ℕ → ℕ → ℕ → List ℕ
 havoc_text names v k x = labelled (codes ", ") (name_at names.functions v) (codes " := ") ++ element_text names k x
 
--- the havocs of a path, in order, with the elements that they take
+-- the havocs of variables of a path, in order, with the elements that they take
 abbrev pub havocs_text : Names → Tables → List PrimitiveTree → List ℕ → List ℕ
 havocs_text names s [] xs = []
 havocs_text names s (assume p ∷ qs) xs = havocs_text names s qs xs
@@ -31,6 +32,7 @@ havocs_text names s (set_rel r by ∷ qs) xs = havocs_text names s qs xs
 havocs_text names s (set_fun f by ∷ qs) xs = havocs_text names s qs xs
 havocs_text names s (havoc v ∷ qs) [] = []
 havocs_text names s (havoc v ∷ qs) (x ∷ xs) = havoc_text names v (function_at s v).into x ++ havocs_text names s qs xs
+havocs_text names s (havoc_rel r ∷ qs) xs = havocs_text names s qs xs
 havocs_text names s (abort ∷ qs) xs = havocs_text names s qs xs
 
 -- no line where there is no havoc
@@ -65,9 +67,10 @@ abbrev pub after_text : ModelTree → About → List ℕ → List ℕ
 after_text m about.Abort values = codes "  after this it aborts\n"
 after_text m (about.Conjecture k) values = false_text m k values
 
--- Behind a path that aborts stands no structure, so nothing is told of changes.
+-- Behind a path that aborts stands no structure, so nothing is told of changes. No model havocs a relation, so the
+-- havocs take elements alone.
 unfoldable pub execution_text : ModelTree → (Stage → ℕ → List ℕ) → About → Counterexample → List ℕ
 execution_text m lines a shown =
     before_text m.names shown.structure
-    ++ step_text m lines shown.goal.stage shown.goal.path shown.structure shown.trace.havoc
+    ++ step_text m lines shown.goal.stage shown.goal.path shown.structure (elements_of shown.trace.havoc)
     ++ changes_to m.names shown.structure (outcome_of m shown) ++ after_text m a shown.values

@@ -13,7 +13,7 @@ ghost use Rattle.told_report.specs.ExecutionText.{values_text, claim_text, false
 use crate::branches::Branches;
 use base::{Mem, push_text};
 use fol_sig::{FunId, Sort, Structure};
-use rml_command::{About, Checked, Model, Names, Path, Primitive, Stage, goal_law};
+use rml_command::{About, Checked, Model, Names, Path, Primitive, Stage, elements_of, goal_law};
 use rml_exec::{Counterexample, Followed, follow};
 use rml_report::push_labelled;
 use std::alloc::Global;
@@ -209,7 +209,7 @@ pub fn push_execution<B: Branches>(
     ensures { OnOk result (out.new.items ≡ out.old.items
         ++ execution_text checked.now (B.lines branches.now) about shown.now) }
 {
-    let elements = shown.trace.havoc.as_slice();
+    let elements = elements_of(alloc, shown.trace.havoc.as_slice())?;
     push_before(alloc, out, checked.model(), &shown.structure)?;
     push_step(
         alloc,
@@ -219,7 +219,7 @@ pub fn push_execution<B: Branches>(
         shown.goal.stage,
         shown.goal.path,
         &shown.structure,
-        elements,
+        elements.as_slice(),
     )?;
     push_changed(alloc, out, checked, shown)?;
     push_after(out, checked.model(), about, shown.values.as_slice())?;

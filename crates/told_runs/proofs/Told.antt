@@ -7,6 +7,7 @@ use Rattle.fol_sig.specs.Symbols.{FitsStructure, symbols}
 use Rattle.rml_command.specs.Trees.{PrimitiveTree}
 use Rattle.rml_command.specs.Outcomes.{follow_path}
 use Rattle.rml_command.specs.Models.{ModelTree}
+use Rattle.rml_command.specs.declared.havoc.Havoc.{Havoc}
 use Rattle.rml_bmc.specs.Shown.{outcome_of, AreParts, IsShownRun}
 use Rattle.rml_bmc.specs.Bounds.{ShowsBreak}
 use Rattle.rml_bmc.specs.declared.answer.Part.{Part}
@@ -20,12 +21,12 @@ use Rattle.told_runs.specs.RunsText.{EndFits, CanShow, CanTell}
 use Rattle.told_runs.specs.Laws.{BoundedCanBeTold}
 
 module _ (alike : EndsAreAlike) (m : ModelTree) where
-  end_fits : (e : Option Tables) (p : List PrimitiveTree) (xs sizes : List ℕ) (s : Tables)
+  end_fits : (e : Option Tables) (p : List PrimitiveTree) (hs : List Havoc) (sizes : List ℕ) (s : Tables)
       → FitsStructure (symbols m.signature) s → s.sizes ≡ sizes → plain.EndFits m e
-      → follow_path m.axioms p xs s ≡ Some (outcome_of e) → EndFits m sizes e
-  end_fits None p xs sizes s fits same end ends = tt
-  end_fits (Some t) p xs sizes s fits same end ends =
-      (end, (alike m.axioms p xs (symbols m.signature) s t fits end ends).sizes ∙ same)
+      → follow_path m.axioms p hs s ≡ Some (outcome_of e) → EndFits m sizes e
+  end_fits None p hs sizes s fits same end ends = tt
+  end_fits (Some t) p hs sizes s fits same end ends =
+      (end, (alike m.axioms p hs (symbols m.signature) s t fits end ends).sizes ∙ same)
 
   parts_fit : (e : Option Tables) (sizes : List ℕ) (parts : List Part) → EndFits m sizes e
       → MatchOption e (parts ≡ []) (λ t. AreParts m t parts)

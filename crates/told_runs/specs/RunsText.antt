@@ -6,6 +6,7 @@ use Rattle.std.specs.Fmt.{decimal}
 use Rattle.fol_sig.specs.Tables.{Tables}
 use Rattle.fol_sig.specs.Symbols.{FitsStructure, symbols}
 use Rattle.rml_command.specs.Models.{ModelTree}
+use Rattle.rml_command.specs.Elements.{elements_of}
 use Rattle.rml_command.specs.Goals.{stage_paths}
 use Rattle.rml_command.specs.declared.names.Names.{Names}
 use Rattle.rml_command.specs.declared.goal.Stage.{Stage}
@@ -48,7 +49,7 @@ changes_until names s (Some end) = changes_text names s end
 -- a part that begins in this structure
 unfoldable pub part_text : ModelTree → (Stage → ℕ → List ℕ) → Tables → Part → List ℕ
 part_text m lines s part =
-    part_head m part ++ step_text m lines part.stage part.trace.path s part.trace.havoc
+    part_head m part ++ step_text m lines part.stage part.trace.path s (elements_of part.trace.havoc)
     ++ changes_until m.names s part.end
 
 abbrev pub end_or : Tables → Option Tables → Tables

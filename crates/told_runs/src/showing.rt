@@ -8,7 +8,7 @@ ghost use Rattle.told_runs.specs.RunsText.{unit_text, run_head, run_text, EndFit
 use base::{Mem, push_number, push_text};
 use fol_sig::Structure;
 use rml_bmc::{Part, Run};
-use rml_command::{About, Checked, Names};
+use rml_command::{About, Checked, Names, elements_of};
 use rml_report::push_stage;
 use std::alloc::Global;
 use told_report::{Branches, push_after, push_fault, push_path, push_step};
@@ -82,7 +82,7 @@ fn push_part<B: Branches>(
     ensures { OnOk result (out.new.items ≡ out.old.items
         ++ part_text checked.now (B.lines branches.now) begin.now part.now) }
 {
-    let elements = part.trace.havoc.as_slice();
+    let elements = elements_of(alloc, part.trace.havoc.as_slice())?;
     push_part_head(out, checked, part)?;
     push_step(
         alloc,
@@ -92,7 +92,7 @@ fn push_part<B: Branches>(
         part.stage,
         part.trace.path,
         begin,
-        elements,
+        elements.as_slice(),
     )?;
     push_until(alloc, out, checked, begin, &part.end)?;
     Ok(())

@@ -4,10 +4,13 @@ use Rattle.std.proofs.Common.{◌∙◌, subst}
 use Rattle.std.specs.Prelude.{nat_lt}
 use Rattle.fol_sig.specs.Tables.{Tables}
 use Rattle.fol_sig.specs.Symbols.{Symbols, FitsStructure}
+use Rattle.fol_sig.specs.TupleSets.{with_tuples}
 use Rattle.fol_formula.specs.Syntax.{FormTree}
-use Rattle.rml_command.specs.Trees.{PrimitiveTree, assume, set_rel, set_fun, havoc, abort}
+use Rattle.rml_command.specs.Trees.{PrimitiveTree, assume, set_rel, set_fun, havoc, havoc_rel, abort}
 use Rattle.rml_command.specs.Outcomes.{Outcome, ended, follow_path, is_true, satisfies, set_relation}
-use Rattle.rml_command.specs.Outcomes.{set_function, set_variable, range_of}
+use Rattle.rml_command.specs.Outcomes.{set_function, set_variable, range_of, are_tuples_of}
+use Rattle.rml_command.specs.declared.havoc.Havoc.{Havoc}
+use Rattle.rml_command.specs.declared.havoc.Havoc.TheVariants.{Element, Tuples}
 use Rattle.told_states.specs.Alike.{AreAlike}
 
 -- where a test is passed, and the rest ends so
@@ -19,24 +22,32 @@ passed false o t sizes f e = cc e
 same_tables : (s t : Tables) → Some (ended s) ≡ Some (ended t) → t.sizes ≡ s.sizes
 same_tables s t e = let i : t ≡ s = cc e in ap (λ (x : Tables). x.sizes) i
 
-pub keeps_sizes : (axioms : List FormTree) (qs : List PrimitiveTree) (xs : List ℕ) (s t : Tables)
-    → follow_path axioms qs xs s ≡ Some (ended t) → t.sizes ≡ s.sizes
-keeps_sizes axioms [] xs s t e = same_tables s t e
-keeps_sizes axioms (assume p ∷ qs) xs s t e =
-    passed (is_true s p) (follow_path axioms qs xs s) t s.sizes (keeps_sizes axioms qs xs s t) e
-keeps_sizes axioms (set_rel r by ∷ qs) xs s t e =
-    passed (satisfies (set_relation s r by) axioms) (follow_path axioms qs xs (set_relation s r by)) t s.sizes
-    (keeps_sizes axioms qs xs (set_relation s r by) t) e
-keeps_sizes axioms (set_fun f by ∷ qs) xs s t e =
-    passed (satisfies (set_function s f by) axioms) (follow_path axioms qs xs (set_function s f by)) t s.sizes
-    (keeps_sizes axioms qs xs (set_function s f by) t) e
+pub keeps_sizes : (axioms : List FormTree) (qs : List PrimitiveTree) (hs : List Havoc) (s t : Tables)
+    → follow_path axioms qs hs s ≡ Some (ended t) → t.sizes ≡ s.sizes
+keeps_sizes axioms [] hs s t e = same_tables s t e
+keeps_sizes axioms (assume p ∷ qs) hs s t e =
+    passed (is_true s p) (follow_path axioms qs hs s) t s.sizes (keeps_sizes axioms qs hs s t) e
+keeps_sizes axioms (set_rel r by ∷ qs) hs s t e =
+    passed (satisfies (set_relation s r by) axioms) (follow_path axioms qs hs (set_relation s r by)) t s.sizes
+    (keeps_sizes axioms qs hs (set_relation s r by) t) e
+keeps_sizes axioms (set_fun f by ∷ qs) hs s t e =
+    passed (satisfies (set_function s f by) axioms) (follow_path axioms qs hs (set_function s f by)) t s.sizes
+    (keeps_sizes axioms qs hs (set_function s f by) t) e
 keeps_sizes axioms (havoc v ∷ qs) [] s t e = cc e
-keeps_sizes axioms (havoc v ∷ qs) (x ∷ xs) s t e =
+keeps_sizes axioms (havoc v ∷ qs) (Element x ∷ hs) s t e =
     passed (nat_lt x (range_of s v))
-    (cond (satisfies (set_variable s v x) axioms) (follow_path axioms qs xs (set_variable s v x)) None) t s.sizes
-    (passed (satisfies (set_variable s v x) axioms) (follow_path axioms qs xs (set_variable s v x)) t s.sizes
-    (keeps_sizes axioms qs xs (set_variable s v x) t)) e
-keeps_sizes axioms (abort ∷ qs) xs s t e = cc e
+    (cond (satisfies (set_variable s v x) axioms) (follow_path axioms qs hs (set_variable s v x)) None) t s.sizes
+    (passed (satisfies (set_variable s v x) axioms) (follow_path axioms qs hs (set_variable s v x)) t s.sizes
+    (keeps_sizes axioms qs hs (set_variable s v x) t)) e
+keeps_sizes axioms (havoc v ∷ qs) (Tuples xss ∷ hs) s t e = cc e
+keeps_sizes axioms (havoc_rel r ∷ qs) [] s t e = cc e
+keeps_sizes axioms (havoc_rel r ∷ qs) (Element x ∷ hs) s t e = cc e
+keeps_sizes axioms (havoc_rel r ∷ qs) (Tuples xss ∷ hs) s t e =
+    passed (are_tuples_of s r xss)
+    (cond (satisfies (with_tuples s r xss) axioms) (follow_path axioms qs hs (with_tuples s r xss)) None) t s.sizes
+    (passed (satisfies (with_tuples s r xss) axioms) (follow_path axioms qs hs (with_tuples s r xss)) t s.sizes
+    (keeps_sizes axioms qs hs (with_tuples s r xss) t)) e
+keeps_sizes axioms (abort ∷ qs) hs s t e = cc e
 
 pub alike : (sig : Symbols) (s t : Tables) → FitsStructure sig s → FitsStructure sig t → t.sizes ≡ s.sizes
     → AreAlike s t

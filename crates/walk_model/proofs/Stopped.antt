@@ -40,7 +40,7 @@ module _ (ends : PathsEndAtAbort) (followed : PathHasFollowedOutcomes) (kinds : 
   none_by none s (ended new) fits lawful h =
       let g = (followed m.axioms stopped s aborted).0
       (onward m.axioms (joined m legs) (abort ∷ []) s new aborted h (inl (refl, refl))) in
-      none s g.elements [] (record {
+      none s g.havocs [] (record {
         path = stopped;
         is_path = stopped_path ends m legs checked are goes about.Abort;
         structure = fits;

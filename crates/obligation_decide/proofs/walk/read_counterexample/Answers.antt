@@ -6,6 +6,8 @@ use Rattle.fol_formula.specs.Syntax.{FormTree}
 use Rattle.fol_formula.specs.Counts.{saturated}
 use Rattle.fol_formula.specs.Witnesses.{existentials}
 use Rattle.rml_command.specs.Outcomes.{is_true}
+use Rattle.rml_command.specs.Elements.{havocs_of}
+use Rattle.rml_command.specs.declared.havoc.Havoc.{Havoc}
 use Rattle.rml_wp.specs.Witnesses.{witness_places_by, values_at}
 use Rattle.obligation_decide.specs.Restricted.{RefutesAs}
 use Rattle.obligation_decide.proofs.SameAnswer.{signature_of, functions_of}
@@ -87,11 +89,12 @@ returns-clause-refutes c =
     t c.requires.model f n counted c.counterexample_law.ensures.models xs read in
     let s = reduct (symbols m.signature) t in
     let structure : c.restrict.new.self ≡ s = c.restrict.ensures ∙ ap (λ (z : Declared). reduct (symbols z) t) sig in
-    subst (λ (r : Tables). RefutesAs c.args.premises m g p r w.havoc w.values) (sym structure)
-    (subst (λ (v : List ℕ). RefutesAs c.args.premises m g p s w.havoc v) (sym c.in_ok-witness.ensures.values)
-    (subst (λ (h : List ℕ). RefutesAs c.args.premises m g p s h (values_at xs places.values))
-    (sym c.in_ok-witness.ensures.havoc)
-    shown))
+    let taken : c.in_ok-havoc.havoc ≡ havocs_of (values_at xs places.havocs) =
+    c.in_ok-havoc.ensures ∙ ap havocs_of (c.as_slice.ensures ∙ c.in_ok-witness.ensures.havoc) in
+    subst (λ (r : Tables). RefutesAs c.args.premises m g p r c.in_ok-havoc.havoc w.values) (sym structure)
+    (subst (λ (v : List ℕ). RefutesAs c.args.premises m g p s c.in_ok-havoc.havoc v)
+    (sym c.in_ok-witness.ensures.values)
+    (subst (λ (h : List Havoc). RefutesAs c.args.premises m g p s h (values_at xs places.values)) (sym taken) shown))
 
 pub returns-clause-holds : goal.returns-clause-holds
 returns-clause-holds c =

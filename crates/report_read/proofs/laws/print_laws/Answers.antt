@@ -8,3 +8,4 @@ returns-clause-one c = is_one c.scan_laws.ensures c.tuple_laws.ensures c.goal_la
 pub returns-clause-rendered : goal.returns-clause-rendered
 returns-clause-rendered c =
     are_printed c.line_laws.ensures c.update_law.ensures c.goal_law.ensures.fit c.path_law.ensures.last
+    c.path_law.ensures.elements

@@ -8,6 +8,6 @@ abbrev pub invariant-loop-primitive : goal.invariant-loop-primitive
 invariant-loop-primitive l = record {
   fits : FitsPath (symbols l.checked.signature) l.primitive-iterator;
   structure : FitsStructure (symbols l.checked.signature) l.now;
-  same : follow_path l.checked.axioms l.primitive-iterator l.elements l.now
+  same : follow_path l.checked.axioms l.primitive-iterator l.havocs l.now
       ≡ follow_path l.checked.axioms l.path l.trace.havoc l.fn.structure;
 }
