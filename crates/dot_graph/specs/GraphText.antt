@@ -6,7 +6,7 @@ use Rattle.rml_command.specs.Outcomes.{Outcome, ended, aborted}
 use Rattle.rml_command.specs.Models.{ModelTree}
 use Rattle.rml_command.specs.declared.names.Names.{Names}
 use Rattle.rml_exec.specs.declared.trace.Counterexample.{Counterexample}
-use Rattle.rml_report.specs.ReportText.{outcome_of}
+use Rattle.rml_report.specs.ReportText.{head_text, outcome_of}
 use Rattle.dot_graph.specs.NodeText.{frames_text}
 use Rattle.dot_graph.specs.EdgeText.{edges_text}
 
@@ -28,10 +28,14 @@ side_text letter title names s t =
 unfoldable pub graph_head : List ℕ → ℕ → List ℕ
 graph_head word n = codes "digraph " ++ word ++ decimal n ++ codes " {\n"
 
--- the structure before beside the one after
-unfoldable pub step_graph : ℕ → Names → Tables → Tables → List ℕ
-step_graph n names s t =
-    graph_head (codes "step") n ++ side_text (codes "b") (codes "before") names s t
+-- what stands above a picture
+unfoldable pub graph_title : List ℕ → List ℕ
+graph_title title = codes "  label=<" ++ title ++ codes ">;\n" ++ codes "  labelloc=t;\n"
+
+-- the structure before beside the one after, under a title
+unfoldable pub step_graph : ℕ → List ℕ → Names → Tables → Tables → List ℕ
+step_graph n title names s t =
+    graph_head (codes "step") n ++ graph_title title ++ side_text (codes "b") (codes "before") names s t
     ++ side_text (codes "a") (codes "after") names t s ++ codes "}\n"
 
 -- one structure under a title, in which nothing is red
@@ -39,10 +43,12 @@ unfoldable pub state_graph : ℕ → List ℕ → Names → Tables → List ℕ
 state_graph n title names s = graph_head (codes "state") n ++ side_text (codes "s") title names s s ++ codes "}\n"
 
 -- A counterexample as a step. One that aborts has no end, and is the state in which it begins.
-abbrev pub outcome_graph : ℕ → Names → Tables → Option Outcome → List ℕ
-outcome_graph n names s None = state_graph n (codes "state") names s
-outcome_graph n names s (Some aborted) = state_graph n (codes "state") names s
-outcome_graph n names s (Some (ended t)) = step_graph n names s t
+abbrev pub outcome_graph : ℕ → List ℕ → Names → Tables → Option Outcome → List ℕ
+outcome_graph n title names s None = state_graph n title names s
+outcome_graph n title names s (Some aborted) = state_graph n title names s
+outcome_graph n title names s (Some (ended t)) = step_graph n title names s t
 
+-- under what it is a counterexample of
 abbrev pub counterexample_graph : ℕ → ModelTree → Counterexample → List ℕ
-counterexample_graph n m shown = outcome_graph n m.names shown.structure (outcome_of m shown)
+counterexample_graph n m shown =
+    outcome_graph n (head_text m.names shown.goal.stage shown.goal.about) m.names shown.structure (outcome_of m shown)

@@ -1,5 +1,5 @@
--- What newcomers write, and what is written in its place: a table for bytes that are none of the language's, and one
--- for tokens that no file goes on with.
+-- What newcomers write, and what is written in its place: a table for bytes that are none of the language's, one for
+-- tokens that no file goes on with, and one for what is wrong with names, sorts and formulas.
 use Rattle.std.specs.Prelude.{ℕ, ◌-◌, Bool, true, false, ◌||◌, ◌&&◌, nat_lt, nat_eq, if◌then◌else◌, List, [], ◌∷◌}
 use Rattle.std.specs.Prelude.{Option, Some, None, drop, codes}
 use Rattle.std.specs.List.{starts_with}
@@ -12,6 +12,8 @@ use Rattle.rml_lex.specs.declared.token.Word.TheVariants as word
 use Rattle.rml_lex.specs.declared.token.Sign.{Sign}
 use Rattle.rml_lex.specs.declared.token.Sign.TheVariants as sign
 use Rattle.rml_lex.specs.Tokens.{word_of}
+use Rattle.rml_lex.specs.declared.fault_code.FaultCode.{FaultCode}
+use Rattle.rml_lex.specs.declared.fault_code.FaultCode.TheVariants as code
 use Rattle.hints.specs.declared.hint.Hint.{Hint}
 use Rattle.hints.specs.declared.hint.Hint.TheVariants as hint
 
@@ -97,6 +99,21 @@ token_rows =
     ∷ ([], codes ")", codes "=", hint.Becomes)
     ∷ []
 
+-- what stands at a name that nothing declares
+abbrev pub name_rows : List (List ℕ × Hint)
+name_rows = (codes "TRUE", hint.Truth) ∷ (codes "FALSE", hint.Truth) ∷ []
+
+-- what is wrong with names, sorts and formulas
+abbrev pub code_hint : FaultCode → Option Hint
+code_hint code.NotATerm = Some hint.Formulas
+code_hint code.BadTarget = Some hint.Becomes
+code_hint code.TakenName = Some hint.NewName
+code_hint code.FunctionCycle = Some hint.Cycle
+code_hint code.NotExistsForall = Some hint.Witness
+code_hint code.NotUniversal = Some hint.Witness
+code_hint code.TooManyPaths = Some hint.Paths
+code_hint _ = None
+
 -- the words of a hint
 abbrev pub words_of : Hint → List ℕ
 words_of hint.NotEqual = codes "unequal is written `~=`"
@@ -133,6 +150,12 @@ words_of hint.If = codes "a branch is written `if c { .. } else { .. }`"
 words_of hint.Constant = codes "a constant is a `variable` that no command sets"
 words_of hint.Init = codes "the beginning is written `init { .. }`"
 words_of hint.Action = codes "each way to go on is an `action NAME { .. }`"
+words_of hint.Truth = codes "truth is written `true` or `false`"
+words_of hint.Formulas = codes "formulas are compared by `<->`, and a relation is no term"
+words_of hint.NewName = codes "a name that is bound is new: for one element, `insert r(x)` or `put f(x) = ..`"
+words_of hint.Cycle = codes "functions may not lead round: a relation in the place of one, or a sort of its own"
+words_of hint.Witness = codes "what exists for each element is given by a function: `r(N, f(N))`"
+words_of hint.Paths = codes "each `if` and `choose` multiplies the paths: several actions in the place of one"
 
 -- ---- how they are read
 
@@ -221,3 +244,8 @@ hint_of round kinds = or_semicolon (first_fitting token_rows round) (round.begin
 
 abbrev pub token_hint : List ℕ → List Token → ℕ → List Kind → Option Hint
 token_hint text tokens at kinds = hint_of (round_at text at [] [] tokens) kinds
+
+-- of what stands at a name that nothing declares, or of what is wrong otherwise
+abbrev pub fault_hint : List ℕ → ℕ → FaultCode → Option Hint
+fault_hint text at code.UnknownName = first_begun name_rows (drop at text)
+fault_hint text at c = code_hint c

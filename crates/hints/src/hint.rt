@@ -73,6 +73,18 @@ pub enum Hint {
     Init,
     /// Each way to go on is an `action NAME { .. }`.
     Action,
+    /// Truth is written `true` or `false`.
+    Truth,
+    /// Formulas are compared by `<->`, and a relation is no term.
+    Formulas,
+    /// A name that is bound is new.
+    NewName,
+    /// Functions may not lead round.
+    Cycle,
+    /// What exists for each element is given by a function.
+    Witness,
+    /// Each `if` and `choose` multiplies the paths.
+    Paths,
 }
 
 impl Hint {
@@ -120,6 +132,15 @@ impl Hint {
             Hint::Constant => "a constant is a `variable` that no command sets",
             Hint::Init => "the beginning is written `init { .. }`",
             Hint::Action => "each way to go on is an `action NAME { .. }`",
+            Hint::Truth => "truth is written `true` or `false`",
+            Hint::Formulas => "formulas are compared by `<->`, and a relation is no term",
+            Hint::NewName =>
+                "a name that is bound is new: for one element, `insert r(x)` or `put f(x) = ..`",
+            Hint::Cycle =>
+                "functions may not lead round: a relation in the place of one, or a sort of its own",
+            Hint::Witness => "what exists for each element is given by a function: `r(N, f(N))`",
+            Hint::Paths =>
+                "each `if` and `choose` multiplies the paths: several actions in the place of one",
         }
     }
 }
@@ -150,6 +171,9 @@ pub const BYTE_ROWS: [(&str, Hint); 20] = [
 
 // What stands at a bad byte and the one in front of it.
 pub const PAIR_ROWS: [(&str, Hint); 1] = [("=>", Hint::Implies)];
+
+// What stands at a name that nothing declares.
+pub const NAME_ROWS: [(&str, Hint); 2] = [("TRUE", Hint::Truth), ("FALSE", Hint::Truth)];
 
 // What stands round an unexpected token: the token before the one in front, the one in front, and the one at the fault;
 // an empty one is any, or none.

@@ -4,9 +4,10 @@ ghost use Rattle.std.specs.List.{AllByRecursion};
 ghost use Rattle.rml_lex.specs.Tokens.{EndsBy};
 ghost use Rattle.hints.specs.Hints.{first_begun, fits, first_fitting, begins_with, begins_command, round_at};
 ghost use Rattle.hints.specs.Hints.{is_semicolon, may_separate, or_semicolon, byte_hint, hint_of, token_hint};
+ghost use Rattle.hints.specs.Hints.{code_hint, fault_hint};
 
-use crate::hint::{BYTE_ROWS, Hint, PAIR_ROWS, TOKEN_ROWS};
-use rml_lex::{Kind, Sign, Token, Word, word};
+use crate::hint::{BYTE_ROWS, Hint, NAME_ROWS, PAIR_ROWS, TOKEN_ROWS};
+use rml_lex::{FaultCode, Kind, Sign, Token, Word, word};
 
 // The words at a fault, and in front of it.
 #[derive(Clone, Copy)]
@@ -186,4 +187,31 @@ pub fn token_hint(text: &[u8], tokens: &[Token], at: u64, kinds: &[Kind]) -> Opt
 {
     let round = words_round(text, tokens, at);
     hint_of(&round, kinds)
+}
+
+// What is written in the place of what is wrong with names, sorts and formulas.
+fn code_hint(code: FaultCode) -> Option<Hint>
+    ensures { result ≡ code_hint code }
+{
+    match code {
+        FaultCode::NotATerm => Some(Hint::Formulas),
+        FaultCode::BadTarget => Some(Hint::Becomes),
+        FaultCode::TakenName => Some(Hint::NewName),
+        FaultCode::FunctionCycle => Some(Hint::Cycle),
+        FaultCode::NotExistsForall | FaultCode::NotUniversal => Some(Hint::Witness),
+        FaultCode::TooManyPaths => Some(Hint::Paths),
+        _ => None,
+    }
+}
+
+/// What is written in the place of what is wrong at this place with the names, sorts and formulas of a text, if a hint
+/// is known.
+pub fn fault_hint(text: &[u8], at: u64, code: FaultCode) -> Option<Hint>
+    requires { at ≤ length text.now }
+    ensures { result ≡ fault_hint text.now at code }
+{
+    match code {
+        FaultCode::UnknownName => first_begun(&NAME_ROWS, &text[at as usize..]),
+        other => code_hint(other),
+    }
 }

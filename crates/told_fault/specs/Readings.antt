@@ -13,7 +13,7 @@ use Rattle.rml_syntax.specs.Faults as grammar
 use Rattle.diagnostics.specs.Diagnostics.{diagnostic_text}
 use Rattle.expectations.specs.Expectations.{AreExpected}
 use Rattle.expectations.specs.Text.{expected_text}
-use Rattle.hints.specs.Hints.{byte_hint, token_hint, words_of}
+use Rattle.hints.specs.Hints.{byte_hint, token_hint, fault_hint, words_of}
 use Rattle.hints.specs.declared.hint.Hint.{Hint}
 use Rattle.told_fault.specs.declared.reading.Reading.{Reading}
 use Rattle.told_fault.specs.declared.reading.Reading.TheVariants.{NoTokens, Unexpected, TooDeep, Parsed}
@@ -46,12 +46,12 @@ abbrev pub hint_line : Option Hint → List ℕ
 hint_line None = []
 hint_line (Some hint) = codes "  = hint: " ++ words_of hint ++ codes "\n"
 
-abbrev pub advice_text : Reading → List ℕ
-advice_text (NoTokens hint) = hint_line hint
-advice_text (Unexpected kinds hint) = expected_text kinds ++ hint_line hint
-advice_text TooDeep = []
-advice_text (Parsed tree) = []
+abbrev pub advice_text : List ℕ → Fault → Reading → List ℕ
+advice_text text fault (NoTokens hint) = hint_line hint
+advice_text text fault (Unexpected kinds hint) = expected_text kinds ++ hint_line hint
+advice_text text fault TooDeep = []
+advice_text text fault (Parsed tree) = hint_line (fault_hint text fault.at fault.code)
 
 -- the place and the words, the line, the caret, and what is told beside
 unfoldable pub fault_text : List ℕ → List ℕ → Fault → Reading → List ℕ
-fault_text file text fault reading = diagnostic_text file text fault ++ advice_text reading
+fault_text file text fault reading = diagnostic_text file text fault ++ advice_text text fault reading

@@ -6,7 +6,7 @@ use crate::reading::Reading;
 use base::{Mem, push_text};
 use diagnostics::diagnostic;
 use expectations::expected_text;
-use hints::Hint;
+use hints::{Hint, fault_hint};
 use rml_lex::Fault;
 use std::alloc::Global;
 
@@ -25,8 +25,15 @@ fn push_hint(out: &mut Vec<u8>, hint: Option<Hint>) -> Mem<()>
 
 // What is told beside a fault.
 #[tactic(auto, using(std::proofs::Common::append_assoc))]
-fn push_advice(alloc: Global, out: &mut Vec<u8>, reading: &Reading) -> Mem<()>
-    ensures { OnOk result (out.new.items ≡ out.old.items ++ advice_text reading.now) }
+fn push_advice(
+    alloc: Global,
+    out: &mut Vec<u8>,
+    text: &[u8],
+    fault: &Fault,
+    reading: &Reading,
+) -> Mem<()>
+    requires { fault.now.at ≤ length text.now }
+    ensures { OnOk result (out.new.items ≡ out.old.items ++ advice_text text.now fault.now reading.now) }
 {
     match reading {
         Reading::NoTokens(hint) => push_hint(out, *hint),
@@ -36,7 +43,8 @@ fn push_advice(alloc: Global, out: &mut Vec<u8>, reading: &Reading) -> Mem<()>
             push_hint(out, *hint)?;
             Ok(())
         }
-        Reading::TooDeep | Reading::Parsed(_) => Ok(()),
+        Reading::TooDeep => Ok(()),
+        Reading::Parsed(_) => push_hint(out, fault_hint(text, fault.at, fault.code)),
     }
 }
 
@@ -53,6 +61,6 @@ pub fn fault_text(
     ensures { IfOk result (λ out. out.items ≡ fault_text file.now text.now fault.now reading.now) }
 {
     let mut out = diagnostic(alloc, file, text, fault)?;
-    push_advice(alloc, &mut out, reading)?;
+    push_advice(alloc, &mut out, text, fault, reading)?;
     Ok(out)
 }
