@@ -163,6 +163,8 @@ pub fn push_counterexample_graph(
     let before = &shown.structure;
     match follow(alloc, checked, &path, &shown.trace, before)? {
         Followed::Ended(end) => push_step_graph(alloc, out, number, &title, model, before, &end),
-        Followed::Aborted | Followed::Blocked => push_state_graph(alloc, out, number, &title, model, before),
+        Followed::Aborted | Followed::Blocked => push_state_graph(
+            alloc, out, number, &title, model, before,
+        ),
     }
 }

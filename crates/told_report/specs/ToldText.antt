@@ -1,7 +1,8 @@
--- A report as it is told: the verdict, the axioms where they are in doubt, each counterexample, and at the end what
--- fails, what is left open, and how much holds.
+-- A report as it is told: the verdict, the axioms where they are in doubt, whether nothing but aborts is asked for, each
+-- counterexample, and at the end what fails, what is left open, and how much holds.
 use Rattle.std.specs.Prelude.{ℕ, ◌+◌, List, [], ◌∷◌, ◌++◌, length, codes}
 use Rattle.std.specs.List.{flat_map}
+use Rattle.fol_formula.specs.Syntax.{FormTree}
 use Rattle.rml_command.specs.Models.{ModelTree}
 use Rattle.rml_command.specs.declared.names.Names.{Names}
 use Rattle.rml_command.specs.declared.goal.Stage.{Stage}
@@ -98,8 +99,13 @@ axioms_line axioms.Inconsistent = codes "no structure satisfies the axioms, so e
 axioms_line (axioms.Undecided c) =
     cause_line (codes "whether some structure satisfies the axioms is left open: ") c
 
+-- nothing where some conjecture is asked for
+abbrev pub asked_line : List FormTree → List ℕ
+asked_line [] = codes "the model has no conjectures, so only aborts are asked for\n"
+asked_line (c ∷ cs) = []
+
 -- of a model and a report, with the lines of the branches that the path of a stage takes
 unfoldable pub told_text : ModelTree → (Stage → ℕ → List ℕ) → Report → List ℕ
 told_text m lines r =
-    verdict_line r.verdict ++ axioms_line r.axioms ++ flat_map (group_failing m lines) r.groups ++ codes "\n"
-    ++ flat_map (group_summary m.names) r.groups ++ count_line r.groups
+    verdict_line r.verdict ++ axioms_line r.axioms ++ asked_line m.conjectures ++ flat_map (group_failing m lines) r.groups
+    ++ codes "\n" ++ flat_map (group_summary m.names) r.groups ++ count_line r.groups

@@ -3,13 +3,14 @@ ghost use Rattle.std.specs.Prelude.{◌≡◌, ◌≤◌, ◌++◌, OnOk, IfOk};
 ghost use Rattle.std.specs.List.{AllByRecursion, flat_map};
 ghost use Rattle.rml_report.specs.Reports.{CanRender};
 ghost use Rattle.told_report.specs.ToldText.{group_failing, group_summary, held_by, held, count_line, verdict_line};
-ghost use Rattle.told_report.specs.ToldText.{axioms_line, told_text};
+ghost use Rattle.told_report.specs.ToldText.{axioms_line, asked_line, told_text};
 
 use crate::branches::Branches;
 use crate::causes::push_cause_line;
 use crate::groups::{push_failing, push_summary};
 use crate::numbers::push_two_numbered;
 use base::{Mem, push_text};
+use fol_formula::Sentence;
 use rml_command::{Checked, Names};
 use rml_report::{Answer, Axioms, Group, Report, Verdict};
 use std::alloc::Global;
@@ -42,6 +43,19 @@ fn push_axioms(out: &mut Vec<u8>, axioms: &Axioms) -> Mem<()>
                 cause,
             )
         }
+    }
+}
+
+// Whether nothing but aborts is asked for.
+fn push_asked(out: &mut Vec<u8>, conjectures: &[Sentence]) -> Mem<()>
+    ensures { OnOk result (out.new.items ≡ out.old.items ++ asked_line conjectures.now) }
+{
+    match conjectures {
+        [] => push_text(
+            out,
+            "the model has no conjectures, so only aborts are asked for\n",
+        ),
+        _ => Ok(()),
     }
 }
 
@@ -111,8 +125,9 @@ fn push_count(out: &mut Vec<u8>, groups: &[Group]) -> Mem<()>
     push_two_numbered(out, "", held, " of ", all, " groups hold\n")
 }
 
-/// The text of a report for a person: the verdict, the axioms where they are in doubt, each group that fails with its
-/// counterexample and the branches that it takes, a line for each that fails or is left open, and how many hold.
+/// The text of a report for a person: the verdict, the axioms where they are in doubt, whether nothing but aborts is
+/// asked for, each group that fails with its counterexample and the branches that it takes, a line for each that fails
+/// or is left open, and how many hold.
 #[tactic(auto, using(std::proofs::Common::append_assoc), unfolding(crate::specs::ToldText::told_text))]
 pub fn tell<B: Branches>(
     alloc: Global,
@@ -127,6 +142,7 @@ pub fn tell<B: Branches>(
     let mut out = Vec::new(alloc);
     push_verdict(&mut out, report.verdict)?;
     push_axioms(&mut out, &report.axioms)?;
+    push_asked(&mut out, checked.model().conjectures())?;
     push_all_failing(alloc, &mut out, checked, branches, groups)?;
     push_text(&mut out, "\n")?;
     push_summaries(&mut out, checked.model().names(), groups)?;
