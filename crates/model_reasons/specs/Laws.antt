@@ -1,12 +1,12 @@
 -- What idle conjectures mean, and what is shown of a lack.
-use Rattle.std.specs.Prelude.{◌≡◌, ◌==◌, ℕ, not, List, length}
-use Rattle.std.specs.List.{AllByRecursion, filter, list_any}
-use Rattle.base.specs.Lists.{SomeOf, count_from}
+use Rattle.std.specs.Prelude.{◌≡◌, ℕ, List}
+use Rattle.std.specs.List.{AllByRecursion}
+use Rattle.base.specs.Lists.{SomeOf}
 use Rattle.rml_command.specs.Models.{ModelTree}
 use Rattle.rml_command.specs.declared.goal.About.TheVariants as about
 use Rattle.rml_report.specs.Reports.{IsExecution}
 use Rattle.ea_decide.specs.Passing.{Ceilings}
-use Rattle.rml_houdini.specs.Subsets.{Has, IsWithin}
+use Rattle.rml_houdini.specs.Subsets.{Has}
 use Rattle.rml_reasons.specs.Reasons.{IsReason, needed_conjectures}
 use Rattle.rml_reasons.specs.declared.reason.Need.{Need}
 use Rattle.rml_reasons.specs.declared.reason.Lack.{Lack}

@@ -41,11 +41,9 @@ fn all_reasons<P: Progress>(
     ensures carried { IfOk result (λ rs. AllByRecursion (IsCarriedSo (ceilings limits.now) checked.now) rs.items) }
 {
     let mut reasons = Vec::new(alloc);
-    let mut rest = heads;
-    while let [head, after @ ..] = rest {
+    for head in heads {
         reasons.push(reason(alloc, checked, limits, *head)?)?;
         progress.tell(Work::Groups, reasons.len() as u64, heads.len() as u64);
-        rest = after;
     }
     Ok(reasons)
 }

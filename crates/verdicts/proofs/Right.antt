@@ -20,8 +20,7 @@ use Rattle.rml_report.specs.declared.report.Axioms.TheVariants as axioms
 use Rattle.rml_report.specs.declared.report.Answer.{Answer}
 use Rattle.rml_report.specs.declared.report.Answer.TheVariants as answer
 use Rattle.rml_report.specs.declared.report.Group.{Group}
-use Rattle.rml_report.specs.declared.report.Report.{Report}
-use Rattle.rml_report.specs.Reports.{head_of, goal_at, IsShown, IsLeftOpen, IsAnswer, IsRight, AxiomsAre, Reports}
+use Rattle.rml_report.specs.Reports.{head_of, goal_at, IsShown, IsLeftOpen, IsAnswer, IsRight, AxiomsAre}
 use Rattle.ea_decide.specs.Passing.{Ceilings}
 use Rattle.obligation_decide.specs.GoalDecisions.{IsFailing, AreAxiomsDecided}
 use Rattle.lean_decide.specs.declared.settling.Counted.{Counted}
@@ -36,7 +35,7 @@ use Rattle.verdicts.specs.Answers.{
   open_or_holds,
 }
 use Rattle.cti_minimise.specs.Minimal.{IsLeast}
-use Rattle.verdicts.specs.Answers.{fails_or, IsGroupAnswer, IsGroupNow, IsReportBy}
+use Rattle.verdicts.specs.Answers.{fails_or, IsGroupAnswer, IsGroupNow}
 use Rattle.verdicts.specs.Laws.{ReportsAreRight, IsLeastAsSaid, ShownAreLeast}
 
 some_flat : {A B : Type 0} (f : A → List B) (y : B) (x : A) (xs : List A) → SomeOf (λ z. z ≡ x) xs

@@ -17,7 +17,7 @@ use Rattle.rml_report.specs.Reports.{head_of, verdict_of}
 use Rattle.ea_decide.specs.Passing.{Ceilings}
 use Rattle.obligation_decide.specs.GoalDecisions.{IsFailing, AreAxiomsDecided}
 use Rattle.lean_decide.specs.declared.settling.Counted.{Counted}
-use Rattle.lean_decide.specs.declared.settling.Counted.TheVariants.{Whole, Lean}
+use Rattle.lean_decide.specs.declared.settling.Counted.TheVariants.{Whole}
 use Rattle.lean_decide.specs.Settled.{FirstPassed, IsOpen}
 use Rattle.cti_minimise.specs.Minimal.{IsLeast}
 

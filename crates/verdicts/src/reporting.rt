@@ -29,11 +29,9 @@ fn decide_all<P: Progress>(
     ensures heads { IfOk result (λ gs. map head_of gs.items ≡ heads.now) }
 {
     let mut groups = Vec::new(alloc);
-    let mut rest = heads;
-    while let [head, after @ ..] = rest {
+    for head in heads {
         groups.push(decide_group(alloc, checked, counted, limits, *head)?)?;
         progress.tell(Work::Groups, groups.len() as u64, heads.len() as u64);
-        rest = after;
     }
     Ok(groups)
 }

@@ -1,9 +1,10 @@
-use Rattle.std.proofs.Common.{sym, subst}
+use Rattle.std.proofs.Common.{sym, subst, ◌∙◌}
 use Rattle.std.specs.List.{AllByRecursion}
 use Rattle.rml_command.specs.Goals.{HasAbout}
+use Rattle.rml_command.specs.declared.goal.Head.{Head}
 use Rattle.model_reasons.proofs.listing.reasons.Goals as goal
 
 pub all_reasons-requires : goal.all_reasons-requires
 all_reasons-requires g c =
-    subst (AllByRecursion (λ h. HasAbout c.args.checked.now h.stage h.about)) (sym c.in_ok-heads.ensures)
-    (c.goal_law.ensures.groups c.args.checked.now)
+    subst (AllByRecursion (λ (h : Head). HasAbout c.args.checked.now h.stage h.about))
+    (sym (c.deref.ensures.value ∙ c.in_ok-heads.ensures)) (c.goal_law.ensures.groups c.args.checked.now)

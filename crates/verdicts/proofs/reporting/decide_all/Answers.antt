@@ -1,16 +1,26 @@
+use Rattle.rml_command.specs.Goals.{HasAbout}
+use Rattle.rml_command.specs.declared.goal.About.TheVariants as about
+use Rattle.rml_command.specs.declared.goal.Head.{Head}
+use Rattle.rml_command.specs.declared.goal.Stage.TheVariants as stage
 use Rattle.rml_report.specs.Reports.{head_of}
 use Rattle.ea_decide.specs.Passing.{ceilings}
 use Rattle.verdicts.specs.Answers.{IsGroupNow}
-use Rattle.verdicts.proofs.Groups.{pushed_all, pushed_head}
+use Rattle.verdicts.proofs.Groups.{pushed_all, next_head, left_all}
 use Rattle.verdicts.proofs.reporting.decide_all.Goals as goal
 
-pub loop-rest-preserved : goal.loop-rest-preserved
-loop-rest-preserved g c = record {
-  known = c.loop-rest.invariant.known.1;
-  heads = pushed_head head_of c.loop-rest.groups.items c.push-in-loop-rest.new.self.items
-      c.in_ok-decide_group.field-0 _ _ _ c.in_ok-push.ensures.items c.in_ok-decide_group.ensures.head
-      c.loop-rest.invariant.heads;
-  now = pushed_all (IsGroupNow c.args.counted (ceilings c.args.limits.now) c.args.checked.now)
-      c.loop-rest.groups.items c.push-in-loop-rest.new.self.items c.in_ok-decide_group.field-0
-      c.in_ok-push.ensures.items c.loop-rest.invariant.now c.in_ok-decide_group.ensures.now;
-}
+abbrev any : Head
+any = record { stage = stage.Init; about = about.Abort }
+
+pub loop-head-preserved : goal.loop-head-preserved
+loop-head-preserved g c =
+    let old = c.loop-head.groups.items in
+    let new = c.push.new.self.items in
+    let group = c.in_ok-decide_group.field-0 in
+    record {
+      known = left_all (λ (h : Head). HasAbout c.args.checked.now h.stage h.about) c.args.heads.now
+          c.loop-head.head-index any c.loop-head-test.true c.loop-head.invariant.known;
+      heads = next_head head_of c.args.heads.now c.loop-head.head-index _ old new group c.loop-head-test.true
+          c.in_ok-push.ensures.items c.in_ok-decide_group.ensures.head c.loop-head.invariant.heads;
+      now = pushed_all (IsGroupNow c.args.counted (ceilings c.args.limits.now) c.args.checked.now) old new group
+          c.in_ok-push.ensures.items c.loop-head.invariant.now c.in_ok-decide_group.ensures.now;
+    }
