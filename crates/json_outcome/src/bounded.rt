@@ -1,16 +1,16 @@
 // Bounded runs.
-ghost use Rattle.std.specs.Prelude.{◌≡◌, map, IfOk, OnOk};
+ghost use Rattle.std.specs.Prelude.{◌≡◌, map, IfOk};
 ghost use Rattle.std.specs.List.{AllByRecursion};
 ghost use Rattle.rml_command.specs.Elements.{elements_of};
 ghost use Rattle.bounded_text.specs.BoundedText.{EndFits, CanShow, CanRender};
-ghost use Rattle.json_values.specs.Values.{set_each};
+ghost use Rattle.json_values.specs.Values.{list_data};
 ghost use Rattle.json_report.specs.ExecutionData.{takes_along};
-ghost use Rattle.json_outcome.specs.BoundedData.{end_data, part_path, part_data, bound_cause_data, length_members};
+ghost use Rattle.json_outcome.specs.BoundedData.{end_data, part_path, part_data, bound_cause_data};
 ghost use Rattle.json_outcome.specs.BoundedData.{length_data, lengths_data, verdict_data, bounded_members};
 
 use base::Mem;
 use json_report::{about_value, cause_value, havocs, stage_value, structure_value};
-use json_values::{Json, JsonList, JsonObject, counted, numbers};
+use json_values::{Json, JsonList, JsonObject, ObjectBuilder, counted, numbers};
 use rml_bmc::{BoundCause, Bounded, Length, Part, Run, Verdict, verdict_for};
 use rml_command::{Checked, elements_of};
 use std::alloc::Global;
@@ -49,31 +49,28 @@ fn part_value(alloc: Global, checked: &Checked, part: &Part) -> Mem<Json>
     ensures { IfOk result (λ j. j ≡ part_data checked.now part.now) }
 {
     let paths = checked.stage_paths(part.stage).len();
-    let mut object = JsonObject::new(alloc);
-    object.set(
-        alloc,
-        "stage",
-        stage_value(alloc, checked.model().names(), part.stage)?,
-    )?;
-    object.set_number(alloc, "path", part.trace.path as u64)?;
-    object.set_number(alloc, "paths", paths as u64)?;
-    object.set(alloc, "takes", takes_value(alloc, checked, part)?)?;
-    object.set(alloc, "end", end_value(alloc, checked, part)?)?;
-    Ok(object.into_json())
+    let stage = stage_value(alloc, checked.model().names(), part.stage);
+    ObjectBuilder::new(alloc)
+        .with("stage", stage)
+        .with_number("path", part.trace.path as u64)
+        .with_number("paths", paths as u64)
+        .with("takes", takes_value(alloc, checked, part))
+        .with("end", end_value(alloc, checked, part))
+        .into_json()
 }
 
 #[tactic(auto, using(std::proofs::Common::append_assoc))]
-fn part_values(alloc: Global, checked: &Checked, parts: &[Part]) -> Mem<JsonList>
+fn part_values(alloc: Global, checked: &Checked, parts: &[Part]) -> Mem<Json>
     requires { AllByRecursion (λ part. EndFits checked.now part.end) parts.now }
-    ensures { IfOk result (λ l. l ≡ map (part_data checked.now) parts.now) }
+    ensures { IfOk result (λ j. j ≡ list_data (map (part_data checked.now) parts.now)) }
 {
     let mut list = JsonList::new(alloc);
     let mut rest = parts;
     while let [part, after @ ..] = rest {
-        list.push(part_value(alloc, checked, part)?)?;
+        list.push(part_value(alloc, checked, part))?;
         rest = after;
     }
-    Ok(list)
+    Ok(list.into_json())
 }
 
 fn bound_cause_value(alloc: Global, cause: &BoundCause) -> Mem<Json>
@@ -85,64 +82,59 @@ fn bound_cause_value(alloc: Global, cause: &BoundCause) -> Mem<Json>
     }
 }
 
-fn set_open(
-    alloc: Global,
-    object: &mut JsonObject,
-    checked: &Checked,
-    cause: &BoundCause,
-) -> Mem<()>
-    ensures { OnOk result (object.new ≡ set_each object.old (length_members checked.now (Length.Undecided cause.now))) }
+#[tactic(auto, unfolding(crate::specs::BoundedData::length_data))]
+fn safe_value(alloc: Global, checked: &Checked, steps: u64) -> Mem<Json>
+    ensures { IfOk result (λ j. j ≡ length_data checked.now steps Length.Safe) }
 {
-    object.set_word(alloc, "answer", "undecided")?;
-    object.set(alloc, "cause", bound_cause_value(alloc, cause)?)?;
-    Ok(())
-}
-
-fn set_run(alloc: Global, object: &mut JsonObject, checked: &Checked, run: &Run) -> Mem<()>
-    requires { CanShow checked.now run.now }
-    ensures { OnOk result (object.new ≡ set_each object.old (length_members checked.now (Length.Broken run.now))) }
-{
-    let model = checked.model();
-    object.set_word(alloc, "answer", "broken")?;
-    object.set(
-        alloc,
-        "about",
-        about_value(alloc, model.names(), run.about)?,
-    )?;
-    object.set(alloc, "start", structure_value(alloc, model, &run.start)?)?;
-    let parts = part_values(alloc, checked, run.parts.as_slice())?;
-    object.set(alloc, "parts", parts.into_json())?;
-    object.set(alloc, "values", numbers(alloc, run.values.as_slice())?)?;
-    Ok(())
-}
-
-// Sets what is said of a length.
-fn set_length(alloc: Global, object: &mut JsonObject, checked: &Checked, answer: &Length) -> Mem<()>
-    requires { CanRender checked.now answer.now }
-    ensures { OnOk result (object.new ≡ set_each object.old (length_members checked.now answer.now)) }
-{
-    match answer {
-        Length::Safe => object.set_word(alloc, "answer", "safe"),
-        Length::Undecided(cause) => set_open(alloc, object, checked, cause),
-        Length::Broken(run) => set_run(alloc, object, checked, run),
-    }
+    ObjectBuilder::new(alloc)
+        .with_number("steps", steps)
+        .with_word("answer", "safe")
+        .into_json()
 }
 
 #[tactic(auto, unfolding(crate::specs::BoundedData::length_data))]
+fn open_value(alloc: Global, checked: &Checked, steps: u64, cause: &BoundCause) -> Mem<Json>
+    ensures { IfOk result (λ j. j ≡ length_data checked.now steps (Length.Undecided cause.now)) }
+{
+    ObjectBuilder::new(alloc)
+        .with_number("steps", steps)
+        .with_word("answer", "undecided")
+        .with("cause", bound_cause_value(alloc, cause))
+        .into_json()
+}
+
+#[tactic(auto, unfolding(crate::specs::BoundedData::length_data))]
+fn run_value(alloc: Global, checked: &Checked, steps: u64, run: &Run) -> Mem<Json>
+    requires { CanShow checked.now run.now }
+    ensures { IfOk result (λ j. j ≡ length_data checked.now steps (Length.Broken run.now)) }
+{
+    let model = checked.model();
+    ObjectBuilder::new(alloc)
+        .with_number("steps", steps)
+        .with_word("answer", "broken")
+        .with("about", about_value(alloc, model.names(), run.about))
+        .with("start", structure_value(alloc, model, &run.start))
+        .with("parts", part_values(alloc, checked, run.parts.as_slice()))
+        .with("values", numbers(alloc, run.values.as_slice()))
+        .into_json()
+}
+
+// How many steps, and what is said of runs of this length.
 fn length_value(alloc: Global, checked: &Checked, steps: u64, answer: &Length) -> Mem<Json>
     requires { CanRender checked.now answer.now }
     ensures { IfOk result (λ j. j ≡ length_data checked.now steps answer.now) }
 {
-    let mut object = JsonObject::new(alloc);
-    object.set_number(alloc, "steps", steps)?;
-    set_length(alloc, &mut object, checked, answer)?;
-    Ok(object.into_json())
+    match answer {
+        Length::Safe => safe_value(alloc, checked, steps),
+        Length::Undecided(cause) => open_value(alloc, checked, steps, cause),
+        Length::Broken(run) => run_value(alloc, checked, steps, run),
+    }
 }
 
 #[tactic(auto, using(std::proofs::Common::append_assoc))]
-fn length_values(alloc: Global, checked: &Checked, lengths: &[Length]) -> Mem<JsonList>
+fn length_values(alloc: Global, checked: &Checked, lengths: &[Length]) -> Mem<Json>
     requires { AllByRecursion (CanRender checked.now) lengths.now }
-    ensures { IfOk result (λ l. l ≡ lengths_data checked.now 0 lengths.now) }
+    ensures { IfOk result (λ j. j ≡ list_data (lengths_data checked.now 0 lengths.now)) }
 {
     // That their number is one of 64 bits is known where it is looked at.
     let _count = lengths.len();
@@ -150,11 +142,11 @@ fn length_values(alloc: Global, checked: &Checked, lengths: &[Length]) -> Mem<Js
     let mut rest = lengths;
     let mut steps: u64 = 0;
     while let [answer, after @ ..] = rest {
-        list.push(length_value(alloc, checked, steps, answer)?)?;
+        list.push(length_value(alloc, checked, steps, answer))?;
         steps += 1;
         rest = after;
     }
-    Ok(list)
+    Ok(list.into_json())
 }
 
 fn verdict_value(alloc: Global, verdict: Verdict) -> Mem<Json>
@@ -173,11 +165,10 @@ pub fn bounded_object(alloc: Global, checked: &Checked, bounded: &Bounded) -> Me
     requires { AllByRecursion (CanRender checked.now) bounded.now.lengths }
     ensures { IfOk result (λ o. o ≡ bounded_members checked.now bounded.now) }
 {
-    let mut object = JsonObject::new(alloc);
-    object.set_word(alloc, "command", "bmc")?;
-    let verdict = verdict_for(bounded.lengths.as_slice());
-    object.set(alloc, "verdict", verdict_value(alloc, verdict)?)?;
-    let lengths = length_values(alloc, checked, bounded.lengths.as_slice())?;
-    object.set(alloc, "lengths", lengths.into_json())?;
-    Ok(object)
+    let lengths = bounded.lengths.as_slice();
+    ObjectBuilder::new(alloc)
+        .with_word("command", "bmc")
+        .with("verdict", verdict_value(alloc, verdict_for(lengths)))
+        .with("lengths", length_values(alloc, checked, lengths))
+        .build()
 }

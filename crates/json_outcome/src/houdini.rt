@@ -2,14 +2,15 @@
 ghost use Rattle.std.specs.Prelude.{◌≡◌, IfOk};
 ghost use Rattle.std.specs.List.{AllByRecursion};
 ghost use Rattle.rml_houdini.specs.HoudiniText.{CanRender};
+ghost use Rattle.json_values.specs.Values.{list_data};
 ghost use Rattle.json_outcome.specs.HoudiniData.{names_data, dropped_data, drops_data, open_data, unsettled_data};
 ghost use Rattle.json_outcome.specs.HoudiniData.{verdict_data, houdini_members};
 
 use base::Mem;
 use json_report::{
-    behind_first, execution_value, first_given, name_value, set_cause, set_group, set_name,
+    behind_first, cause_value, execution_value, first_given, name_value, with_group,
 };
-use json_values::{Json, JsonList, JsonObject};
+use json_values::{Json, JsonList, JsonObject, ObjectBuilder};
 use rml_command::{Checked, Goal, Names};
 use rml_houdini::{Dropped, Houdini};
 use rml_report::Cause;
@@ -23,7 +24,7 @@ pub fn names_value(alloc: Global, names: &Names, conjectures: &[u32]) -> Mem<Jso
     let mut list = JsonList::new(alloc);
     let mut rest = conjectures;
     while let [conjecture, after @ ..] = rest {
-        list.push(name_value(alloc, names.conjectures.as_slice(), *conjecture)?)?;
+        list.push(name_value(alloc, names.conjectures.as_slice(), *conjecture))?;
         rest = after;
     }
     Ok(list.into_json())
@@ -38,45 +39,34 @@ fn dropped_value(alloc: Global, checked: &Checked, dropped: &Dropped, branches: 
     let names = checked.model().names();
     let goal = dropped.shown.goal;
     let paths = checked.stage_paths(goal.stage).len();
-    let execution = execution_value(alloc, checked, &dropped.shown, branches)?;
-    let mut object = JsonObject::new(alloc);
-    object.set(alloc, "execution", execution)?;
-    set_name(
-        alloc,
-        &mut object,
-        "conjecture",
-        names.conjectures.as_slice(),
-        dropped.conjecture,
-    )?;
-    let held = names_value(alloc, names, dropped.held.as_slice())?;
-    object.set(alloc, "held", held)?;
-    set_group(alloc, &mut object, names, goal.stage, goal.about)?;
-    object.set_number(alloc, "path", dropped.shown.trace.path as u64)?;
-    object.set_number(alloc, "paths", paths as u64)?;
-    Ok(object.into_json())
+    let conjecture = name_value(alloc, names.conjectures.as_slice(), dropped.conjecture);
+    let execution = execution_value(alloc, checked, &dropped.shown, branches);
+    let object = ObjectBuilder::new(alloc)
+        .with("execution", execution)
+        .with("conjecture", conjecture)
+        .with("held", names_value(alloc, names, dropped.held.as_slice()));
+    with_group(alloc, object, names, goal.stage, goal.about)
+        .with_number("path", dropped.shown.trace.path as u64)
+        .with_number("paths", paths as u64)
+        .into_json()
 }
 
 // The drops, each with what is told of its execution.
 #[tactic(auto, using(std::proofs::Common::append_assoc))]
-fn drop_values(
-    alloc: Global,
-    checked: &Checked,
-    drops: &[Dropped],
-    branches: &[Json],
-) -> Mem<JsonList>
+fn drop_values(alloc: Global, checked: &Checked, drops: &[Dropped], branches: &[Json]) -> Mem<Json>
     requires { AllByRecursion (CanRender checked.now) drops.now }
-    ensures { IfOk result (λ l. l ≡ drops_data checked.now drops.now branches.now) }
+    ensures { IfOk result (λ j. j ≡ list_data (drops_data checked.now drops.now branches.now)) }
 {
     let mut list = JsonList::new(alloc);
     let mut rest = drops;
     let mut given = branches;
     while let [dropped, after @ ..] = rest {
         let told = first_given(given)?;
-        list.push(dropped_value(alloc, checked, dropped, told)?)?;
+        list.push(dropped_value(alloc, checked, dropped, told))?;
         rest = after;
         given = behind_first(given);
     }
-    Ok(list)
+    Ok(list.into_json())
 }
 
 // The goal that is left open.
@@ -84,11 +74,11 @@ fn drop_values(
 fn open_value(alloc: Global, names: &Names, goal: &Goal, cause: &Cause) -> Mem<Json>
     ensures { IfOk result (λ j. j ≡ open_data names.now goal.now cause.now) }
 {
-    let mut object = JsonObject::new(alloc);
-    set_group(alloc, &mut object, names, goal.stage, goal.about)?;
-    object.set_number(alloc, "path", goal.path as u64)?;
-    set_cause(alloc, &mut object, cause)?;
-    Ok(object.into_json())
+    let object = ObjectBuilder::new(alloc);
+    with_group(alloc, object, names, goal.stage, goal.about)
+        .with_number("path", goal.path as u64)
+        .with("cause", cause_value(alloc, cause))
+        .into_json()
 }
 
 fn unsettled_value(alloc: Global, names: &Names, unsettled: Option<(Goal, Cause)>) -> Mem<Json>
@@ -122,20 +112,12 @@ pub fn houdini_object(
     ensures { IfOk result (λ o. o ≡ houdini_members checked.now houdini.now branches.now) }
 {
     let names = checked.model().names();
-    let mut object = JsonObject::new(alloc);
-    object.set_word(alloc, "command", "houdini")?;
-    object.set(alloc, "verdict", verdict_value(alloc, houdini.unsettled)?)?;
-    let dropped = drop_values(alloc, checked, houdini.dropped.as_slice(), branches)?;
-    object.set(alloc, "dropped", dropped.into_json())?;
-    object.set(
-        alloc,
-        "kept",
-        names_value(alloc, names, houdini.kept.as_slice())?,
-    )?;
-    object.set(
-        alloc,
-        "open",
-        unsettled_value(alloc, names, houdini.unsettled)?,
-    )?;
-    Ok(object)
+    let dropped = drop_values(alloc, checked, houdini.dropped.as_slice(), branches);
+    ObjectBuilder::new(alloc)
+        .with_word("command", "houdini")
+        .with("verdict", verdict_value(alloc, houdini.unsettled))
+        .with("dropped", dropped)
+        .with("kept", names_value(alloc, names, houdini.kept.as_slice()))
+        .with("open", unsettled_value(alloc, names, houdini.unsettled))
+        .build()
 }

@@ -3,7 +3,7 @@ ghost use Rattle.std.specs.Prelude.{◌≡◌, IfOk};
 ghost use Rattle.json_outcome.specs.ReplayData.{judged_members, unread_members};
 
 use base::Mem;
-use json_values::JsonObject;
+use json_values::{JsonObject, ObjectBuilder};
 use report_replay::{DenialCode, Judged};
 use std::alloc::Global;
 
@@ -11,24 +11,24 @@ use std::alloc::Global;
 fn confirmed_object(alloc: Global, executions: u64) -> Mem<JsonObject>
     ensures { IfOk result (λ o. o ≡ judged_members (Judged.Confirmed executions)) }
 {
-    let mut object = JsonObject::new(alloc);
-    object.set_word(alloc, "command", "replay")?;
-    object.set_word(alloc, "answer", "confirmed")?;
-    object.set_number(alloc, "executions", executions)?;
-    Ok(object)
+    ObjectBuilder::new(alloc)
+        .with_word("command", "replay")
+        .with_word("answer", "confirmed")
+        .with_number("executions", executions)
+        .build()
 }
 
 #[tactic(auto, unfolding(crate::specs::ReplayData::judged_members))]
 fn denied_object(alloc: Global, line: u64, code: DenialCode) -> Mem<JsonObject>
     ensures { IfOk result (λ o. o ≡ judged_members (Judged.Denied line code)) }
 {
-    let mut object = JsonObject::new(alloc);
-    object.set_word(alloc, "command", "replay")?;
-    object.set_word(alloc, "answer", "denied")?;
-    object.set_number(alloc, "line", line)?;
-    object.set_number(alloc, "code", code.number() as u64)?;
-    object.set_word(alloc, "text", code.text())?;
-    Ok(object)
+    ObjectBuilder::new(alloc)
+        .with_word("command", "replay")
+        .with_word("answer", "denied")
+        .with_number("line", line)
+        .with_number("code", code.number() as u64)
+        .with_word("text", code.text())
+        .build()
 }
 
 /// What is found of a printed report: how many executions were followed, or which line says what is not so.
@@ -46,9 +46,9 @@ pub fn judged_object(alloc: Global, judged: Judged) -> Mem<JsonObject>
 pub fn unread_object(alloc: Global, line: u64) -> Mem<JsonObject>
     ensures { IfOk result (λ o. o ≡ unread_members line) }
 {
-    let mut object = JsonObject::new(alloc);
-    object.set_word(alloc, "command", "replay")?;
-    object.set_word(alloc, "answer", "unread")?;
-    object.set_number(alloc, "line", line)?;
-    Ok(object)
+    ObjectBuilder::new(alloc)
+        .with_word("command", "replay")
+        .with_word("answer", "unread")
+        .with_number("line", line)
+        .build()
 }

@@ -1,18 +1,18 @@
 // An execution.
-ghost use Rattle.std.specs.Prelude.{◌≡◌, IfOk, OnOk};
+ghost use Rattle.std.specs.Prelude.{◌≡◌, IfOk};
 ghost use Rattle.rml_command.specs.Elements.{elements_of};
 ghost use Rattle.rml_command.specs.Goals.{goal_path};
 ghost use Rattle.rml_report.specs.Reports.{IsExecution};
 ghost use Rattle.rml_report.specs.ReportText.{outcome_of};
-ghost use Rattle.json_values.specs.Values.{set_each};
+ghost use Rattle.json_values.specs.Values.{IsBuiltBy};
 ghost use Rattle.json_report.specs.ExecutionData.{havoc_data, havocs_data, takes_along, end_data, end_members};
 ghost use Rattle.json_report.specs.ExecutionData.{execution_data};
 
-use crate::group::set_name;
+use crate::group::name_value;
 use crate::structure::structure_value;
 use base::Mem;
 use fol_sig::FunId;
-use json_values::{Json, JsonList, JsonObject, numbers};
+use json_values::{Json, JsonList, ObjectBuilder, numbers};
 use rml_command::{Checked, Names, Path, Primitive, elements_of};
 use rml_exec::{Counterexample, Followed, follow};
 use std::alloc::Global;
@@ -22,16 +22,11 @@ use std::alloc::Global;
 fn havoc_value(alloc: Global, names: &Names, variable: FunId, element: u32) -> Mem<Json>
     ensures { IfOk result (λ j. j ≡ havoc_data names.now variable.0 element) }
 {
-    let mut object = JsonObject::new(alloc);
-    set_name(
-        alloc,
-        &mut object,
-        "variable",
-        names.functions.as_slice(),
-        variable.0,
-    )?;
-    object.set_number(alloc, "element", element as u64)?;
-    Ok(object.into_json())
+    let name = name_value(alloc, names.functions.as_slice(), variable.0);
+    ObjectBuilder::new(alloc)
+        .with("variable", name)
+        .with_number("element", element as u64)
+        .into_json()
 }
 
 /// The havocs of a path, in order, with the elements that they take.
@@ -47,7 +42,7 @@ pub fn havocs(alloc: Global, checked: &Checked, path: &Path, elements: &[u32]) -
             let Some((element, after)) = rest.split_first() else {
                 return Ok(list);
             };
-            list.push(havoc_value(alloc, names, *variable, *element)?)?;
+            list.push(havoc_value(alloc, names, *variable, *element))?;
             rest = after;
         }
     }
@@ -78,20 +73,20 @@ fn end_value(alloc: Global, checked: &Checked, shown: &Counterexample) -> Mem<Js
     }
 }
 
-// Sets the structures in which the execution begins and ends.
-fn set_ends(
+// Adds the structures in which the execution begins and ends.
+fn with_ends(
     alloc: Global,
-    object: &mut JsonObject,
+    object: ObjectBuilder,
     checked: &Checked,
     shown: &Counterexample,
-) -> Mem<()>
+) -> ObjectBuilder
     requires { IsExecution checked.now shown.now }
-    ensures { OnOk result (object.new ≡ set_each object.old (end_members checked.now shown.now)) }
+    ensures { IsBuiltBy object (end_members checked.now shown.now) result }
 {
-    let before = structure_value(alloc, checked.model(), &shown.structure)?;
-    object.set(alloc, "before", before)?;
-    object.set(alloc, "after", end_value(alloc, checked, shown)?)?;
-    Ok(())
+    let before = structure_value(alloc, checked.model(), &shown.structure);
+    object
+        .with("before", before)
+        .with("after", end_value(alloc, checked, shown))
 }
 
 /// An execution. What else is told of it is given, and stands under "branches".
@@ -105,10 +100,9 @@ pub fn execution_value(
     requires { IsExecution checked.now shown.now }
     ensures { IfOk result (λ j. j ≡ execution_data checked.now shown.now branches) }
 {
-    let mut object = JsonObject::new(alloc);
-    object.set(alloc, "branches", branches)?;
-    set_ends(alloc, &mut object, checked, shown)?;
-    object.set(alloc, "takes", takes_value(alloc, checked, shown)?)?;
-    object.set(alloc, "values", numbers(alloc, shown.values.as_slice())?)?;
-    Ok(object.into_json())
+    let object = ObjectBuilder::new(alloc).with("branches", Ok(branches));
+    with_ends(alloc, object, checked, shown)
+        .with("takes", takes_value(alloc, checked, shown))
+        .with("values", numbers(alloc, shown.values.as_slice()))
+        .into_json()
 }

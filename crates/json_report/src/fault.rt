@@ -3,7 +3,7 @@ ghost use Rattle.std.specs.Prelude.{◌≡◌, ◌≤◌, length, IfOk};
 ghost use Rattle.json_report.specs.FaultData.{code_data, fault_data, faulty_members};
 
 use base::{Mem, push_number, push_text};
-use json_values::{Json, JsonObject};
+use json_values::{Json, JsonObject, ObjectBuilder};
 use rml_lex::{Fault, FaultCode, place};
 use std::alloc::Global;
 
@@ -24,12 +24,12 @@ fn fault_value(alloc: Global, text: &[u8], fault: &Fault) -> Mem<Json>
     ensures { IfOk result (λ j. j ≡ fault_data text.now fault.now) }
 {
     let (line, column) = place(text, fault.at);
-    let mut object = JsonObject::new(alloc);
-    object.set(alloc, "code", code_value(alloc, fault.code)?)?;
-    object.set_word(alloc, "text", fault.code.text())?;
-    object.set_number(alloc, "line", line)?;
-    object.set_number(alloc, "column", column)?;
-    Ok(object.into_json())
+    ObjectBuilder::new(alloc)
+        .with("code", code_value(alloc, fault.code))
+        .with_word("text", fault.code.text())
+        .with_number("line", line)
+        .with_number("column", column)
+        .into_json()
 }
 
 /// What a command answers to a text that is no model, as members to which others can be added.
@@ -38,8 +38,8 @@ pub fn faulty_object(alloc: Global, command: &str, text: &[u8], fault: &Fault) -
     requires { fault.now.at ≤ length text.now }
     ensures { IfOk result (λ o. o ≡ faulty_members command.now text.now fault.now) }
 {
-    let mut object = JsonObject::new(alloc);
-    object.set_word(alloc, "command", command)?;
-    object.set(alloc, "fault", fault_value(alloc, text, fault)?)?;
-    Ok(object)
+    ObjectBuilder::new(alloc)
+        .with_word("command", command)
+        .with("fault", fault_value(alloc, text, fault))
+        .build()
 }

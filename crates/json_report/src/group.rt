@@ -1,12 +1,12 @@
 // Names, and what a group is about.
-ghost use Rattle.std.specs.Prelude.{◌≡◌, codes, IfOk, OnOk};
+ghost use Rattle.std.specs.Prelude.{◌≡◌, IfOk};
 ghost use Rattle.rml_report.specs.Words.{name_at};
-ghost use Rattle.json_values.specs.Values.{named_data, with_member, set_each};
+ghost use Rattle.json_values.specs.Values.{named_data, IsBuiltBy};
 ghost use Rattle.json_report.specs.GroupData.{name_data, stage_data, about_data, cause_data, bound_data, stopped_data};
 ghost use Rattle.json_report.specs.GroupData.{least_data, group_members};
 
 use base::Mem;
-use json_values::{Json, JsonObject, counted, kind, named};
+use json_values::{Json, ObjectBuilder, counted, kind, named};
 use rml_command::{About, Name, Names, Stage};
 use rml_report::{Bound, Cause, Least};
 use std::alloc::Global;
@@ -28,21 +28,6 @@ pub fn name_value(alloc: Global, names: &[Name], k: u32) -> Mem<Json>
 {
     let value = Json::text(alloc, name_of(names, k))?;
     Ok(value)
-}
-
-/// Sets a member to the name of this number.
-pub fn set_name(
-    alloc: Global,
-    object: &mut JsonObject,
-    word: &str,
-    names: &[Name],
-    k: u32,
-) -> Mem<()>
-    ensures { OnOk result (object.new ≡ with_member object.old word.now (name_data names.now k)) }
-{
-    let name = name_value(alloc, names, k)?;
-    object.set(alloc, word, name)?;
-    Ok(())
 }
 
 // What something is, and the name of this number.
@@ -82,19 +67,19 @@ pub fn about_value(alloc: Global, names: &Names, about: About) -> Mem<Json>
     }
 }
 
-/// Sets what a group is about.
-pub fn set_group(
+/// Adds what a group is about.
+pub fn with_group(
     alloc: Global,
-    object: &mut JsonObject,
+    object: ObjectBuilder,
     names: &Names,
     stage: Stage,
     about: About,
-) -> Mem<()>
-    ensures { OnOk result (object.new ≡ set_each object.old (group_members names.now stage about)) }
+) -> ObjectBuilder
+    ensures { IsBuiltBy object (group_members names.now stage about) result }
 {
-    object.set(alloc, "stage", stage_value(alloc, names, stage)?)?;
-    object.set(alloc, "about", about_value(alloc, names, about)?)?;
-    Ok(())
+    object
+        .with("stage", stage_value(alloc, names, stage))
+        .with("about", about_value(alloc, names, about))
 }
 
 /// Why a question was left open.
@@ -107,15 +92,6 @@ pub fn cause_value(alloc: Global, cause: &Cause) -> Mem<Json>
         Cause::Ground(n) => counted(alloc, "ground", *n),
         Cause::Conflicts(n) => counted(alloc, "conflicts", *n),
     }
-}
-
-/// Sets why a question was left open.
-pub fn set_cause(alloc: Global, object: &mut JsonObject, cause: &Cause) -> Mem<()>
-    ensures { OnOk result (object.new ≡ with_member object.old (codes "cause") (cause_data cause.now)) }
-{
-    let value = cause_value(alloc, cause)?;
-    object.set(alloc, "cause", value)?;
-    Ok(())
 }
 
 // What a trial bounds.
@@ -132,11 +108,11 @@ fn bound_value(alloc: Global, names: &Names, bound: Bound) -> Mem<Json>
 fn stopped_value(alloc: Global, names: &Names, bound: Bound, size: u64, cause: &Cause) -> Mem<Json>
     ensures { IfOk result (λ j. j ≡ stopped_data names.now bound size cause.now) }
 {
-    let mut object = JsonObject::new(alloc);
-    object.set(alloc, "at", bound_value(alloc, names, bound)?)?;
-    object.set_number(alloc, "size", size)?;
-    set_cause(alloc, &mut object, cause)?;
-    Ok(object.into_json())
+    ObjectBuilder::new(alloc)
+        .with("at", bound_value(alloc, names, bound))
+        .with_number("size", size)
+        .with("cause", cause_value(alloc, cause))
+        .into_json()
 }
 
 /// Whether what is shown is least, or what stopped the search for less.

@@ -10,8 +10,6 @@ mod structure;
 
 pub use execution::{execution_value, havocs};
 pub use fault::faulty_object;
-pub use group::{
-    about_value, cause_value, name_value, set_cause, set_group, set_name, stage_value,
-};
+pub use group::{about_value, cause_value, name_value, stage_value, with_group};
 pub use report::{behind_first, first_given, group_value, report_object, report_value};
 pub use structure::structure_value;

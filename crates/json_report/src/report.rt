@@ -1,77 +1,77 @@
 // The report of a check.
-ghost use Rattle.std.specs.Prelude.{◌≡◌, drop, IfOk, OnOk};
+ghost use Rattle.std.specs.Prelude.{◌≡◌, drop, IfOk};
 ghost use Rattle.std.specs.List.{AllByRecursion};
 ghost use Rattle.rml_report.specs.Reports.{IsRefutation, ShowsRefutation, CanRender};
-ghost use Rattle.json_values.specs.Values.{set_each};
+ghost use Rattle.json_values.specs.Values.{IsBuiltBy, list_data};
 ghost use Rattle.json_report.specs.ReportData.{failing_members, undecided_members, answer_members, group_data};
 ghost use Rattle.json_report.specs.ReportData.{first_or_null, groups_data, open_data};
 ghost use Rattle.json_report.specs.ReportData.{settled_data, axioms_data, verdict_data, report_members, report_data};
 
 use crate::execution::execution_value;
-use crate::group::{least_value, set_cause, set_group};
+use crate::group::{cause_value, least_value, with_group};
 use base::Mem;
-use json_values::{Json, JsonList, JsonObject};
+use json_values::{Json, JsonList, JsonObject, ObjectBuilder};
 use rml_command::Checked;
 use rml_exec::Counterexample;
 use rml_report::{Answer, Axioms, Cause, Group, Least, Report, Verdict};
 use std::alloc::Global;
 
-fn set_failing(
+fn with_failing(
     alloc: Global,
-    object: &mut JsonObject,
+    object: ObjectBuilder,
     checked: &Checked,
     paths: u32,
     least: &Least,
     shown: &Counterexample,
     branches: Json,
-) -> Mem<()>
+) -> ObjectBuilder
     requires { IsRefutation checked.now shown.now }
-    ensures { OnOk result (object.new ≡ set_each object.old
-        (failing_members checked.now paths least.now shown.now branches)) }
+    ensures { IsBuiltBy object (failing_members checked.now paths least.now shown.now branches) result }
 {
-    let execution = execution_value(alloc, checked, shown, branches)?;
-    object.set(alloc, "execution", execution)?;
-    object.set_word(alloc, "answer", "fails")?;
-    object.set_number(alloc, "path", shown.trace.path as u64)?;
-    object.set_number(alloc, "paths", paths as u64)?;
-    let least = least_value(alloc, checked.model().names(), least)?;
-    object.set(alloc, "least", least)?;
-    Ok(())
+    object
+        .with(
+            "execution",
+            execution_value(alloc, checked, shown, branches),
+        )
+        .with_word("answer", "fails")
+        .with_number("path", shown.trace.path as u64)
+        .with_number("paths", paths as u64)
+        .with("least", least_value(alloc, checked.model().names(), least))
 }
 
-fn set_open(alloc: Global, object: &mut JsonObject, path: u32, cause: &Cause) -> Mem<()>
-    ensures { OnOk result (object.new ≡ set_each object.old (undecided_members path cause.now)) }
+fn with_open(alloc: Global, object: ObjectBuilder, path: u32, cause: &Cause) -> ObjectBuilder
+    ensures { IsBuiltBy object (undecided_members path cause.now) result }
 {
-    object.set_word(alloc, "answer", "undecided")?;
-    object.set_number(alloc, "path", path as u64)?;
-    set_cause(alloc, object, cause)?;
-    Ok(())
+    object
+        .with_word("answer", "undecided")
+        .with_number("path", path as u64)
+        .with("cause", cause_value(alloc, cause))
 }
 
-// Sets what is said of a group.
-fn set_answer(
+// Adds what is said of a group.
+fn with_answer(
     alloc: Global,
-    object: &mut JsonObject,
+    object: ObjectBuilder,
     checked: &Checked,
     answer: &Answer,
     branches: Json,
-) -> Mem<()>
+) -> ObjectBuilder
     requires { ShowsRefutation checked.now answer.now }
-    ensures { OnOk result (object.new ≡ set_each object.old (answer_members checked.now answer.now branches)) }
+    ensures { IsBuiltBy object (answer_members checked.now answer.now branches) result }
 {
     match answer {
         Answer::Holds => {
             drop(branches);
-            object.set_word(alloc, "answer", "holds")
+            object.with_word("answer", "holds")
         }
         Answer::Fails {
             paths,
             least,
             shown,
-        } => set_failing(alloc, object, checked, *paths, least, shown, branches),
+        } => with_failing(alloc, object, checked, *paths, least, shown, branches),
         Answer::Undecided { path, cause } => {
             drop(branches);
-            set_open(alloc, object, *path, cause)
+            with_open(alloc, object, *path, cause)
         }
     }
 }
@@ -83,10 +83,9 @@ pub fn group_value(alloc: Global, checked: &Checked, group: &Group, branches: Js
     ensures { IfOk result (λ j. j ≡ group_data checked.now group.now branches) }
 {
     let names = checked.model().names();
-    let mut object = JsonObject::new(alloc);
-    set_group(alloc, &mut object, names, group.stage, group.about)?;
-    set_answer(alloc, &mut object, checked, &group.answer, branches)?;
-    Ok(object.into_json())
+    let object = ObjectBuilder::new(alloc);
+    let object = with_group(alloc, object, names, group.stage, group.about);
+    with_answer(alloc, object, checked, &group.answer, branches).into_json()
 }
 
 /// The first of them, or null.
@@ -113,44 +112,39 @@ pub fn behind_first(given: &[Json]) -> &[Json]
 }
 
 #[tactic(auto, using(std::proofs::Common::append_assoc))]
-fn group_values(
-    alloc: Global,
-    checked: &Checked,
-    groups: &[Group],
-    branches: &[Json],
-) -> Mem<JsonList>
+fn group_values(alloc: Global, checked: &Checked, groups: &[Group], branches: &[Json]) -> Mem<Json>
     requires { AllByRecursion (CanRender checked.now) groups.now }
-    ensures { IfOk result (λ l. l ≡ groups_data checked.now groups.now branches.now) }
+    ensures { IfOk result (λ j. j ≡ list_data (groups_data checked.now groups.now branches.now)) }
 {
     let mut list = JsonList::new(alloc);
     let mut rest = groups;
     let mut given = branches;
     while let [group, after @ ..] = rest {
         let told = first_given(given)?;
-        list.push(group_value(alloc, checked, group, told)?)?;
+        list.push(group_value(alloc, checked, group, told))?;
         rest = after;
         given = behind_first(given);
     }
-    Ok(list)
+    Ok(list.into_json())
 }
 
 #[tactic(auto, unfolding(crate::specs::ReportData::settled_data))]
 fn settled_value(alloc: Global, answer: &str) -> Mem<Json>
     ensures { IfOk result (λ j. j ≡ settled_data answer.now) }
 {
-    let mut object = JsonObject::new(alloc);
-    object.set_word(alloc, "answer", answer)?;
-    Ok(object.into_json())
+    ObjectBuilder::new(alloc)
+        .with_word("answer", answer)
+        .into_json()
 }
 
 #[tactic(auto, unfolding(crate::specs::ReportData::open_data))]
 fn open_value(alloc: Global, cause: &Cause) -> Mem<Json>
     ensures { IfOk result (λ j. j ≡ open_data cause.now) }
 {
-    let mut object = JsonObject::new(alloc);
-    object.set_word(alloc, "answer", "undecided")?;
-    set_cause(alloc, &mut object, cause)?;
-    Ok(object.into_json())
+    ObjectBuilder::new(alloc)
+        .with_word("answer", "undecided")
+        .with("cause", cause_value(alloc, cause))
+        .into_json()
 }
 
 fn axioms_value(alloc: Global, axioms: &Axioms) -> Mem<Json>
@@ -185,13 +179,13 @@ pub fn report_object(
     requires { AllByRecursion (CanRender checked.now) report.now.groups }
     ensures { IfOk result (λ o. o ≡ report_members checked.now report.now branches.now) }
 {
-    let mut object = JsonObject::new(alloc);
-    object.set_word(alloc, "command", "check")?;
-    object.set(alloc, "verdict", verdict_value(alloc, report.verdict)?)?;
-    object.set(alloc, "axioms", axioms_value(alloc, &report.axioms)?)?;
-    let groups = group_values(alloc, checked, report.groups.as_slice(), branches)?;
-    object.set(alloc, "groups", groups.into_json())?;
-    Ok(object)
+    let groups = group_values(alloc, checked, report.groups.as_slice(), branches);
+    ObjectBuilder::new(alloc)
+        .with_word("command", "check")
+        .with("verdict", verdict_value(alloc, report.verdict))
+        .with("axioms", axioms_value(alloc, &report.axioms))
+        .with("groups", groups)
+        .build()
 }
 
 /// The same as a value.

@@ -3,15 +3,14 @@ ghost use Rattle.std.specs.Prelude.{◌≡◌, ◌<◌, ◌++◌, IfOk, OnOk};
 ghost use Rattle.fol_sig.specs.Tables.{IsStructure};
 ghost use Rattle.fol_sig.specs.Symbols.{FitsStructure, symbols};
 ghost use Rattle.fol_sig.specs.SymbolTables.{HasSymbol, IsCell};
-ghost use Rattle.json_values.specs.Values.{with_member};
 ghost use Rattle.json_report.specs.GroupData.{name_data};
 ghost use Rattle.json_report.specs.StructureData.{value_data, cell_data, cells_data, symbol_data, sort_data};
 ghost use Rattle.json_report.specs.StructureData.{count_of, item_data, items_data, structure_data};
 
-use crate::group::set_name;
+use crate::group::name_value;
 use base::Mem;
 use fol_sig::{FunId, RelId, Sort, Structure, Symbol, tuple_of_number};
-use json_values::{Json, JsonList, JsonObject, numbers};
+use json_values::{Json, JsonList, ObjectBuilder, numbers};
 use rml_command::{Model, Name, Names};
 use std::alloc::Global;
 use told_states::{sizes, tuples};
@@ -29,10 +28,10 @@ pub enum Listed {
 fn value_at(alloc: Global, tuple: &[u32], value: u32) -> Mem<Json>
     ensures { IfOk result (λ j. j ≡ value_data tuple.now value) }
 {
-    let mut object = JsonObject::new(alloc);
-    object.set(alloc, "at", numbers(alloc, tuple)?)?;
-    object.set_number(alloc, "is", value as u64)?;
-    Ok(object.into_json())
+    ObjectBuilder::new(alloc)
+        .with("at", numbers(alloc, tuple))
+        .with_number("is", value as u64)
+        .into_json()
 }
 
 // Adds what is told of a cell: the tuple, if the relation is true of it, or the tuple with the function's value.
@@ -49,11 +48,11 @@ fn push_cell(
     match symbol {
         Symbol::Relation(rel) => {
             if structure.rel(rel, tuple) {
-                list.push(numbers(alloc, tuple)?)?;
+                list.push(numbers(alloc, tuple))?;
             }
         }
         Symbol::Function(fun) => {
-            list.push(value_at(alloc, tuple, structure.fun(fun, tuple))?)?;
+            list.push(value_at(alloc, tuple, structure.fun(fun, tuple)))?;
         }
     }
     Ok(())
@@ -86,20 +85,20 @@ fn symbol_value(
 ) -> Mem<Json>
     ensures { IfOk result (λ j. j ≡ symbol_data (name_data names.now number) word.now cells) }
 {
-    let mut object = JsonObject::new(alloc);
-    object.set(alloc, word, cells.into_json())?;
-    set_name(alloc, &mut object, "name", names, number)?;
-    Ok(object.into_json())
+    ObjectBuilder::new(alloc)
+        .with(word, Ok(cells.into_json()))
+        .with("name", name_value(alloc, names, number))
+        .into_json()
 }
 
 #[tactic(auto, unfolding(crate::specs::StructureData::sort_data))]
 fn sort_value(alloc: Global, names: &Names, sort: u32, size: u32) -> Mem<Json>
     ensures { IfOk result (λ j. j ≡ sort_data names.now sort size) }
 {
-    let mut object = JsonObject::new(alloc);
-    set_name(alloc, &mut object, "name", names.sorts.as_slice(), sort)?;
-    object.set_number(alloc, "size", size as u64)?;
-    Ok(object.into_json())
+    ObjectBuilder::new(alloc)
+        .with("name", name_value(alloc, names.sorts.as_slice(), sort))
+        .with_number("size", size as u64)
+        .into_json()
 }
 
 // The sort, relation or function of this number.
@@ -142,28 +141,24 @@ fn count(model: &Model, structure: &Structure, listed: Listed) -> u32
     }
 }
 
-// Sets a member to the list of all sorts, relations or functions.
-fn set_items(
+// The list of all sorts, relations or functions.
+fn items_value(
     alloc: Global,
-    object: &mut JsonObject,
-    word: &str,
     model: &Model,
     structure: &Structure,
     sizes: &[u32],
     listed: Listed,
-) -> Mem<()>
+) -> Mem<Json>
     requires fits { FitsStructure (symbols model.now.signature) structure.now }
     requires sizes { sizes.now ≡ structure.now.sizes }
-    ensures { OnOk result (object.new
-        ≡ with_member object.old word.now (items_data model.now.names structure.now listed)) }
+    ensures { IfOk result (λ j. j ≡ items_data model.now.names structure.now listed) }
 {
     let names = model.names();
     let mut list = JsonList::new(alloc);
     for number in 0..count(model, structure, listed) {
-        list.push(item_value(alloc, names, structure, sizes, listed, number)?)?;
+        list.push(item_value(alloc, names, structure, sizes, listed, number))?;
     }
-    object.set(alloc, word, list.into_json())?;
-    Ok(())
+    Ok(list.into_json())
 }
 
 /// A structure of the model.
@@ -173,33 +168,12 @@ pub fn structure_value(alloc: Global, model: &Model, structure: &Structure) -> M
     ensures { IfOk result (λ j. j ≡ structure_data model.now.names structure.now) }
 {
     let sizes = sizes(alloc, model, structure)?;
-    let mut object = JsonObject::new(alloc);
-    set_items(
-        alloc,
-        &mut object,
-        "sorts",
-        model,
-        structure,
-        &sizes,
-        Listed::Sorts,
-    )?;
-    set_items(
-        alloc,
-        &mut object,
-        "relations",
-        model,
-        structure,
-        &sizes,
-        Listed::Relations,
-    )?;
-    set_items(
-        alloc,
-        &mut object,
-        "functions",
-        model,
-        structure,
-        &sizes,
-        Listed::Functions,
-    )?;
-    Ok(object.into_json())
+    let sorts = items_value(alloc, model, structure, &sizes, Listed::Sorts);
+    let relations = items_value(alloc, model, structure, &sizes, Listed::Relations);
+    let functions = items_value(alloc, model, structure, &sizes, Listed::Functions);
+    ObjectBuilder::new(alloc)
+        .with("sorts", sorts)
+        .with("relations", relations)
+        .with("functions", functions)
+        .into_json()
 }

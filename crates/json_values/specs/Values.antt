@@ -1,5 +1,5 @@
 -- Words for the data of values.
-use Rattle.std.specs.Prelude.{ℕ, List, [], ◌∷◌, ◌++◌, map, codes, encode_utf8_all}
+use Rattle.std.specs.Prelude.{ℕ, ◌≡◌, List, [], ◌∷◌, ◌++◌, map, codes, encode_utf8_all, Option, IfSome, IsSomeAnd}
 use Rattle.serde_json.specs.Data.{Data, number, unsigned, string, array, object, Members, no_members, put}
 use Rattle.serde_json.specs.View.{items_of}
 use Rattle.serde_json.specs.Written.{compact_text}
@@ -22,6 +22,11 @@ with_member ms name d = put name d ms
 abbrev pub set_each : Members → List (List ℕ × Data) → Members
 set_each ms [] = ms
 set_each ms (m ∷ more) = set_each (with_member ms m.0 m.1) more
+
+-- An object that is being built, before and after these members are set. It is none where memory was wanting, and then
+-- stays none.
+abbrev pub IsBuiltBy : Option Members → List (List ℕ × Data) → Option Members → Type 0
+IsBuiltBy before ms after = IfSome after (λ new. IsSomeAnd before (λ old. new ≡ set_each old ms))
 
 -- an object with these members
 abbrev pub object_of : List (List ℕ × Data) → Data

@@ -3,11 +3,13 @@
 //! the text of each is known byte for byte.
 #![tactic(auto)]
 
+mod builder;
 mod list;
 mod object;
 mod shapes;
 mod value;
 
+pub use builder::ObjectBuilder;
 pub use list::JsonList;
 pub use object::JsonObject;
 pub use shapes::{counted, kind, named, numbers};

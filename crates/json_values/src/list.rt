@@ -1,5 +1,5 @@
 // A list of values, as it is built.
-ghost use Rattle.std.specs.Prelude.{◌≡◌, ◌∷◌, ◌++◌, [], OnOk};
+ghost use Rattle.std.specs.Prelude.{◌≡◌, ◌∷◌, ◌++◌, [], OnOk, IsOkAnd};
 ghost use Rattle.json_values.specs.Values.{list_data};
 
 use crate::value::Json;
@@ -41,9 +41,10 @@ impl JsonList {
     }
 
     /// Adds a value behind those that are there.
-    pub fn push(&mut self, value: Json) -> Mem<()>
-        ensures { OnOk result (self.new ≡ self.old ++ value ∷ []) }
+    pub fn push(&mut self, value: Mem<Json>) -> Mem<()>
+        ensures { OnOk result (IsOkAnd value (λ d. self.new ≡ self.old ++ d ∷ [])) }
     {
+        let value = value?;
         self.values.push(value.value)?;
         Ok(())
     }

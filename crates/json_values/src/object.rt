@@ -1,4 +1,4 @@
-// An object, as it is built.
+// An object.
 ghost use Rattle.std.specs.Prelude.{◌≡◌, OnOk};
 ghost use Rattle.serde_json.specs.Data.{object, no_members};
 ghost use Rattle.json_values.specs.Values.{with_member};
@@ -32,8 +32,8 @@ impl Model for JsonObject {
 }
 
 impl JsonObject {
-    /// No member.
-    pub fn new(alloc: Global) -> JsonObject
+    // No member.
+    pub(crate) fn new(alloc: Global) -> JsonObject
         ensures { result ≡ no_members }
     {
         JsonObject {
@@ -41,9 +41,9 @@ impl JsonObject {
         }
     }
 
-    /// Sets a member. One of this name that was there is replaced.
+    // Sets a member. One of this name that was there is replaced.
     #[tactic(auto, unfolding(crate::specs::Values::with_member))]
-    pub fn set(&mut self, alloc: Global, name: &str, value: Json) -> Mem<()>
+    pub(crate) fn set(&mut self, alloc: Global, name: &str, value: Json) -> Mem<()>
         ensures { OnOk result (self.new ≡ with_member self.old name.now value) }
     {
         put(&mut self.members, alloc, name, value.value)?;

@@ -6,7 +6,7 @@ use base::Mem;
 use command_parts::{complaint, shown};
 use commands::Said;
 use json_report::faulty_object;
-use json_values::{JsonObject, line};
+use json_values::{JsonObject, ObjectBuilder, line};
 use rml_lex::Fault;
 use std::alloc::Global;
 use told_fault::{Reading, fault_text};
@@ -17,9 +17,9 @@ use view_line::Form;
 pub fn line_of(alloc: Global, file: &str, object: JsonObject) -> Mem<Vec<u8>>
     ensures { IfOk result (λ out. out.items ≡ line_of file.now object) }
 {
-    let mut object = object;
-    object.set_word(alloc, "file", file)?;
-    let value = object.into_json();
+    let value = ObjectBuilder::from_object(alloc, object)
+        .with_word("file", file)
+        .into_json()?;
     let text = line(alloc, &value)?;
     Ok(text)
 }

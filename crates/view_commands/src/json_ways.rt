@@ -1,14 +1,14 @@
 // The branches that paths take, as JSON.
-ghost use Rattle.std.specs.Prelude.{◌≡◌, ◌≤◌, codes, length, map, IfOk, OnOk};
+ghost use Rattle.std.specs.Prelude.{◌≡◌, ◌≤◌, [], ◌∷◌, codes, length, map, IfOk};
 ghost use Rattle.serde_json.specs.Data.{boolean, string};
 ghost use Rattle.branches.specs.Within.{MarksWithin};
-ghost use Rattle.json_values.specs.Values.{set_each, with_member};
+ghost use Rattle.json_values.specs.Values.{IsBuiltBy};
 ghost use Rattle.view_commands.specs.WayData.{turn_members, mark_data, answer_ways, group_ways, drop_ways};
 
 use crate::ways::Ways;
 use base::Mem;
 use branches::{Branch, Mark, Turn};
-use json_values::{Json, JsonList, JsonObject};
+use json_values::{Json, JsonList, ObjectBuilder};
 use rml_command::Stage;
 use rml_houdini::Dropped;
 use rml_lex::place;
@@ -16,35 +16,34 @@ use rml_report::{Answer, Group};
 use std::alloc::Global;
 
 // Which branch is taken of how many.
-fn set_branch(alloc: Global, object: &mut JsonObject, branch: Branch) -> Mem<()>
-    ensures { OnOk result (object.new ≡ set_each object.old (turn_members (Turn.Takes branch))) }
+fn with_branch(object: ObjectBuilder, branch: Branch) -> ObjectBuilder
+    ensures { IsBuiltBy object (turn_members (Turn.Takes branch)) result }
 {
-    object.set_word(alloc, "at", "choose")?;
-    object.set_number(alloc, "branch", branch.number)?;
-    object.set_number(alloc, "of", branch.count)?;
-    Ok(())
+    object
+        .with_word("at", "choose")
+        .with_number("branch", branch.number)
+        .with_number("of", branch.count)
 }
 
 // Which word stands there, and whether it is so.
-fn set_way(alloc: Global, object: &mut JsonObject, at: &str, what: &str, is_so: bool) -> Mem<()>
-    ensures { OnOk result (object.new
-        ≡ with_member (with_member object.old (codes "at") (string at.now)) what.now (boolean is_so)) }
+fn with_way(object: ObjectBuilder, at: &str, what: &str, is_so: bool) -> ObjectBuilder
+    ensures { IsBuiltBy object ((codes "at", string at.now) ∷ (what.now, boolean is_so) ∷ []) result }
 {
-    object.set_word(alloc, "at", at)?;
-    object.set(alloc, what, Json::truth(is_so))?;
-    Ok(())
+    object
+        .with_word("at", at)
+        .with(what, Ok(Json::truth(is_so)))
 }
 
 // Which word stands there, and the way that is taken.
-fn set_turn(alloc: Global, object: &mut JsonObject, turn: Turn) -> Mem<()>
-    ensures { OnOk result (object.new ≡ set_each object.old (turn_members turn)) }
+fn with_turn(object: ObjectBuilder, turn: Turn) -> ObjectBuilder
+    ensures { IsBuiltBy object (turn_members turn) result }
 {
     match turn {
-        Turn::AssertFails => set_way(alloc, object, "assert", "holds", false),
-        Turn::AssertPasses => set_way(alloc, object, "assert", "passed", true),
-        Turn::IfHolds => set_way(alloc, object, "if", "holds", true),
-        Turn::IfFails => set_way(alloc, object, "if", "holds", false),
-        Turn::Takes(branch) => set_branch(alloc, object, branch),
+        Turn::AssertFails => with_way(object, "assert", "holds", false),
+        Turn::AssertPasses => with_way(object, "assert", "passed", true),
+        Turn::IfHolds => with_way(object, "if", "holds", true),
+        Turn::IfFails => with_way(object, "if", "holds", false),
+        Turn::Takes(branch) => with_branch(object, branch),
     }
 }
 
@@ -54,11 +53,10 @@ fn mark_value(alloc: Global, text: &[u8], mark: Mark) -> Mem<Json>
     ensures { IfOk result (λ j. j ≡ mark_data text.now mark) }
 {
     let (line, column) = place(text, mark.at);
-    let mut object = JsonObject::new(alloc);
-    object.set_number(alloc, "line", line)?;
-    object.set_number(alloc, "column", column)?;
-    set_turn(alloc, &mut object, mark.turn)?;
-    Ok(object.into_json())
+    let object = ObjectBuilder::new(alloc)
+        .with_number("line", line)
+        .with_number("column", column);
+    with_turn(object, mark.turn).into_json()
 }
 
 /// The marks of a path, in order.
@@ -70,7 +68,7 @@ pub fn marks_list(alloc: Global, text: &[u8], marks: &[Mark]) -> Mem<JsonList>
     let mut list = JsonList::new(alloc);
     let mut rest = marks;
     while let [mark, after @ ..] = rest {
-        list.push(mark_value(alloc, text, *mark)?)?;
+        list.push(mark_value(alloc, text, *mark))?;
         rest = after;
     }
     Ok(list)
