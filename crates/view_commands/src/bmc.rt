@@ -6,11 +6,11 @@ ghost use Rattle.told_runs.specs.RunsText.{CanTell};
 ghost use Rattle.command_parts.specs.ModelTexts.{IsTheModel};
 ghost use Rattle.model_commands.specs.Bmc.{IsBmcAnswerBy};
 ghost use Rattle.told_fault.specs.Readings.{IsReading};
-ghost use Rattle.view_commands.specs.Views.{IsViewed, source_of};
-ghost use Rattle.view_commands.specs.Bmc.{length_graphs, bounded_line, bounded_view, bmc_view};
+ghost use Rattle.view_commands.specs.Views.{source_of};
+ghost use Rattle.view_commands.specs.Bmc.{answer_view, length_graphs, bounded_line, bounded_view};
 
 use crate::faults::{line_of, say_fault};
-use crate::viewed::Viewed;
+use crate::view::Show;
 use crate::ways::ways_of;
 use base::Mem;
 use command_parts::shown;
@@ -22,16 +22,8 @@ use progress::Progress;
 use rml_bmc::{Bounded, Length, verdict_for};
 use rml_command::Checked;
 use std::alloc::Global;
-use told_fault::{Reading, read};
+use told_fault::Reading;
 use view_line::Form;
-
-/// The question, with the name of the file and how the answer is shown.
-#[derive(Drop)]
-pub struct ViewBmc<'a> {
-    pub file: &'a str,
-    pub bmc: Bmc,
-    pub form: Form,
-}
 
 // The states of a run that goes wrong.
 fn push_length(alloc: Global, out: &mut Vec<u8>, model: &Checked, length: &Length) -> Mem<()>
@@ -99,59 +91,44 @@ fn bounded_view(
     }
 }
 
-impl<'a> Command for ViewBmc<'a> {
-    type Answer = Viewed<BmcAnswer>;
+impl Show for Bmc {
+    type Answer = BmcAnswer;
 
-    ghost is_answer = { λ c first second a. IsViewed (IsBmcAnswerBy c.bmc.counted c.bmc.bound first) first a };
+    ghost is_answer = { λ c text other a. IsBmcAnswerBy c.counted c.bound text a };
 
-    ghost due = { λ c first second a. bmc_view c.form c.file.now first a };
+    ghost shown = { λ c form file text reading a. answer_view form file text reading a };
 
-    fn judge<P: Progress>(
+    fn answer<P: Progress>(
         &self,
         alloc: Global,
-        first: &[u8],
-        second: &[u8],
+        text: &[u8],
+        other: &[u8],
         progress: &mut P,
-    ) -> Mem<Viewed<BmcAnswer>> {
-        let reading = read(alloc, first)?;
-        let answer = self.bmc.judge(alloc, first, second, progress)?;
-        Ok(Viewed { answer, reading })
+    ) -> Mem<BmcAnswer> {
+        self.judge(alloc, text, other, progress)
     }
 
-    fn say(
+    fn show(
         &self,
         alloc: Global,
-        first: &[u8],
-        second: &[u8],
-        answer: &Viewed<BmcAnswer>,
+        form: Form,
+        file: &str,
+        text: &[u8],
+        other: &[u8],
+        reading: &Reading,
+        answer: &BmcAnswer,
     ) -> Mem<Said> {
         bounded_text::rendering_law();
         told_runs::telling_law();
-        match &answer.answer {
+        match answer {
             BmcAnswer::Answered { model, bounded } => {
                 // That the model is in the fragment is known where it is looked at.
                 let _model = model.model();
-                let text = bounded_view(
-                    alloc,
-                    self.form,
-                    self.file,
-                    first,
-                    &answer.reading,
-                    model,
-                    bounded,
-                )?;
+                let out = bounded_view(alloc, form, file, text, reading, model, bounded)?;
                 let verdict = verdict_for(bounded.lengths.as_slice());
-                Ok(shown(text, bounded_status(verdict)))
+                Ok(shown(out, bounded_status(verdict)))
             }
-            BmcAnswer::Fault(fault) => say_fault(
-                alloc,
-                self.form,
-                "bmc",
-                self.file,
-                first,
-                fault,
-                &answer.reading,
-            ),
+            BmcAnswer::Fault(fault) => say_fault(alloc, form, "bmc", file, text, fault, reading),
         }
     }
 }

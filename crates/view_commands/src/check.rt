@@ -6,12 +6,12 @@ ghost use Rattle.command_parts.specs.Limits.{ceilings_of};
 ghost use Rattle.command_parts.specs.ModelTexts.{IsTheModel};
 ghost use Rattle.model_commands.specs.Check.{IsCheckAnswerBy, verdict_status};
 ghost use Rattle.told_fault.specs.Readings.{IsReading};
-ghost use Rattle.view_commands.specs.Views.{IsViewed, source_of};
-ghost use Rattle.view_commands.specs.Check.{checked_line, checked_text, check_view};
+ghost use Rattle.view_commands.specs.Views.{source_of};
+ghost use Rattle.view_commands.specs.Check.{answer_view, checked_line, checked_text};
 
 use crate::faults::{line_of, say_fault};
 use crate::json_ways::group_ways;
-use crate::viewed::Viewed;
+use crate::view::Show;
 use crate::ways::{Ways, ways_of};
 use base::Mem;
 use command_parts::shown;
@@ -23,16 +23,8 @@ use progress::Progress;
 use rml_command::Checked;
 use rml_report::Report;
 use std::alloc::Global;
-use told_fault::{Reading, read};
+use told_fault::Reading;
 use view_line::Form;
-
-/// The question, with the name of the file and how the answer is shown.
-#[derive(Drop)]
-pub struct ViewCheck<'a> {
-    pub file: &'a str,
-    pub check: Check,
-    pub form: Form,
-}
 
 // The report as a JSON value.
 #[tactic(auto, unfolding(crate::specs::Check::checked_line))]
@@ -76,55 +68,41 @@ fn checked_text(
     }
 }
 
-impl<'a> Command for ViewCheck<'a> {
-    type Answer = Viewed<CheckAnswer>;
+impl Show for Check {
+    type Answer = CheckAnswer;
 
-    ghost is_answer = { λ c first second a.
-        IsViewed (IsCheckAnswerBy c.check.counted (ceilings_of c.check.asked) first) first a };
+    ghost is_answer = { λ c text other a. IsCheckAnswerBy c.counted (ceilings_of c.asked) text a };
 
-    ghost due = { λ c first second a. check_view c.form c.file.now first a };
+    ghost shown = { λ c form file text reading a. answer_view form file text reading a };
 
-    fn judge<P: Progress>(
+    fn answer<P: Progress>(
         &self,
         alloc: Global,
-        first: &[u8],
-        second: &[u8],
+        text: &[u8],
+        other: &[u8],
         progress: &mut P,
-    ) -> Mem<Viewed<CheckAnswer>> {
-        let reading = read(alloc, first)?;
-        let answer = self.check.judge(alloc, first, second, progress)?;
-        Ok(Viewed { answer, reading })
+    ) -> Mem<CheckAnswer> {
+        self.judge(alloc, text, other, progress)
     }
 
-    fn say(
+    fn show(
         &self,
         alloc: Global,
-        first: &[u8],
-        second: &[u8],
-        answer: &Viewed<CheckAnswer>,
+        form: Form,
+        file: &str,
+        text: &[u8],
+        other: &[u8],
+        reading: &Reading,
+        answer: &CheckAnswer,
     ) -> Mem<Said> {
         rml_report::rendering_law();
-        match &answer.answer {
+        match answer {
             CheckAnswer::Checked { model, report } => {
-                let text = checked_text(
-                    alloc,
-                    self.form,
-                    self.file,
-                    first,
-                    &answer.reading,
-                    model,
-                    report,
-                )?;
-                Ok(shown(text, verdict_status(report.verdict)))
+                let out = checked_text(alloc, form, file, text, reading, model, report)?;
+                Ok(shown(out, verdict_status(report.verdict)))
             }
             CheckAnswer::Fault(fault) => say_fault(
-                alloc,
-                self.form,
-                "check",
-                self.file,
-                first,
-                fault,
-                &answer.reading,
+                alloc, form, "check", file, text, fault, reading,
             ),
         }
     }

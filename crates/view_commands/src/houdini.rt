@@ -6,12 +6,12 @@ ghost use Rattle.command_parts.specs.Limits.{ceilings_of};
 ghost use Rattle.command_parts.specs.ModelTexts.{IsTheModel};
 ghost use Rattle.model_commands.specs.Houdini.{IsHoudiniAnswerBy};
 ghost use Rattle.told_fault.specs.Readings.{IsReading};
-ghost use Rattle.view_commands.specs.Views.{IsViewed, source_of};
-ghost use Rattle.view_commands.specs.Houdini.{found_line, found_text, houdini_view};
+ghost use Rattle.view_commands.specs.Views.{source_of};
+ghost use Rattle.view_commands.specs.Houdini.{answer_view, found_line, found_text};
 
 use crate::faults::{line_of, say_fault};
 use crate::json_ways::drop_ways;
-use crate::viewed::Viewed;
+use crate::view::Show;
 use crate::ways::{Ways, ways_of};
 use base::Mem;
 use command_parts::shown;
@@ -22,16 +22,8 @@ use model_commands::{Houdini, HoudiniAnswer, houdini_status};
 use progress::Progress;
 use rml_command::Checked;
 use std::alloc::Global;
-use told_fault::{Reading, read};
+use told_fault::Reading;
 use view_line::Form;
-
-/// The question, with the name of the file and how the answer is shown.
-#[derive(Drop)]
-pub struct ViewHoudini<'a> {
-    pub file: &'a str,
-    pub houdini: Houdini,
-    pub form: Form,
-}
 
 // What was found as a JSON value.
 #[tactic(auto, unfolding(crate::specs::Houdini::found_line))]
@@ -75,55 +67,41 @@ fn found_text(
     }
 }
 
-impl<'a> Command for ViewHoudini<'a> {
-    type Answer = Viewed<HoudiniAnswer>;
+impl Show for Houdini {
+    type Answer = HoudiniAnswer;
 
-    ghost is_answer = { λ c first second a.
-        IsViewed (IsHoudiniAnswerBy c.houdini.counted (ceilings_of c.houdini.asked) first) first a };
+    ghost is_answer = { λ c text other a. IsHoudiniAnswerBy c.counted (ceilings_of c.asked) text a };
 
-    ghost due = { λ c first second a. houdini_view c.form c.file.now first a };
+    ghost shown = { λ c form file text reading a. answer_view form file text reading a };
 
-    fn judge<P: Progress>(
+    fn answer<P: Progress>(
         &self,
         alloc: Global,
-        first: &[u8],
-        second: &[u8],
+        text: &[u8],
+        other: &[u8],
         progress: &mut P,
-    ) -> Mem<Viewed<HoudiniAnswer>> {
-        let reading = read(alloc, first)?;
-        let answer = self.houdini.judge(alloc, first, second, progress)?;
-        Ok(Viewed { answer, reading })
+    ) -> Mem<HoudiniAnswer> {
+        self.judge(alloc, text, other, progress)
     }
 
-    fn say(
+    fn show(
         &self,
         alloc: Global,
-        first: &[u8],
-        second: &[u8],
-        answer: &Viewed<HoudiniAnswer>,
+        form: Form,
+        file: &str,
+        text: &[u8],
+        other: &[u8],
+        reading: &Reading,
+        answer: &HoudiniAnswer,
     ) -> Mem<Said> {
         rml_houdini::rendering_law();
-        match &answer.answer {
+        match answer {
             HoudiniAnswer::Found { model, houdini } => {
-                let text = found_text(
-                    alloc,
-                    self.form,
-                    self.file,
-                    first,
-                    &answer.reading,
-                    model,
-                    houdini,
-                )?;
-                Ok(shown(text, houdini_status(houdini)))
+                let out = found_text(alloc, form, file, text, reading, model, houdini)?;
+                Ok(shown(out, houdini_status(houdini)))
             }
             HoudiniAnswer::Fault(fault) => say_fault(
-                alloc,
-                self.form,
-                "houdini",
-                self.file,
-                first,
-                fault,
-                &answer.reading,
+                alloc, form, "houdini", file, text, fault, reading,
             ),
         }
     }

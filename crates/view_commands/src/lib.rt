@@ -9,13 +9,12 @@ mod faults;
 mod houdini;
 mod json_ways;
 mod replay;
+mod view;
 mod viewed;
 mod ways;
 mod why;
 
-pub use bmc::ViewBmc;
-pub use check::ViewCheck;
-pub use houdini::ViewHoudini;
-pub use replay::ViewReplay;
+pub use replay::ReplayOf;
+pub use view::{Show, View};
 pub use viewed::Viewed;
-pub use why::{ViewWhy, WhyAnswer};
+pub use why::{Why, WhyAnswer};

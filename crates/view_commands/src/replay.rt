@@ -1,12 +1,11 @@
 // `replay MODEL REPORT`: whether a printed report is right.
 ghost use Rattle.std.specs.Prelude.{◌≡◌, IfOk};
 ghost use Rattle.replay_command.specs.Replay.{IsReplayAnswer};
-ghost use Rattle.view_commands.specs.Views.{IsViewed};
-ghost use Rattle.view_commands.specs.Replay.{line_view, confirmed_view, judged_told, judged_status};
-ghost use Rattle.view_commands.specs.Replay.{judged_view, unread_view, replay_view};
+ghost use Rattle.view_commands.specs.Replay.{answer_view, line_view, confirmed_view, judged_told};
+ghost use Rattle.view_commands.specs.Replay.{judged_status, judged_view, unread_view};
 
 use crate::faults::{line_of, say_fault};
-use crate::viewed::Viewed;
+use crate::view::Show;
 use base::{Mem, push_number, push_text};
 use command_parts::{complaint, shown};
 use commands::{Command, Said};
@@ -15,15 +14,13 @@ use progress::Progress;
 use replay_command::{Replay, ReplayAnswer};
 use report_replay::Judged;
 use std::alloc::Global;
-use told_fault::read;
+use told_fault::Reading;
 use view_line::Form;
 
-/// The question, with the names of the files and how the answer is shown.
+/// The question, with the name of the report's file.
 #[derive(Drop)]
-pub struct ViewReplay<'a> {
-    pub model: &'a str,
+pub struct ReplayOf<'a> {
     pub report: &'a str,
-    pub form: Form,
 }
 
 // A line of the report that is not as it says: the file, the line, the code and its words.
@@ -107,56 +104,39 @@ fn say_unread(alloc: Global, form: Form, file: &str, report: &str, line: u64) ->
     }
 }
 
-impl<'a> Command for ViewReplay<'a> {
-    type Answer = Viewed<ReplayAnswer>;
+impl<'a> Show for ReplayOf<'a> {
+    type Answer = ReplayAnswer;
 
-    ghost is_answer = { λ c first second a. IsViewed (IsReplayAnswer first second) first a };
+    ghost is_answer = { λ c text other a. IsReplayAnswer text other a };
 
-    ghost due = { λ c first second a. replay_view c.form c.model.now c.report.now first a };
+    ghost shown = { λ c form file text reading a. answer_view form file c.report.now text reading a };
 
-    fn judge<P: Progress>(
+    fn answer<P: Progress>(
         &self,
         alloc: Global,
-        first: &[u8],
-        second: &[u8],
+        text: &[u8],
+        other: &[u8],
         progress: &mut P,
-    ) -> Mem<Viewed<ReplayAnswer>> {
-        let reading = read(alloc, first)?;
-        let answer = Replay.judge(alloc, first, second, progress)?;
-        Ok(Viewed { answer, reading })
+    ) -> Mem<ReplayAnswer> {
+        Replay.judge(alloc, text, other, progress)
     }
 
-    fn say(
+    fn show(
         &self,
         alloc: Global,
-        first: &[u8],
-        second: &[u8],
-        answer: &Viewed<ReplayAnswer>,
+        form: Form,
+        file: &str,
+        text: &[u8],
+        other: &[u8],
+        reading: &Reading,
+        answer: &ReplayAnswer,
     ) -> Mem<Said> {
-        match &answer.answer {
+        match answer {
             ReplayAnswer::Fault(fault) => say_fault(
-                alloc,
-                self.form,
-                "replay",
-                self.model,
-                first,
-                fault,
-                &answer.reading,
+                alloc, form, "replay", file, text, fault, reading,
             ),
-            ReplayAnswer::Unread(unread) => say_unread(
-                alloc,
-                self.form,
-                self.model,
-                self.report,
-                unread.line,
-            ),
-            ReplayAnswer::Replayed(judged) => say_judged(
-                alloc,
-                self.form,
-                self.model,
-                self.report,
-                *judged,
-            ),
+            ReplayAnswer::Unread(unread) => say_unread(alloc, form, file, self.report, unread.line),
+            ReplayAnswer::Replayed(judged) => say_judged(alloc, form, file, self.report, *judged),
         }
     }
 }

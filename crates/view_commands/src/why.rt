@@ -5,16 +5,15 @@ ghost use Rattle.command_line.specs.Asking.{IsInRange};
 ghost use Rattle.command_parts.specs.Limits.{ceilings_of};
 ghost use Rattle.model_reasons.specs.Reasons.{AreReasons};
 ghost use Rattle.model_reasons.specs.Laws.{CarriedIsShown};
-ghost use Rattle.view_commands.specs.Views.{IsViewed};
-ghost use Rattle.view_commands.specs.Why.{IsWhyAnswer, fails, is_open, reasons_line, reasons_view};
-ghost use Rattle.view_commands.specs.Why.{why_status, why_view};
+ghost use Rattle.view_commands.specs.Why.{IsWhyAnswer, answer_view, fails, is_open, reasons_line, reasons_view};
+ghost use Rattle.view_commands.specs.Why.{why_status};
 
 use crate::faults::{line_of, say_fault};
-use crate::viewed::Viewed;
+use crate::view::Show;
 use base::{Mem, Refused, Row};
 use command_line::Asked;
 use command_parts::{limits_of, read_model, shown};
-use commands::{Command, Said};
+use commands::Said;
 use json_outcome::reasons_object;
 use model_reasons::{Reason, reasons};
 use progress::Progress;
@@ -22,15 +21,13 @@ use rml_command::Checked;
 use rml_lex::Fault;
 use rml_reasons::{Carried, Lack};
 use std::alloc::{AllocError, Global};
-use told_fault::read;
+use told_fault::Reading;
 use view_line::Form;
 
-/// The question, with the name of the file, what may be spent on each goal, and how the answer is shown.
+/// The question, with what may be spent on each goal.
 #[derive(Drop)]
-pub struct ViewWhy<'a> {
-    pub file: &'a str,
+pub struct Why {
     pub asked: Asked,
-    pub form: Form,
     ghost in_range: { IsInRange asked },
 }
 
@@ -149,47 +146,40 @@ fn reasons_view(
     }
 }
 
-impl<'a> Command for ViewWhy<'a> {
-    type Answer = Viewed<WhyAnswer>;
+impl Show for Why {
+    type Answer = WhyAnswer;
 
-    ghost is_answer = { λ c first second a. IsViewed (IsWhyAnswer (ceilings_of c.asked) first) first a };
+    ghost is_answer = { λ c text other a. IsWhyAnswer (ceilings_of c.asked) text a };
 
-    ghost due = { λ c first second a. why_view c.form c.file.now first a };
+    ghost shown = { λ c form file text reading a. answer_view form file text reading a };
 
-    fn judge<P: Progress>(
+    fn answer<P: Progress>(
         &self,
         alloc: Global,
-        first: &[u8],
-        second: &[u8],
+        text: &[u8],
+        other: &[u8],
         progress: &mut P,
-    ) -> Mem<Viewed<WhyAnswer>> {
-        let reading = read(alloc, first)?;
-        let answer = judge_groups(alloc, first, self.asked, progress)?;
-        Ok(Viewed { answer, reading })
+    ) -> Mem<WhyAnswer> {
+        judge_groups(alloc, text, self.asked, progress)
     }
 
-    fn say(
+    fn show(
         &self,
         alloc: Global,
-        first: &[u8],
-        second: &[u8],
-        answer: &Viewed<WhyAnswer>,
+        form: Form,
+        file: &str,
+        text: &[u8],
+        other: &[u8],
+        reading: &Reading,
+        answer: &WhyAnswer,
     ) -> Mem<Said> {
         model_reasons::showing_law();
-        match &answer.answer {
+        match answer {
             WhyAnswer::Reasons { model, reasons } => {
-                let text = reasons_view(alloc, self.form, self.file, model, reasons.as_slice())?;
-                Ok(shown(text, why_status(reasons.as_slice())))
+                let out = reasons_view(alloc, form, file, model, reasons.as_slice())?;
+                Ok(shown(out, why_status(reasons.as_slice())))
             }
-            WhyAnswer::Fault(fault) => say_fault(
-                alloc,
-                self.form,
-                "why",
-                self.file,
-                first,
-                fault,
-                &answer.reading,
-            ),
+            WhyAnswer::Fault(fault) => say_fault(alloc, form, "why", file, text, fault, reading),
         }
     }
 }

@@ -6,6 +6,7 @@
 mod ended;
 mod perform;
 mod top;
+mod variant;
 mod words;
 
 pub use ended::{Answer, Ended, Loaded};

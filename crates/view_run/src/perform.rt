@@ -1,24 +1,27 @@
 // From the words to the answer with its text.
-ghost use Rattle.std.specs.Prelude.{◌≡◌, ◌≤◌, ℕ, List, [], Some, None, IfSome, option_map, map, string_bytes};
-ghost use Rattle.command_line.specs.Asking.{IsInRange};
-ghost use Rattle.commands.specs.Ends.{EndsNone};
+ghost use Rattle.std.specs.Prelude.{◌≡◌, ℕ, List, [], Option, Some, IfSome, option_map, map, string_bytes};
+ghost use Rattle.commands.specs.Ends.{EndsNone, EndsOne, EndsTwo};
 ghost use Rattle.commands.specs.Done.{due_in, outcome_in};
-ghost use Rattle.view_line.specs.Options.{others};
-ghost use Rattle.view_line.specs.Asking.{of_check, of_houdini, of_bmc, of_why, of_replay, show, help, version, ask_of};
-ghost use Rattle.view_line.specs.Asking.{ask_line, HasAskRanges, HasQuestionRanges, question_line};
-ghost use Rattle.view_run.specs.Views.{EndsAsAsked, IsWords, counted_by, due_of};
+ghost use Rattle.command_parts.specs.ModelTexts.{model_limit};
+ghost use Rattle.replay_command.specs.Replay.{IsReplayAnswer, report_limit};
+ghost use Rattle.view_line.specs.Asking.{AskLine, show, ask_of, ask_line, HasAskRanges, HasQuestionRanges};
+ghost use Rattle.view_line.specs.Asking.{question_line};
+ghost use Rattle.view_commands.specs.Views.{IsViewed};
+ghost use Rattle.view_commands.specs.Replay.{replay_view};
+ghost use Rattle.view_run.specs.Views.{EndsAsAsked, IsWords, counted_by, due_of, words_of};
 
 use crate::ended::Answer;
+use crate::variant::as_variant;
 use crate::words::Words;
-use command_line::{Asked, Bound};
 use commands::{Done, no_file, one_file, two_files};
 use lean_decide::Counted;
 use model_commands::{Bmc, Check, Houdini};
 use progress::Progress;
+use replay_command::ReplayAnswer;
 use rml_bytes::{Files, LoadError};
 use std::alloc::Global;
-use view_commands::{ViewBmc, ViewCheck, ViewHoudini, ViewReplay, ViewWhy};
-use view_line::{Ask, Options, Question, other_words, read_ask};
+use view_commands::{ReplayOf, Show, View, Viewed, Why};
+use view_line::{Ask, Form, Options, Question, other_words, read_ask};
 
 const MODEL_LIMIT: u64 = 1048576;
 
@@ -36,216 +39,68 @@ fn counted_by(options: Options) -> Counted
     }
 }
 
-// `--help`.
-fn say_help<P: Progress>(alloc: Global, progress: &mut P) -> Result<Done<Answer>, LoadError>
-    ensures due { due_in result ≡ due_of (Some help) [] [] (outcome_in result) }
+// Answers with words alone.
+fn say_words<P: Progress>(
+    alloc: Global,
+    words: Words,
+    progress: &mut P,
+) -> Result<Done<Answer>, LoadError>
+    ensures due { (ask : Option AskLine) → words_of ask ≡ words → due_in result ≡ due_of ask [] [] (outcome_in result) }
     ensures ends { EndsNone 0 0 [] [] (λ text other a. IsWords a) (outcome_in result) }
 {
-    let done = no_file(&Words::Help, alloc, progress)?;
-    Ok(Done {
-        answer: Answer::Words,
-        said: done.said,
-    })
+    as_variant(no_file(&words, alloc, progress))
 }
 
-// `--version`.
-fn say_version<P: Progress>(alloc: Global, progress: &mut P) -> Result<Done<Answer>, LoadError>
-    ensures due { due_in result ≡ due_of (Some version) [] [] (outcome_in result) }
-    ensures ends { EndsNone 0 0 [] [] (λ text other a. IsWords a) (outcome_in result) }
-{
-    let done = no_file(&Words::Version, alloc, progress)?;
-    Ok(Done {
-        answer: Answer::Words,
-        said: done.said,
-    })
-}
-
-// Words that are no command line.
-fn say_usage<P: Progress>(alloc: Global, progress: &mut P) -> Result<Done<Answer>, LoadError>
-    ensures due { due_in result ≡ due_of None [] [] (outcome_in result) }
-    ensures ends { EndsNone 0 0 [] [] (λ text other a. IsWords a) (outcome_in result) }
-{
-    let done = no_file(&Words::Usage, alloc, progress)?;
-    Ok(Done {
-        answer: Answer::Words,
-        said: done.said,
-    })
-}
-
-// `check FILE`.
-fn show_check<F: Files, P: Progress>(
+// Asks a question of the text of one file.
+fn ask_one<Q: Show + Drop, F: Files, P: Progress>(
     alloc: Global,
     file: &str,
-    asked: Asked,
-    options: Options,
+    question: Q,
+    form: Form,
     files: &mut F,
     first: &mut Vec<u8>,
     progress: &mut P,
-) -> Result<Done<Answer>, LoadError>
-    requires ranges { IsInRange asked }
-    requires first { first.old.items ≡ [] }
+) -> Result<Done<Viewed<Q::Answer>>, LoadError>
+    requires { first.old.items ≡ [] }
     ensures same { (n : List ℕ) → F.told files.new n ≡ F.told files.old n }
-    ensures due { due_in result ≡ due_of (Some (show (of_check file.now asked) options)) first.new.items []
-        (outcome_in result) }
-    ensures ends { EndsAsAsked (Some (show (of_check file.now asked) options)) (F.told files.old) (F.faults files.old)
-        (F.faults files.new) first.new.items [] (outcome_in result) }
+    ensures ends { EndsOne (F.told files.old file.now) model_limit (F.faults files.old) (F.faults files.new)
+        first.new.items [] (λ text other d. IsViewed (Q.is_answer question text other) text d.answer
+        × (d.said ≡ Q.shown question form file.now text d.answer.reading d.answer.answer)) result }
 {
-    let counted = counted_by(options);
-    let check = Check { asked, counted };
-    let form = options.form;
-    let done = one_file(
-        &ViewCheck { file, check, form },
-        alloc,
-        files,
+    let view = View {
         file,
-        MODEL_LIMIT,
-        first,
-        progress,
-    )?;
-    Ok(Done {
-        answer: Answer::Check(done.answer),
-        said: done.said,
-    })
+        question,
+        form,
+    };
+    one_file(&view, alloc, files, file, MODEL_LIMIT, first, progress)
 }
 
-// `houdini FILE`.
-fn show_houdini<F: Files, P: Progress>(
-    alloc: Global,
-    file: &str,
-    asked: Asked,
-    options: Options,
-    files: &mut F,
-    first: &mut Vec<u8>,
-    progress: &mut P,
-) -> Result<Done<Answer>, LoadError>
-    requires ranges { IsInRange asked }
-    requires first { first.old.items ≡ [] }
-    ensures same { (n : List ℕ) → F.told files.new n ≡ F.told files.old n }
-    ensures due { due_in result ≡ due_of (Some (show (of_houdini file.now asked) options)) first.new.items []
-        (outcome_in result) }
-    ensures ends { EndsAsAsked (Some (show (of_houdini file.now asked) options)) (F.told files.old) (F.faults files.old)
-        (F.faults files.new) first.new.items [] (outcome_in result) }
-{
-    let counted = counted_by(options);
-    let houdini = Houdini { asked, counted };
-    let form = options.form;
-    let done = one_file(
-        &ViewHoudini {
-            file,
-            houdini,
-            form,
-        },
-        alloc,
-        files,
-        file,
-        MODEL_LIMIT,
-        first,
-        progress,
-    )?;
-    Ok(Done {
-        answer: Answer::Houdini(done.answer),
-        said: done.said,
-    })
-}
-
-// `bmc FILE --steps K`.
-fn show_bmc<F: Files, P: Progress>(
-    alloc: Global,
-    file: &str,
-    bound: Bound,
-    options: Options,
-    files: &mut F,
-    first: &mut Vec<u8>,
-    progress: &mut P,
-) -> Result<Done<Answer>, LoadError>
-    requires steps { bound.steps ≤ 12 }
-    requires ranges { IsInRange bound.limits }
-    requires first { first.old.items ≡ [] }
-    ensures same { (n : List ℕ) → F.told files.new n ≡ F.told files.old n }
-    ensures due { due_in result ≡ due_of (Some (show (of_bmc file.now bound) options)) first.new.items []
-        (outcome_in result) }
-    ensures ends { EndsAsAsked (Some (show (of_bmc file.now bound) options)) (F.told files.old) (F.faults files.old)
-        (F.faults files.new) first.new.items [] (outcome_in result) }
-{
-    let counted = counted_by(options);
-    let bmc = Bmc { bound, counted };
-    let form = options.form;
-    let done = one_file(
-        &ViewBmc { file, bmc, form },
-        alloc,
-        files,
-        file,
-        MODEL_LIMIT,
-        first,
-        progress,
-    )?;
-    Ok(Done {
-        answer: Answer::Bmc(done.answer),
-        said: done.said,
-    })
-}
-
-// `why FILE`.
-fn show_why<F: Files, P: Progress>(
-    alloc: Global,
-    file: &str,
-    asked: Asked,
-    options: Options,
-    files: &mut F,
-    first: &mut Vec<u8>,
-    progress: &mut P,
-) -> Result<Done<Answer>, LoadError>
-    requires ranges { IsInRange asked }
-    requires first { first.old.items ≡ [] }
-    ensures same { (n : List ℕ) → F.told files.new n ≡ F.told files.old n }
-    ensures due { due_in result ≡ due_of (Some (show (of_why file.now asked) options)) first.new.items []
-        (outcome_in result) }
-    ensures ends { EndsAsAsked (Some (show (of_why file.now asked) options)) (F.told files.old) (F.faults files.old)
-        (F.faults files.new) first.new.items [] (outcome_in result) }
-{
-    let form = options.form;
-    let done = one_file(
-        &ViewWhy { file, asked, form },
-        alloc,
-        files,
-        file,
-        MODEL_LIMIT,
-        first,
-        progress,
-    )?;
-    Ok(Done {
-        answer: Answer::Why(done.answer),
-        said: done.said,
-    })
-}
-
-// `replay MODEL REPORT`.
-fn show_replay<F: Files, P: Progress>(
+// Asks whether the report of a second file is right.
+fn ask_two<F: Files, P: Progress>(
     alloc: Global,
     model: &str,
     report: &str,
-    options: Options,
+    form: Form,
     files: &mut F,
     first: &mut Vec<u8>,
     second: &mut Vec<u8>,
     progress: &mut P,
-) -> Result<Done<Answer>, LoadError>
+) -> Result<Done<Viewed<ReplayAnswer>>, LoadError>
     requires first { first.old.items ≡ [] }
     requires second { second.old.items ≡ [] }
     ensures same { (n : List ℕ) → F.told files.new n ≡ F.told files.old n }
-    ensures due { due_in result ≡ due_of (Some (show (of_replay model.now report.now) options)) first.new.items
-        second.new.items (outcome_in result) }
-    ensures ends { EndsAsAsked (Some (show (of_replay model.now report.now) options)) (F.told files.old)
-        (F.faults files.old)
-        (F.faults files.new) first.new.items second.new.items (outcome_in result) }
+    ensures ends { EndsTwo (F.told files.old model.now) (F.told files.old report.now) model_limit report_limit
+        (F.faults files.old) (F.faults files.new) first.new.items second.new.items
+        (λ text other d. IsViewed (IsReplayAnswer text other) text d.answer
+        × (d.said ≡ replay_view form model.now report.now text d.answer)) result }
 {
-    let form = options.form;
-    let done = two_files(
-        &ViewReplay {
-            model,
-            report,
-            form,
-        },
+    let view = View {
+        file: model,
+        question: ReplayOf { report },
+        form,
+    };
+    two_files(
+        &view,
         alloc,
         files,
         model,
@@ -255,11 +110,7 @@ fn show_replay<F: Files, P: Progress>(
         LONG_LIMIT,
         second,
         progress,
-    )?;
-    Ok(Done {
-        answer: Answer::Replay(done.answer),
-        said: done.said,
-    })
+    )
 }
 
 // Answers a question.
@@ -282,18 +133,28 @@ fn show_question<F: Files, P: Progress>(
         (F.faults files.old)
         (F.faults files.new) first.new.items second.new.items (outcome_in result) }
 {
+    let counted = counted_by(options);
+    let form = options.form;
     match question {
-        Question::Check(file, asked) => show_check(
-            alloc, file, asked, options, files, first, progress,
-        ),
-        Question::Houdini(file, asked) => show_houdini(
-            alloc, file, asked, options, files, first, progress,
-        ),
-        Question::Bmc(file, bound) => show_bmc(alloc, file, bound, options, files, first, progress),
-        Question::Why(file, asked) => show_why(alloc, file, asked, options, files, first, progress),
-        Question::Replay(model, report) => show_replay(
-            alloc, model, report, options, files, first, second, progress,
-        ),
+        Question::Check(file, asked) => {
+            let check = Check { asked, counted };
+            as_variant(ask_one(alloc, file, check, form, files, first, progress))
+        }
+        Question::Houdini(file, asked) => {
+            let houdini = Houdini { asked, counted };
+            as_variant(ask_one(alloc, file, houdini, form, files, first, progress))
+        }
+        Question::Bmc(file, bound) => {
+            let bmc = Bmc { bound, counted };
+            as_variant(ask_one(alloc, file, bmc, form, files, first, progress))
+        }
+        Question::Why(file, asked) => {
+            let why = Why { asked };
+            as_variant(ask_one(alloc, file, why, form, files, first, progress))
+        }
+        Question::Replay(model, report) => as_variant(ask_two(
+            alloc, model, report, form, files, first, second, progress,
+        )),
     }
 }
 
@@ -317,12 +178,12 @@ fn perform<F: Files, P: Progress>(
         first.new.items second.new.items (outcome_in result) }
 {
     match ask {
-        Some(Ask::Help) => say_help(alloc, progress),
-        Some(Ask::Version) => say_version(alloc, progress),
+        Some(Ask::Help) => say_words(alloc, Words::Help, progress),
+        Some(Ask::Version) => say_words(alloc, Words::Version, progress),
         Some(Ask::Show(question, options)) => show_question(
             alloc, question, options, files, first, second, progress,
         ),
-        None => say_usage(alloc, progress),
+        None => say_words(alloc, Words::Usage, progress),
     }
 }
 
