@@ -1,5 +1,5 @@
 -- How the path of a number is found without listing the paths before it. No public contract cites it.
-use Rattle.std.specs.Prelude.{ℕ, ◌+◌, ◌-◌, ◌^◌, ◌==◌, nat_lt, min, if◌then◌else◌, List, [], ◌∷◌, ◌++◌, Option, Some}
+use Rattle.std.specs.Prelude.{◌≡◌, ℕ, ◌+◌, ◌-◌, ◌^◌, ◌==◌, nat_lt, min, if◌then◌else◌, List, [], ◌∷◌, ◌++◌, Option, Some}
 use Rattle.std.specs.Prelude.{None, slice_get}
 use Rattle.rml_syntax.specs.Tree.{CommandTree, Block, Blocks, Abort, Assert, If, Choose}
 use Rattle.rml_syntax.specs.Tree.{no_command, and_command, no_block, and_block, ItemTree, Init, Action, Final}
@@ -53,6 +53,10 @@ mark at t = record { at = at; turn = t } ∷ []
 
 abbrev pub behind : List Mark → Found → Found
 behind marks f = found (marks ++ f.marks) f.next
+
+-- these marks stand behind those before, and this is what comes next
+abbrev pub Adds : Found → List Mark → List Mark → Option ℕ → Type 0
+Adds f old new next = (new ≡ old ++ f.marks) × (next ≡ f.next)
 
 abbrev pub going_on : List Mark → Option ℕ → (ℕ → Found) → Found
 going_on marks None rest = found marks None

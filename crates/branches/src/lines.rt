@@ -54,13 +54,12 @@ fn push_turn(out: &mut Vec<u8>, turn: Turn) -> Mem<()>
     ensures { OnOk result (out.new.items ≡ out.old.items ++ turn_text turn) }
 {
     match turn {
-        Turn::AssertFails => push_text(out, " the `assert` fails\n")?,
-        Turn::AssertPasses => push_text(out, " the `assert` is passed\n")?,
-        Turn::IfHolds => push_text(out, " the condition of `if` is true\n")?,
-        Turn::IfFails => push_text(out, " the condition of `if` is false\n")?,
-        Turn::Takes(branch) => push_branch(out, branch)?,
+        Turn::AssertFails => push_text(out, " the `assert` fails\n"),
+        Turn::AssertPasses => push_text(out, " the `assert` is passed\n"),
+        Turn::IfHolds => push_text(out, " the condition of `if` is true\n"),
+        Turn::IfFails => push_text(out, " the condition of `if` is false\n"),
+        Turn::Takes(branch) => push_branch(out, branch),
     }
-    Ok(())
 }
 
 #[tactic(auto, using(std::proofs::Common::append_assoc))]

@@ -1,9 +1,9 @@
 // The path of a number in a block. How many paths go through what is left of a block tells which way the path takes, so
 // none of the paths before it is built.
-ghost use Rattle.std.specs.Prelude.{◌≡◌, ◌++◌, IfOk, OnOk};
+ghost use Rattle.std.specs.Prelude.{◌≡◌, IfOk};
 ghost use Rattle.rml_syntax.specs.Tree.{command_tree, command_trees, block_of};
 ghost use Rattle.branches.specs.Search.{count_through, count_through_block, counts_behind, along, along_block, behind};
-ghost use Rattle.branches.specs.Search.{mark as mark_of, assert_along};
+ghost use Rattle.branches.specs.Search.{Adds, mark as mark_of, assert_along};
 
 use crate::mark::{Branch, Mark, Turn};
 use base::Mem;
@@ -71,8 +71,7 @@ fn counts_behind(alloc: Global, commands: &[Command], paths: u64) -> Mem<Vec<u64
 
 // An `assert` fails on the first of the paths, and is passed on all others.
 fn push_assert(at: u64, number: u64, marks: &mut Vec<Mark>) -> Mem<Option<u64>>
-    ensures marks { OnOk result (marks.new.items ≡ marks.old.items ++ (assert_along at number).marks) }
-    ensures next { IfOk result (λ next. next ≡ (assert_along at number).next) }
+    ensures { IfOk result (Adds (assert_along at number) marks.old.items marks.new.items) }
 {
     if number == 0 {
         let turn = Turn::AssertFails;
@@ -93,9 +92,8 @@ fn push_along(
     number: u64,
     marks: &mut Vec<Mark>,
 ) -> Mem<Option<u64>>
-    ensures marks { OnOk result
-        (marks.new.items ≡ marks.old.items ++ (along (command_tree command.now) paths number).marks) }
-    ensures next { IfOk result (λ next. next ≡ (along (command_tree command.now) paths number).next) }
+    ensures { IfOk result
+        (Adds (along (command_tree command.now) paths number) marks.old.items marks.new.items) }
 {
     match command {
         Command::Abort(_) => Ok(None),
@@ -120,8 +118,7 @@ fn push_along(
                         number: index,
                         count,
                     });
-                    let next = push_branch(alloc, *at, turn, branch, paths, left, marks)?;
-                    return Ok(next);
+                    return push_branch(alloc, *at, turn, branch, paths, left, marks);
                 }
                 left -= through;
             }
@@ -138,7 +135,6 @@ fn push_along(
 
 // A mark, and what stands behind it.
 #[cycle(along)]
-#[tactic(auto, using(std::proofs::Common::append_assoc))]
 fn push_branch(
     alloc: Global,
     at: u64,
@@ -148,14 +144,12 @@ fn push_branch(
     number: u64,
     marks: &mut Vec<Mark>,
 ) -> Mem<Option<u64>>
-    ensures marks { OnOk result (marks.new.items ≡ marks.old.items
-        ++ (behind (mark_of at turn) (along_block (block_of (command_trees commands.now)) paths number)).marks) }
-    ensures next { IfOk result (λ next. next
-        ≡ (behind (mark_of at turn) (along_block (block_of (command_trees commands.now)) paths number)).next) }
+    ensures { IfOk result
+        (Adds (behind (mark_of at turn) (along_block (block_of (command_trees commands.now)) paths number))
+        marks.old.items marks.new.items) }
 {
     marks.push(Mark { at, turn })?;
-    let next = push_along_block(alloc, commands, paths, number, marks)?;
-    Ok(next)
+    push_along_block(alloc, commands, paths, number, marks)
 }
 
 // The marks on the way through a block, and the number of the path behind it.
@@ -167,10 +161,8 @@ pub fn push_along_block(
     number: u64,
     marks: &mut Vec<Mark>,
 ) -> Mem<Option<u64>>
-    ensures marks { OnOk result (marks.new.items ≡ marks.old.items
-        ++ (along_block (block_of (command_trees commands.now)) paths number).marks) }
-    ensures next { IfOk result (λ next. next
-        ≡ (along_block (block_of (command_trees commands.now)) paths number).next) }
+    ensures { IfOk result (Adds (along_block (block_of (command_trees commands.now)) paths number)
+        marks.old.items marks.new.items) }
 {
     let mut counts = counts_behind(alloc, commands, paths)?;
     let mut left = number;

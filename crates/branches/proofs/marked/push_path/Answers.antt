@@ -5,7 +5,7 @@ use Rattle.branches.proofs.marked.push_path.Goals as goal
 
 pub returns-in_ok-push_along_block : goal.returns-in_ok-push_along_block
 returns-in_ok-push_along_block c = λ text m ok.
-    c.in_ok-push_along_block.ensures.marks
+    c.in_ok-push_along_block.ensures.0
     ∙ ap (λ z. c.args.marks.now.items ++ z)
     (numbered_found text m (block_of (command_trees c.args.commands.now)) c.args.path ok
     (omega (arith, c.if-path-eq0.false)) (omega (arith, c.ranges.path.fits))
