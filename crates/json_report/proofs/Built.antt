@@ -1,5 +1,6 @@
 -- An object that is built step by step.
-use Rattle.std.proofs.Common.{◌≡◌, ℕ, List, [], ◌∷◌, ◌++◌, Option, Some, None, Result, Ok, Err, IfOk, IfSome, IsSomeAnd, IsOkAnd, refl, ap, ◌∙◌}
+use Rattle.std.proofs.Common.{◌≡◌, ℕ, List, [], ◌∷◌, ◌++◌, Option, Some, None, Result, Ok, Err, IfOk, IfSome, IsSomeAnd}
+use Rattle.std.proofs.Common.{IsOkAnd, refl, ap, ◌∙◌}
 use Rattle.serde_json.specs.Data.{Data, Members}
 use Rattle.json_values.specs.Values.{IsBuiltBy, set_each, with_member}
 

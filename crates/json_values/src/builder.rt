@@ -9,7 +9,8 @@ use base::Mem;
 use std::alloc::Global;
 use std::marker::Model;
 
-/// An object that is being built. Where memory was wanting it is none, and stays none: so what adds members need not ask.
+/// An object that is being built. Where memory was wanting it is none, and stays none, so what adds members need not
+/// ask.
 #[derive(Drop)]
 pub struct ObjectBuilder {
     alloc: Global,
