@@ -16,7 +16,8 @@ says how much of all processor time was seen. Running tests and programs takes s
 
 Where a gate ran in parts, each part is watched by itself and `--of` puts them together: of the proofs and of the tests
 of a crate the last that ended counts, of its edits all that ended, and only those of the crate's present text over the
-present text of the crates below it. A crate that no part has of this text is shown by the last of another, with a mark.
+present text of the crates below it. A crate that no part has of this text is shown by the last of another, with a mark,
+and one that no part has at all by the page that stood there.
 """
 import argparse
 import contextlib
@@ -214,6 +215,12 @@ def minutes(costs, crate, kind):
     return f"{costs[crate, kind] / 60:.1f}" if (crate, kind) in costs else ""
 
 
+def standing(file):
+    """Gives the seconds of proofs that the page as it stands shows of each crate."""
+    rows = re.findall(r"^\| `(\w+)`[ *]*\|(?:[^|]*\|){3} *([\d.]+) *\|", text_of(file), re.M)
+    return {(crate, "proofs"): float(took) * 60 for crate, took in rows}
+
+
 def table(costs, marked):
     """Gives the rows, and their sums."""
     yield "| Crate | src | specs | proofs | proofs, min | tests, min | edits | edits, min |"
@@ -234,15 +241,17 @@ def wrapped(text):
     return textwrap.wrap(text, 120, subsequent_indent="  " if text.startswith("- ") else "", break_on_hyphens=False)
 
 
-def page(runs):
-    """Gives the lines of the page."""
+def page(runs, before):
+    """Gives the lines of the page, with what stood before where no run saw a crate's proofs."""
     costs, marked = merged(runs, sums(HERE))
+    marked |= {key[0] for key in before if key not in costs}
+    costs = before | costs
     yield "# What the gate costs"
     yield ""
     yield from wrapped("Written whole by `bench/gate.py`, from runs of `rt ci` that it watched: lines of text, "
                        "must-fail edits, and processor minutes of each crate's proofs, of its proofs with tests, and "
-                       "of its edits with the check that they begin with. Processor time goes up with the load: on processors that "
-                       "were busy, times are up to twice those on quiet ones.")
+                       "of its edits with the check that they begin with. Processor time goes up with the load: on "
+                       "processors that were busy, times are up to twice those on quiet ones.")
     yield ""
     for run in runs:
         kept = f" Taken from earlier runs, so without time here: {len(run['kept'])} crates and sets of edits."
@@ -256,14 +265,15 @@ def page(runs):
         yield "Of a crate's proofs and tests the last that ended counts, of its edits all of the present text."
     if marked:
         yield ""
-        yield "With `*`: figures of an earlier text of the crate, or of one below it."
+        yield "With `*`: figures of an earlier text of the crate or of one below it, or of an earlier page."
     yield ""
     yield from table(costs, marked)
 
 
 def put_page(file, runs):
+    lines = list(page(runs, standing(file)))
     with open(file, "w") as out:
-        out.write("\n".join(page(runs)) + "\n")
+        out.write("\n".join(lines) + "\n")
     print(f"gate.py: wrote {file}", file=sys.stderr)
 
 
