@@ -32,7 +32,7 @@ use Rattle.std.proofs.Common.{
   length-append,
   le-ltb,
 }
-use Rattle.std.specs.Prelude.{◌↔◌, nat_lt, IsTrue}
+use Rattle.std.specs.Prelude.{◌↔◌, Some, if◌then◌else◌, nat_lt, IsTrue}
 use Rattle.std.specs.List.{AllByRecursion}
 use Rattle.std.proofs.lemmas.Bool.Decides.{nat_tests}
 use Rattle.std.proofs.lemmas.List.{append-nil, take-append-le, drop-append-le}
@@ -43,9 +43,12 @@ use Rattle.rml_lex.specs.declared.token.Fault.{Fault}
 use Rattle.rml_lex.specs.declared.fault_code.FaultCode.TheVariants as fault_code
 use Rattle.rml_lex.specs.Tokens.{word_of, EndsBy}
 use Rattle.rml_phrases.specs.Language.{Tokens}
-use Rattle.rml_syntax.specs.Tree.{ItemTree}
+use Rattle.rml_syntax.specs.declared.tree.Format.{Format}
+use Rattle.rml_syntax.specs.declared.tree.Format.TheVariants.{One}
+use Rattle.rml_syntax.specs.Tree.{FileTree}
 use Rattle.rml_syntax.specs.Grammar.{file, max_levels}
-use Rattle.rml_syntax.specs.Faults.{is_one, IsFormat1, IsTree, BeginsFile, IsUnexpected, IsTooDeep, place_at, IsFault}
+use Rattle.rml_syntax.specs.Faults.{format_of, IsFormat, IsTree, BeginsFile, IsUnexpected, IsTooDeep, place_at}
+use Rattle.rml_syntax.specs.Faults.{IsFault}
 use Rattle.expectations.specs.Expectations.{in_front, behind, MayStand}
 use Rattle.expectations.specs.Trying.{longer, IsUnexpectedAt, Says, IsFront}
 
@@ -90,29 +93,33 @@ behind_word text k =
 
 -- ---- the format
 
-less_format : (text : List ℕ) (u v : Tokens) → IsFormat1 text (u ++ v) → IsFormat1 text u
-less_format text [] v h = tt
-less_format text (t ∷ []) v h = tt
-less_format text (t ∷ w ∷ u) v h = h
+-- tokens in front of some that have a format have one
+front_has : (text : List ℕ) (u v : Tokens) (f : Format) → IsFormat text (u ++ v) f → (g : Format) × IsFormat text u g
+front_has text [] v f h = (One, refl)
+front_has text (t ∷ []) v f h = (One, refl)
+front_has text (t ∷ w ∷ u) v f h = (f, h)
 
-to_longer : (text : List ℕ) (ts : Tokens) → AllByRecursion (EndsBy (length text)) ts → IsFormat1 text ts
-    → IsFormat1 (longer text) ts
-to_longer text [] all h = tt
-to_longer text (t ∷ []) all h = tt
-to_longer text (t ∷ u ∷ ts) all h = λ rml number. ap is_one (same_word text u all.1.0) ∙ h rml number
+same_format : (text : List ℕ) (ts : Tokens) → AllByRecursion (EndsBy (length text)) ts
+    → format_of (longer text) ts ≡ format_of text ts
+same_format text [] all = refl
+same_format text (t ∷ []) all = refl
+same_format text (t ∷ u ∷ ts) all = rw (same_word text u all.1.0) refl
 
-from_longer : (text : List ℕ) (ts : Tokens) → AllByRecursion (EndsBy (length text)) ts → IsFormat1 (longer text) ts
-    → IsFormat1 text ts
-from_longer text [] all h = tt
-from_longer text (t ∷ []) all h = tt
-from_longer text (t ∷ u ∷ ts) all h = λ rml number. sym (ap is_one (same_word text u all.1.0)) ∙ h rml number
+either_way : (b : Bool) → (if b then Some One else Some One) ≡ Some One
+either_way true = refl
+either_way false = refl
 
 -- whatever the kind of the last
-format_on : (text : List ℕ) (k : Kind) (front : Tokens) → AllByRecursion (EndsBy (length text)) front
-    → IsFormat1 text front → IsFormat1 (longer text) (front ++ behind text k ∷ [])
-format_on text k [] all h = tt
-format_on text k (t ∷ []) all h = λ rml number. ap is_one (behind_word text k)
-format_on text k (t ∷ u ∷ ts) all h = to_longer text (t ∷ u ∷ ts) all h
+format_on : (text : List ℕ) (k : Kind) (front : Tokens) (f : Format) → AllByRecursion (EndsBy (length text)) front
+    → IsFormat text front f → IsFormat (longer text) (front ++ behind text k ∷ []) f
+format_on text k [] f all h = h
+format_on text k (t ∷ []) f all h =
+    let one : format_of (longer text) (t ∷ behind text k ∷ []) ≡ Some One = rw (behind_word text k) (either_way _) in
+    one ∙ h
+format_on text k (t ∷ u ∷ ts) f all h = same_format text (t ∷ u ∷ ts) all ∙ h
+
+some_is : (f g : Format) → Some f ≡ Some g → f ≡ g
+some_is f g e = cc
 
 -- ---- the tokens in front of a place
 
@@ -237,15 +244,20 @@ module _ (one_fault : OneFault) (text : List ℕ) (tokens : Tokens) (fault : Fau
   all_before : AllByRecursion (EndsBy (length text)) front
   all_before = all_front (EndsBy (length text)) front back (subst (AllByRecursion (EndsBy (length text))) parts all)
 
-  front_format : IsFormat1 text front
+  front_format : (g : Format) × IsFormat text front g
   front_format =
       let h = no_further text fault.at given.front given.rest given.place in
       let is : given.front ≡ front ++ h.0 =
       h.1 ∙ ap (λ (r : Tokens). in_front fault.at r ++ h.0) (sym given.parts) in
-      less_format text front h.0 (subst (IsFormat1 text) is given.format)
+      front_has text front h.0 given.format
+      (subst (λ (r : Tokens). IsFormat text r given.format) is given.is_format)
 
-  last_format : IsFormat1 (longer text) tried
-  last_format = format_on text k front all_before front_format
+  -- with one more they begin a file of the format that they have then
+  to_may : (f : Format) → IsFormat (longer text) tried f → BeginsFile f tried → MayStand text front k
+  to_may f is begins =
+      let g = front_format in
+      let last : IsFormat (longer text) tried g.0 = format_on text k front g.0 all_before g.1 in
+      (g.0, g.1, subst (λ (h : Format). BeginsFile h tried) (some_is f g.0 (sym is ∙ last)) begins)
 
   -- within the tokens in front there is no fault
   not_within : (f : Fault) (h : IsFault (longer text) tried f) (s : Token) (more : Tokens) → front ≡ h.front ++ s ∷ more
@@ -261,18 +273,20 @@ module _ (one_fault : OneFault) (text : List ℕ) (tokens : Tokens) (fault : Fau
       elim h.cause [
         | inl c ↦ inl (
           c.0,
-          λ format begins.
-              subst (IsUnexpected (longer text) h.front) r c.1 (to_longer text (h.front ++ s ∷ []) here format) begins,
+          λ format is begins.
+              subst (IsUnexpected (longer text) h.front) r c.1 format (same_format text (h.front ++ s ∷ []) here ∙ is)
+              begins,
         )
         | inr c ↦
             let d = subst (IsTooDeep (longer text) h.front) r c.1 in
-            inr (c.0, (from_longer text (h.front ++ s ∷ []) here d.0, d.1, d.2))
+            inr (c.0, (d.0, sym (same_format text (h.front ++ s ∷ []) here) ∙ d.1, d.2, d.3))
       ] in
       let first : IsFault text tokens f = record {
         front = h.front;
         rest = s ∷ more ++ back;
         parts = parts ∙ ap (λ (u : Tokens). u ++ back) e ∙ append_assoc h.front (s ∷ more) back;
-        format = from_longer text h.front within h.format;
+        format = h.format;
+        is_format = sym (same_format text h.front within) ∙ h.is_format;
         begins = h.begins;
         within = h.within;
         place = h.place ∙ ap (place_at (longer text)) r;
@@ -283,22 +297,25 @@ module _ (one_fault : OneFault) (text : List ℕ) (tokens : Tokens) (fault : Fau
       let same : f.at ≡ fault.at = ap (λ (g : Fault). g.at) (one_fault text tokens f fault first given) in
       absurd (omega (arith, early, there, same))
 
-  goes_on : (f : Fault) → IsFault (longer text) tried f → (IsUnexpectedAt (length text) f → ⊥) → BeginsFile tried
+  goes_on : (f : Fault) → IsFault (longer text) tried f → (IsUnexpectedAt (length text) f → ⊥)
+      → MayStand text front k
   goes_on f h other = elim (cut front (behind text k) h.front h.rest h.parts) [
-    | inl a ↦ subst BeginsFile a.0 h.begins
+    | inl a ↦ to_may h.format (subst (λ (u : Tokens). IsFormat (longer text) u h.format) a.0 h.is_format)
+        (subst (BeginsFile h.format) a.0 h.begins)
     | inr g ↦ elim g [
       | inl b ↦ elim h.cause [
         | inl c ↦ absurd (other (c.0, h.place ∙ ap (place_at (longer text)) b.1))
         | inr c ↦
-            (subst (λ (u : Tokens). IsTooDeep (longer text) u (behind text k ∷ [])) b.0
-            (subst (IsTooDeep (longer text) h.front) b.1 c.1)).1
+            let d = subst (λ (u : Tokens). IsTooDeep (longer text) u (behind text k ∷ [])) b.0
+            (subst (IsTooDeep (longer text) h.front) b.1 c.1) in
+            to_may d.0 d.1 d.2
       ]
       | inr w ↦ absurd (not_within f h w.0 w.1 w.2 w.3)
     ]
   ]
 
-  stops : (f : Fault) → IsFault (longer text) tried f → IsUnexpectedAt (length text) f → BeginsFile tried → ⊥
-  stops f h it begins = elim (cut front (behind text k) h.front h.rest h.parts) [
+  stops : (f : Fault) → IsFault (longer text) tried f → IsUnexpectedAt (length text) f → MayStand text front k → ⊥
+  stops f h it m = elim (cut front (behind text k) h.front h.rest h.parts) [
     | inl a ↦
         let ends : f.at ≡ length (longer text) = h.place ∙ ap (place_at (longer text)) a.1 in
         absurd (omega (arith, ends, it.1, longer_length text))
@@ -306,7 +323,7 @@ module _ (one_fault : OneFault) (text : List ℕ) (tokens : Tokens) (fault : Fau
       | inl b ↦ elim h.cause [
         | inl c ↦
             subst (λ (u : Tokens). IsUnexpected (longer text) u (behind text k ∷ [])) b.0
-            (subst (IsUnexpected (longer text) h.front) b.1 c.1) last_format begins
+            (subst (IsUnexpected (longer text) h.front) b.1 c.1) m.0 (format_on text k front m.0 all_before m.1) m.2
         | inr c ↦ unequal (sym c.0 ∙ it.0)
       ]
       | inr w ↦ not_within f h w.0 w.1 w.2 w.3
@@ -314,13 +331,13 @@ module _ (one_fault : OneFault) (text : List ℕ) (tokens : Tokens) (fault : Fau
   ]
 
   -- a tree of these tokens begins with them
-  whole : (tree : List ItemTree) → IsTree (longer text) tried tree → BeginsFile tried
-  whole tree h = (
+  whole : (tree : FileTree) → IsTree (longer text) tried tree → MayStand text front k
+  whole tree h = to_may tree.format h.0 (
     max_levels,
     record {
       rest = [];
-      value = tree;
-      means = subst (λ (u : Tokens). (file max_levels).whole u tree) (sym (append-nil tried)) h.1;
+      value = tree.items;
+      means = subst (λ (u : Tokens). (file tree.format max_levels).whole u tree.items) (sym (append-nil tried)) h.1;
     },
   )
 

@@ -6,7 +6,8 @@ use Rattle.rml_lex.specs.declared.token.Kind.{Kind}
 use Rattle.rml_lex.specs.declared.token.Kind.TheVariants as kind
 use Rattle.rml_lex.specs.Spelling.{words, signs}
 use Rattle.rml_phrases.specs.Language.{Tokens}
-use Rattle.rml_syntax.specs.Faults.{BeginsFile}
+use Rattle.rml_syntax.specs.declared.tree.Format.{Format}
+use Rattle.rml_syntax.specs.Faults.{IsFormat, BeginsFile}
 
 -- the tokens that begin in front of a place
 abbrev pub in_front : ℕ → Tokens → Tokens
@@ -20,9 +21,10 @@ every_kind = map (λ row. kind.Word row.1) words ++ map (λ row. kind.Sign row.1
 abbrev pub behind : List ℕ → Kind → Token
 behind text k = record { kind = k; start = length text; end = length text + 1 }
 
--- with a token of this kind the tokens in front begin a file
+-- with a token of this kind the tokens in front begin a file of their format
 abbrev pub MayStand : List ℕ → Tokens → Kind → Type 0
-MayStand text front k = BeginsFile (front ++ behind text k ∷ [])
+MayStand text front k =
+    (format : Format) × IsFormat text front format × BeginsFile format (front ++ behind text k ∷ [])
 
 -- those of all that are as P says, in order, and no others
 unfoldable pub AreThose : (Kind → Type 0) → List Kind → List Kind → Type 0

@@ -6,11 +6,11 @@ use Rattle.rml_lex.specs.declared.token.Fault.{Fault}
 use Rattle.rml_lex.specs.declared.fault_code.FaultCode.TheVariants as fault_code
 use Rattle.rml_lex.specs.Tokens.{EndsBy}
 use Rattle.rml_phrases.specs.Language.{Tokens}
-use Rattle.rml_syntax.specs.Tree.{ItemTree}
+use Rattle.rml_syntax.specs.Tree.{FileTree}
 use Rattle.rml_syntax.specs.Faults.{IsTree, IsFault}
 use Rattle.expectations.specs.Expectations.{in_front}
 
--- the text with the number of the format behind it
+-- the text with the number of a format behind it
 abbrev pub longer : List ℕ → List ℕ
 longer text = text ++ 49 ∷ []
 
@@ -20,7 +20,7 @@ IsUnexpectedAt last fault = (fault.code ≡ fault_code.UnexpectedToken) × (faul
 
 -- what the parser said of the tokens, the last of which stands there: a tree, or a fault that is not this token
 abbrev pub Says : List ℕ → Tokens → ℕ → Bool → Type 0
-Says text tried last true = ((tree : List ItemTree) × IsTree text tried tree)
+Says text tried last true = ((tree : FileTree) × IsTree text tried tree)
     ⊎ ((fault : Fault) × IsFault text tried fault × (IsUnexpectedAt last fault → ⊥))
 Says text tried last false = (fault : Fault) × IsFault text tried fault × IsUnexpectedAt last fault
 

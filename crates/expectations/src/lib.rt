@@ -6,7 +6,7 @@
 //! the front is read 46 times, which is linear in the text, and only where there is a fault.
 //!
 //! The token that is tried stands behind the text and is written `1`. So no other token, and not the text's end, stands
-//! where it stands, and a number behind `rml` is the one that is allowed there.
+//! where it stands, and a number behind `rml` is one that is allowed there.
 #![tactic(auto)]
 
 mod kinds;

@@ -5,25 +5,31 @@ use Rattle.rml_lex.specs.declared.token.Kind.TheVariants.{Word, Sign}
 use Rattle.rml_lex.specs.declared.token.Kind.TheVariants as kind
 use Rattle.rml_lex.specs.declared.token.Word.TheVariants.{Rml, Sort, Relation, Function, Variable, Axiom, Conjecture}
 use Rattle.rml_lex.specs.declared.token.Word.TheVariants.{Init, Action, Final, Skip, Abort, Assume, Assert, If, Else}
-use Rattle.rml_lex.specs.declared.token.Word.TheVariants.{Choose, Or, Insert, Remove, Put}
+use Rattle.rml_lex.specs.declared.token.Word.TheVariants.{Choose, Or, Insert, Remove, Put, Define}
 use Rattle.rml_lex.specs.declared.token.Sign.TheVariants.{Arrow, Becomes, OpenBrace, CloseBrace, OpenParen, Comma}
-use Rattle.rml_lex.specs.declared.token.Sign.TheVariants.{Semicolon, Colon, Equal, Star}
+use Rattle.rml_lex.specs.declared.token.Sign.TheVariants.{CloseParen, Semicolon, Colon, Equal, Star}
 use Rattle.rml_phrases.specs.Language.{or_none}
 use Rattle.rml_phrases.specs.Piece.{Piece, nothing, ◌⊗◌, ◌⇒◌, after}
 use Rattle.rml_phrases.specs.Reading.{Reader}
 use Rattle.rml_phrases.specs.Good.{Good, Inside, IsNothing}
 use Rattle.rml_phrases.proofs.Pieces.{a_terminal, both, made, either, at_most_once, any_number, a_list, wider}
 use Rattle.rml_phrases.proofs.Pieces.{enclosing, leading, separating, no_listed}
-use Rattle.rml_terms.specs.Grammar.{name, parameters, enclosed, arguments, expr}
-use Rattle.rml_terms.specs.Reading.{parameters_at, enclosed_at, arguments_at, expr_at}
+use Rattle.rml_terms.specs.Tree.{name_of, binder_of}
+use Rattle.rml_terms.specs.Grammar as grammar
+use Rattle.rml_terms.specs.Grammar.{name, parameters, enclosed, arguments, expr, binder}
+use Rattle.rml_terms.specs.Reading as terms_at
+use Rattle.rml_terms.specs.Reading.{piece, parameters_at, enclosed_at, arguments_at, expr_at, binder_at}
 use Rattle.rml_terms.specs.Laws.{AreRead, expr_starts, after_expr, after_exprs}
 use Rattle.rml_syntax.specs.Tree as node
 use Rattle.rml_syntax.specs.Tree.{assumed, asserted, branched, choice, inserted, removed, putting, assigned}
 use Rattle.rml_syntax.specs.Grammar as g
-use Rattle.rml_syntax.specs.Grammar.{Inner, named, inside, level, file}
+use Rattle.rml_syntax.specs.declared.tree.Format.{Format}
+use Rattle.rml_syntax.specs.declared.tree.Format.TheVariants.{One, Two}
+use Rattle.rml_syntax.specs.Grammar.{Inner, named, inside, binders_inside, level, file}
 use Rattle.rml_syntax.specs.Reading.{Inners, inside_at, inners, named_at, block_at, else_block_at, value_at, called_at}
-use Rattle.rml_syntax.specs.Reading.{if_at, put_at, assign_at, cmd_at, cmd_starts, cmds_at, item_at, item_starts}
-use Rattle.rml_syntax.specs.Reading.{items_at}
+use Rattle.rml_syntax.specs.Reading.{if_at, put_at, assign_at, cmd_at, cmd_starts, cmds_at, plain_item_at, plain_starts}
+use Rattle.rml_syntax.specs.Reading.{elements_at, binders_at, bound_parameters_at, definition_at, sort_at, item_at}
+use Rattle.rml_syntax.specs.Reading.{item_starts, items_at}
 
 -- ---- what a piece may go on with
 
@@ -32,6 +38,18 @@ after_cmd = Word Else ∷ Word Or ∷ after_expr
 
 abbrev pub after_cmds : List Kind
 after_cmds = Sign Semicolon ∷ (after_cmd ++ cmd_starts)
+
+-- ---- parameters of definitions
+
+pub binder_good : Good binder_at binder_at binder binder (kind.Name ∷ []) [] false
+unfolding binder_at
+binder_good =
+    let word = made name_of (a_terminal kind.Name) in
+    made binder_of (both word (leading (Sign Colon) word) refl)
+
+binders_good : Good binders_at binders_at g.binders g.binders (kind.Name ∷ []) (Sign Comma ∷ []) false
+unfolding binders_at
+binders_good = separating (Sign Comma) binder_good refl
 
 -- ---- the terms, and what is one level deeper
 
@@ -44,6 +62,10 @@ pub record Deeper (o r : Inners) (I J : Inner) : Type 0 where
       (Sign OpenParen ∷ []) (Sign OpenParen ∷ []) true
   pub expr : Good (expr_at o.terms) (expr_at r.terms) (expr I.terms) (expr J.terms) expr_starts after_expr false
   pub cmds : Inside o.cmds r.cmds I.cmds J.cmds cmd_starts after_cmds true
+  pub names : Inside (piece (λ x. x.names) o.terms) (piece (λ x. x.names) r.terms) I.terms.names J.terms.names
+      (kind.Name ∷ []) (Sign Comma ∷ []) false
+  pub binders : Inside (piece (λ x. binders_at) o.terms) (piece (λ x. binders_at) r.terms) I.binders J.binders
+      (kind.Name ∷ []) (Sign Comma ∷ []) false
 
 module _ (terms : AreRead) where
   -- ---- the productions
@@ -101,11 +123,11 @@ module _ (terms : AreRead) where
     unfolding cmds_at
     cmds_good = wider (a_list (Sign Semicolon) cmd_good refl) refl
 
-    pub item_good : Good (item_at o) (item_at r) (g.item I) (g.item J) item_starts (Sign Comma ∷ after_expr) false
-    unfolding item_at
-    item_good =
-        wider (either (made node.Sort (leading (Word Sort) terms.name))
-        (either (made (λ x. node.Relation x.0 x.1) (leading (Word Relation) (both terms.name d.parameters refl)))
+    plain_good : Good (plain_item_at o) (plain_item_at r) (g.plain_item I) (g.plain_item J) plain_starts
+        (Sign Comma ∷ after_expr) false
+    unfolding plain_item_at
+    plain_good =
+        wider (either (made (λ x. node.Relation x.0 x.1) (leading (Word Relation) (both terms.name d.parameters refl)))
         (either (made (λ x. node.Function x.0.0 x.0.1 x.1)
         (leading (Word Function) (both (naming terms.names) (leading (Sign Arrow) terms.name) refl)))
         (either (made (λ x. node.Variable x.0 x.1) (leading (Word Variable) (naming terms.name)))
@@ -114,19 +136,62 @@ module _ (terms : AreRead) where
         (either (made (λ x. node.Init x.0.start x.1) (both (a_terminal (Word Init)) block_good refl))
         (either (made (λ x. node.Action x.0 x.1) (leading (Word Action) (both terms.name block_good refl)))
         (made (λ x. node.Final x.0.start x.1) (both (a_terminal (Word Final)) block_good refl)) refl) refl) refl) refl)
-        refl) refl) refl) refl) refl
+        refl) refl) refl) refl
 
-    pub items_good : Good (items_at o) (items_at r) (g.items I) (g.items J) (Word Rml ∷ item_starts)
-        (Word Rml ∷ (item_starts ++ after_exprs)) true
+    elements_good : Good (elements_at o) (elements_at r) (g.elements I) (g.elements J) (Sign Equal ∷ [])
+        (Sign Equal ∷ []) true
+    unfolding elements_at
+    elements_good = made or_none (at_most_once (leading (Sign Equal)
+        (enclosing (Sign OpenBrace) (Sign CloseBrace) d.names refl)))
+
+    sort_good : Good (sort_at o) (sort_at r)
+        (after (Word Sort) (name ⊗ g.elements I) ⇒ λ x. node.Sort x.0 x.1)
+        (after (Word Sort) (name ⊗ g.elements J) ⇒ λ x. node.Sort x.0 x.1) (Word Sort ∷ []) (Sign Equal ∷ []) false
+    sort_good = made (λ x. node.Sort x.0 x.1) (leading (Word Sort) (both terms.name elements_good refl))
+
+    bound_good : Good (bound_parameters_at o) (bound_parameters_at r) (g.bound_parameters I) (g.bound_parameters J)
+        (Sign OpenParen ∷ []) (Sign OpenParen ∷ []) true
+    unfolding bound_parameters_at
+    bound_good = made or_none (at_most_once (enclosing (Sign OpenParen) (Sign CloseParen) d.binders refl))
+
+    definition_good : Good (definition_at o) (definition_at r) (g.definition I) (g.definition J) (Word Define ∷ [])
+        after_expr false
+    definition_good = made (λ x. node.Define x.0.0 x.0.1 x.1) (leading (Word Define)
+        (both (both terms.name bound_good refl) (leading (Sign Becomes) d.expr) refl))
+
+    pub item_good : (f : Format) → Good (item_at f o) (item_at f r) (g.item f I) (g.item f J) (item_starts f)
+        (Sign Comma ∷ after_expr) false
+    unfolding item_at
+    item_good One =
+        wider (either (made (λ n. node.Sort n []) (leading (Word Sort) terms.name)) plain_good refl) refl
+    item_good Two = wider (either sort_good (either definition_good plain_good refl) refl) refl
+
+    pub items_good : (f : Format) → Good (items_at f o) (items_at f r) (g.items f I) (g.items f J)
+        (Word Rml ∷ item_starts f) (Word Rml ∷ (item_starts f ++ after_exprs)) true
     unfolding items_at
-    items_good = wider (either (made (λ x. x.1)
-        (leading (Word Rml) (both (a_terminal kind.Number) (any_number item_good refl) refl)))
-        (any_number item_good refl) refl) refl
+    items_good One = wider (either (made (λ x. x.1)
+        (leading (Word Rml) (both (a_terminal kind.Number) (any_number (item_good One) refl) refl)))
+        (any_number (item_good One) refl) refl) refl
+    items_good Two = wider (either (made (λ x. x.1)
+        (leading (Word Rml) (both (a_terminal kind.Number) (any_number (item_good Two) refl) refl)))
+        (any_number (item_good Two) refl) refl) refl
 
   -- ---- every level
 
   is_nothing : {A : Type 0} → IsNothing (nothing {A = A})
   is_nothing = record { whole = λ ts x h. h; front = λ ts h. h }
+
+  names_inside : (n : ℕ)
+      → Inside (piece (λ x. x.names) (terms_at.inners n)) (piece (λ x. x.names) (terms_at.inners (suc n)))
+      (grammar.level n).names (grammar.level (suc n)).names (kind.Name ∷ []) (Sign Comma ∷ []) false
+  names_inside zero = record { held = (is_nothing, terms.names.some) }
+  names_inside (suc n) = record { held = terms.names }
+
+  all_binders_inside : (n : ℕ)
+      → Inside (piece (λ x. binders_at) (terms_at.inners n)) (piece (λ x. binders_at) (terms_at.inners (suc n)))
+      (binders_inside n) (binders_inside (suc n)) (kind.Name ∷ []) (Sign Comma ∷ []) false
+  all_binders_inside zero = record { held = (is_nothing, binders_good.some) }
+  all_binders_inside (suc n) = record { held = binders_good }
 
   with_inside : (n : ℕ)
       → Inside (inside_at n) (inside_at (suc n)) (inside n) (inside (suc n)) cmd_starts after_cmds true
@@ -137,6 +202,8 @@ module _ (terms : AreRead) where
     arguments = terms.arguments n;
     expr = terms.expr n;
     cmds = h;
+    names = names_inside n;
+    binders = all_binders_inside n;
   }
 
   inside_good : (n : ℕ)
@@ -147,6 +214,7 @@ module _ (terms : AreRead) where
   pub deeper : (n : ℕ) → Deeper (inners n) (inners (suc n)) (level n) (level (suc n))
   deeper n = with_inside n (inside_good n)
 
-  pub file_good : (n : ℕ) → Good (items_at (inners n)) (items_at (inners (suc n))) (file n) (file (suc n))
-      (Word Rml ∷ item_starts) (Word Rml ∷ (item_starts ++ after_exprs)) true
-  file_good n = items_good (inners n) (inners (suc n)) (level n) (level (suc n)) (deeper n)
+  pub file_good : (f : Format) (n : ℕ)
+      → Good (items_at f (inners n)) (items_at f (inners (suc n))) (file f n) (file f (suc n))
+      (Word Rml ∷ item_starts f) (Word Rml ∷ (item_starts f ++ after_exprs)) true
+  file_good f n = items_good (inners n) (inners (suc n)) (level n) (level (suc n)) (deeper n) f

@@ -8,7 +8,7 @@ use Rattle.rml_terms.specs.Tree.{ExprTree, ExprTrees, exprs_of}
 use Rattle.rml_terms.specs.Shape.{ExprNests, ExprsNest}
 use Rattle.rml_terms.specs.Laws.{TermsNest}
 use Rattle.rml_syntax.specs.Tree.{CommandTree, Block, Blocks, Skip, Abort, Assume, Assert, If, Choose, Insert, Remove}
-use Rattle.rml_syntax.specs.Tree.{Put, Assign, no_command, and_command, no_block, and_block, ItemTree, block_of}
+use Rattle.rml_syntax.specs.Tree.{Put, Assign, no_command, and_command, no_block, and_block, FileTree, block_of}
 use Rattle.rml_syntax.specs.Tree.{blocks_of, choice}
 use Rattle.rml_syntax.specs.Grammar.{file, max_levels}
 use Rattle.rml_syntax.specs.Shape.{SideNests, CommandNests, BlockNests, BlocksNest, ItemNests, IsShaped}
@@ -80,8 +80,10 @@ trees n = record {
   OfNames = λ lo hi x. Unit {0};
   OfExpr = OfExpr n;
   OfExprs = λ lo hi es. ExprsNest n (exprs_of es);
+  OfBinder = λ lo hi x. Unit {0};
   OfCommand = OfCommand n;
   OfItem = λ lo hi x. ItemNests n x;
+  no_names = λ lo hi h. tt;
   skip = λ lo hi t h. tt;
   abort = λ lo hi t h. tt;
   assumption = λ lo hi x h. h.2;
@@ -94,6 +96,8 @@ trees n = record {
   removal = λ lo hi x h. h.2.2;
   placement = λ lo hi x h. (h.2.1.2, h.2.2);
   assignment = λ lo hi x h. side_nests n h.0 hi x.1 h.2;
+  binder = λ lo hi x h. tt;
+  plain_sort = λ lo hi x h. tt;
   sort = λ lo hi x h. tt;
   relation = λ lo hi x h. tt;
   function = λ lo hi x h. tt;
@@ -103,18 +107,20 @@ trees n = record {
   first = λ lo hi x h. all_of_each no_rules (CommandNests n) h.0 hi x.1 h.2;
   action = λ lo hi x h. all_of_each no_rules (CommandNests n) h.0 hi x.1 h.2;
   last = λ lo hi x h. all_of_each no_rules (CommandNests n) h.0 hi x.1 h.2;
+  definition = λ lo hi x h. h.2;
 }
 
 pub is_shaped : TermsNest → ((n : ℕ) (e : ExprTree) → ExprNests n e → ExprNests (suc n) e)
-    → ((n : ℕ) (es : ExprTrees) → ExprsNest n es → ExprsNest (suc n) es) → (ts : Tokens) (tree : List ItemTree)
-    → (file max_levels).whole ts tree → IsShaped tree
+    → ((n : ℕ) (es : ExprTrees) → ExprsNest n es → ExprsNest (suc n) es) → (ts : Tokens) (tree : FileTree)
+    → (file tree.format max_levels).whole ts tree.items → IsShaped tree
 unfolding max_levels
 is_shaped terms expr_more exprs_more ts tree h =
-    all_of_each no_rules (ItemNests 100) 0 0 tree ((file_walks no_rules trees (λ m. record {
+    all_of_each no_rules (ItemNests 100) 0 0 tree.items ((file_walks no_rules trees (λ m. record {
       name = terms.name;
       names = terms.names;
       parameters = terms.parameters m;
       enclosed = terms.enclosed m;
       arguments = terms.arguments m;
       expr = terms.expr m;
-    }) (λ m lo hi x h. command_more expr_more exprs_more m x h) 100).holds 0 0 ts tree h tt)
+    }) (λ m lo hi x h. command_more expr_more exprs_more m x h) tree.format 100).holds 0 0
+    ts tree.items h tt)

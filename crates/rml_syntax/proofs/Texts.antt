@@ -1,56 +1,32 @@
 -- The theorem on a text's tokens: with the number behind `rml`, and one tree or one first fault.
-use Rattle.std.proofs.Common.{
-  ◌≡◌,
-  ℕ,
-  suc,
-  ◌≤◌,
-  Bool,
-  true,
-  false,
-  cond,
-  ◌⊎◌,
-  inl,
-  inr,
-  List,
-  [],
-  ◌∷◌,
-  ◌++◌,
-  length,
-  drop,
-  Result,
-  Ok,
-  Err,
-  refl,
-  sym,
-  ap,
-  subst,
-  ◌∙◌,
-  append_assoc,
-  arith,
-}
-use Rattle.std.specs.Prelude.{◌&&◌, not}
+use Rattle.std.proofs.Common.{◌≡◌, ℕ, suc, ◌≤◌, Bool, true, false, ◌⊎◌, inl, inr, List, [], ◌∷◌, ◌++◌, length, drop}
+use Rattle.std.proofs.Common.{Result, Ok, Err, refl, sym, ap, subst, ◌∙◌, append_assoc, arith}
+use Rattle.std.specs.Prelude.{◌==◌, Option, Some, None}
 use Rattle.std.specs.List.{AllByRecursion}
 use Rattle.std.proofs.lemmas.List.{append-nil, append_cancel_left}
-use Rattle.std.proofs.lemmas.Bool.{and_parts}
+use Rattle.base.specs.declared.refused.Refused.{Refused}
 use Rattle.base.specs.declared.refused.Refused.TheVariants as refused
 use Rattle.rml_lex.specs.declared.token.Token.{Token}
 use Rattle.rml_lex.specs.declared.token.Kind.TheVariants.{Word, Number}
 use Rattle.rml_lex.specs.declared.token.Word.TheVariants.{Rml}
 use Rattle.rml_lex.specs.declared.token.Fault.{Fault}
-use Rattle.rml_lex.specs.Tokens.{word_of, EndsBy}
+use Rattle.rml_lex.specs.Tokens.{EndsBy}
 use Rattle.rml_phrases.specs.declared.front.Stop.{Stop}
 use Rattle.rml_phrases.specs.declared.front.Stop.TheVariants as stops
 use Rattle.rml_phrases.specs.Language.{Tokens}
-use Rattle.rml_syntax.specs.Tree.{ItemTree}
+use Rattle.rml_syntax.specs.declared.tree.Format.{Format}
+use Rattle.rml_syntax.specs.declared.tree.Format.TheVariants.{One, Two}
+use Rattle.rml_syntax.specs.Tree.{ItemTree, FileTree}
 use Rattle.rml_syntax.specs.Grammar.{file, max_levels}
 use Rattle.rml_phrases.specs.Language.{Begins}
-use Rattle.rml_syntax.specs.Faults.{is_one, IsFormat1, IsTree, BeginsFile, IsUnexpected, IsTooDeep, place_at, IsFault}
-use Rattle.rml_phrases.specs.Reading.{Why, Unexpected, TooDeep, Failure, fails, Stops}
-use Rattle.rml_syntax.specs.Reading.{items_at, all_at, is_other_format, read_at, failure_of, fault_of}
+use Rattle.rml_syntax.specs.Faults.{format_of, IsFormat, IsTree, BeginsFile, IsFile, IsUnexpected, IsTooDeep}
+use Rattle.rml_syntax.specs.Faults.{place_at, IsFault}
+use Rattle.rml_phrases.specs.Reading.{number, Why, Unexpected, TooDeep, Failure, fails, Stops}
+use Rattle.rml_syntax.specs.Reading.{items_at, all_at, of_format, read_in, read_at, failure_of, fault_of}
 use Rattle.rml_terms.specs.Tree.{ExprTree, ExprTrees}
 use Rattle.rml_terms.specs.Shape.{ExprNests, ExprsNest}
 use Rattle.rml_terms.specs.Laws.{AreRead, TermsStand, TermsNest}
-use Rattle.rml_phrases.proofs.Exact.{chosen, ok_is, err_is, same_kind, same_number}
+use Rattle.rml_phrases.proofs.Exact.{bind_ok, bind_err, ok_is, err_is, same_kind}
 use Rattle.rml_phrases.proofs.Fronts.{cut}
 use Rattle.rml_syntax.proofs.Grammar.{file_good}
 use Rattle.rml_syntax.specs.Within.{TreeWithin}
@@ -61,214 +37,303 @@ use Rattle.rml_syntax.proofs.Whole.{all_found, all_only, unexpected, deep, IsRef
 
 -- ---- the format
 
--- a beginning of a text of format 1
-less_format : (text : List ℕ) (u v : Tokens) → IsFormat1 text (u ++ v) → IsFormat1 text u
-less_format text [] v h = tt
-less_format text (t ∷ []) v h = tt
-less_format text (t ∷ w ∷ u) v h = h
-
-not_true : (a : Bool) → not a ≡ true → a ≡ true → ⊥
-not_true true n e = absurd cc
-not_true false n e = absurd cc
-
-is_format : (a b c : Bool) → (a && (b && not c)) ≡ false → a ≡ true → b ≡ true → c ≡ true
-is_format true true true e f g = refl
-is_format true true false e f g = absurd cc
-is_format true false c e f g = absurd cc
-is_format false b c e f g = absurd cc
-
-has_format : (text : List ℕ) (ts : Tokens) → is_other_format text ts ≡ false → IsFormat1 text ts
-has_format text [] e = tt
-has_format text (t ∷ []) e = tt
-has_format text (t ∷ u ∷ ts) e =
-    λ rml is_number. is_format _ _ _ e (same_number (Word Rml) t.kind (sym rml))
-    (same_number Number u.kind (sym is_number))
-
--- `rml` and a number that is not 1
-record Other (text : List ℕ) (ts : Tokens) : Type 0 where
-  rml : Token
-  digits : Token
-  more : Tokens
-  parts : ts ≡ rml ∷ digits ∷ more
-  is_rml : Word Rml ≡ rml.kind
-  is_number : Number ≡ digits.kind
-  wrong : is_one (word_of text digits) ≡ true → ⊥
-
-other : (text : List ℕ) (ts : Tokens) → is_other_format text ts ≡ true → Other text ts
-other text [] e = absurd cc
-other text (t ∷ []) e = absurd cc
-other text (t ∷ u ∷ ts) e =
-    let a = and_parts _ _ e in
-    let b = and_parts _ _ a.1 in
-    record {
-      rml = t;
-      digits = u;
-      more = ts;
-      parts = refl;
-      is_rml = same_kind (Word Rml) t.kind a.0;
-      is_number =
-          same_kind Number u.kind b.0;
-      wrong = not_true _ b.1;
-    }
-
--- ---- what is read
-
 hundred : 100 ≡ max_levels
 unfolding max_levels
 hundred = refl
 
-pub grammar_alone : (text : List ℕ) (ts : Tokens) → is_other_format text ts ≡ false → all_at 100 ts ≡ read_at text ts
-grammar_alone text ts e = rw e (ap (λ (n : ℕ). all_at n ts) hundred)
+-- ---- what the parser reads
+
+read_is : (text : List ℕ) (ts : Tokens) (f : Format) → format_of text ts ≡ Some f
+    → read_at text ts ≡ of_format f (all_at f 100 ts)
+read_is text ts f is =
+    ap (λ (o : Option Format). read_in o ts) is ∙ ap (λ (n : ℕ). of_format f (all_at f n ts)) (sym hundred)
+
+pub reads_in : (text : List ℕ) (ts : Tokens) (f : Format) (items : List ItemTree) → format_of text ts ≡ Some f
+    → all_at f 100 ts ≡ Ok items → read_at text ts ≡ Ok (record { format = f; items = items })
+reads_in text ts f items is e = read_is text ts f is ∙ ap (of_format f) e
+
+pub stops_in : (text : List ℕ) (ts : Tokens) (f : Format) → format_of text ts ≡ Some f → (e : Refused Stop)
+    → Stops e (all_at f 100 ts) → Stops e (read_at text ts)
+stops_in text ts f is refused.NoMemory h = tt
+stops_in text ts f is (refused.For (stops.Unexpected rest)) h = read_is text ts f is ∙ ap (of_format f) h
+stops_in text ts f is (refused.For (stops.TooDeep rest)) h = read_is text ts f is ∙ ap (of_format f) h
+
+-- ---- beginnings
 
 module _ (terms : AreRead) where
-  pub reads_tree : (text : List ℕ) (ts : Tokens) (tree : List ItemTree) → read_at text ts ≡ Ok tree
-      → IsTree text ts tree
-  reads_tree text ts tree e = elim (chosen (is_other_format text ts) (fails Unexpected (drop 1 ts))
-      (all_at max_levels ts) (Ok tree) e) [
-        | inl h ↦ absurd (let no : ◌≡◌ {A = Result (List ItemTree) Failure} (fails Unexpected (drop 1 ts)) (Ok tree) =
-            h.1 in cc)
-        | inr h ↦ (has_format text ts h.0, all_found terms max_levels ts tree h.1)
-      ]
+  -- tokens that begin a file of each format
+  record BeginAll (ts : Tokens) : Type 0 where
+    begins : (f : Format) → BeginsFile f ts
+    within : (f : Format) → (file f max_levels).front ts
 
-  pub tree_read : (text : List ℕ) (ts : Tokens) (tree : List ItemTree) → IsTree text ts tree → read_at text ts ≡ Ok tree
-  tree_read text ts tree h = by_format (is_other_format text ts) refl
+  no_tokens : (f : Format) → all_at f max_levels [] ≡ Ok []
+  unfolding all_at items_at
+  no_tokens One = refl
+  no_tokens Two = refl
+
+  none_begin : BeginAll []
+  none_begin = record {
+    begins = λ f. (max_levels, record { rest = []; value = []; means = whole f });
+    within = λ f. (file_good terms f max_levels).fronts.whole [] [] (whole f);
+  }
     where
-      by_format : (b : Bool) → is_other_format text ts ≡ b
-          → cond (is_other_format text ts) (fails Unexpected (drop 1 ts)) (all_at max_levels ts) ≡ Ok tree
-      by_format true e =
-          let o = other text ts e in
-          let f : IsFormat1 text (o.rml ∷ o.digits ∷ o.more) = subst (IsFormat1 text) o.parts h.0 in
-          absurd (o.wrong (f (sym o.is_rml) (sym o.is_number)))
-      by_format false e = rw e (all_only terms max_levels ts tree h.1)
+      whole : (f : Format) → (file f max_levels).whole [] []
+      whole f = all_found f terms max_levels [] [] (no_tokens f)
 
   -- `rml` and some number are a file
-  rml_file : (t u : Token) → Word Rml ≡ t.kind → Number ≡ u.kind → all_at max_levels (t ∷ u ∷ []) ≡ Ok []
+  rml_file : (f : Format) (t u : Token) → Word Rml ≡ t.kind → Number ≡ u.kind → all_at f max_levels (t ∷ u ∷ []) ≡ Ok []
   unfolding all_at items_at
-  rml_file t u rml is_number = rw (← rml, ← is_number) refl
+  rml_file One t u rml is_number = rw (← rml, ← is_number) refl
+  rml_file Two t u rml is_number = rw (← rml, ← is_number) refl
 
   abbrev some_number : Token
   some_number = record { kind = Number; start = 0; end = 0 }
 
-  other_fault : (text : List ℕ) (ts : Tokens) → Other text ts
+  rml_begins : (t : Token) → Word Rml ≡ t.kind → BeginAll (t ∷ [])
+  rml_begins t rml = record {
+    begins = λ f. (max_levels, record { rest = some_number ∷ []; value = []; means = whole f });
+    within = λ f. (file_good terms f max_levels).closed (t ∷ []) (some_number ∷ [])
+        ((file_good terms f max_levels).fronts.whole (t ∷ some_number ∷ []) [] (whole f));
+  }
+    where
+      whole : (f : Format) → (file f max_levels).whole (t ∷ some_number ∷ []) []
+      whole f = all_found f terms max_levels (t ∷ some_number ∷ []) [] (rml_file f t some_number rml refl)
+
+  -- whether `rml` comes first
+  by_first : (text : List ℕ) (t u : Token) (ts : Tokens) (b : Bool) → (number (Word Rml) == number t.kind) ≡ b
+      → (format_of text (t ∷ u ∷ ts) ≡ Some One) ⊎ (Word Rml ≡ t.kind)
+  by_first text t u ts true e = inr (same_kind (Word Rml) t.kind e)
+  by_first text t u ts false e = inl (rw e refl)
+
+  -- tokens have the format of those in front, or these begin a file of each format
+  formats : (text : List ℕ) (u v : Tokens) → (format_of text (u ++ v) ≡ format_of text u)
+      ⊎ ((format_of text u ≡ Some One) × BeginAll u)
+  formats text [] v = inr (refl, none_begin)
+  formats text (t ∷ []) [] = inl refl
+  formats text (t ∷ []) (w ∷ v) = elim (by_first text t w v (number (Word Rml) == number t.kind) refl) [
+    | inl one ↦ inl one
+    | inr rml ↦ inr (refl, rml_begins t rml)
+  ]
+  formats text (t ∷ w ∷ u) v = inl refl
+
+  -- tokens in front of some that are of this format, and the format that they have
+  record Before (text : List ℕ) (f : Format) (u : Tokens) : Type 0 where
+    format : Format
+    is_format : IsFormat text u format
+    begins : BeginsFile f u → BeginsFile format u
+    begins_back : BeginsFile format u → BeginsFile f u
+    within : (file f max_levels).front u → (file format max_levels).front u
+    within_back : (file format max_levels).front u → (file f max_levels).front u
+
+  before : (text : List ℕ) (u v : Tokens) (f : Format) → IsFormat text (u ++ v) f → Before text f u
+  before text u v f is = elim (formats text u v) [
+    | inl same ↦ record {
+      format = f;
+      is_format = sym same ∙ is;
+      begins = λ h. h;
+      begins_back = λ h. h;
+      within = λ h. h;
+      within_back = λ h. h;
+    }
+    | inr all ↦ record {
+      format = One;
+      is_format = all.0;
+      begins = λ h. all.1.begins One;
+      begins_back = λ h. all.1.begins f;
+      within = λ h. all.1.within One;
+      within_back = λ h. all.1.within f;
+    }
+  ]
+
+  -- ---- what is read
+
+  -- `rml` and a number that is of no format
+  record Other (ts : Tokens) : Type 0 where
+    rml : Token
+    digits : Token
+    more : Tokens
+    parts : ts ≡ rml ∷ digits ∷ more
+    is_rml : Word Rml ≡ rml.kind
+
+  some_other : Some One ≡ None → ⊥
+  some_other e = cc
+
+  other : (text : List ℕ) (ts : Tokens) → format_of text ts ≡ None → Other ts
+  other text [] e = absurd (some_other e)
+  other text (t ∷ []) e = absurd (some_other e)
+  other text (t ∷ u ∷ ts) e = elim (by_first text t u ts (number (Word Rml) == number t.kind) refl) [
+    | inl one ↦ absurd (some_other (sym one ∙ e))
+    | inr rml ↦ record { rml = t; digits = u; more = ts; parts = refl; is_rml = rml }
+  ]
+
+  no_format : (format : Format) (o : Option Format) → o ≡ None → o ≡ Some format → ⊥
+  no_format format o e is = cc
+
+  pub reads_tree : (text : List ℕ) (ts : Tokens) (tree : FileTree) → read_at text ts ≡ Ok tree → IsTree text ts tree
+  reads_tree text ts tree e = by_format (format_of text ts) refl e
+    where
+      by_format : (o : Option Format) → format_of text ts ≡ o → read_in o ts ≡ Ok tree → IsTree text ts tree
+      by_format None is e =
+          absurd (let no : ◌≡◌ {A = Result FileTree Failure} (fails Unexpected (drop 1 ts)) (Ok tree) = e in cc)
+      by_format (Some f) is e =
+          let a = bind_ok (all_at f max_levels ts) (λ items. Ok (record { format = f; items = items })) tree e in
+          subst (IsTree text ts) (ok_is (record { format = f; items = a.0 }) tree a.2)
+          (is, all_found f terms max_levels ts a.0 a.1)
+
+  pub tree_read : (text : List ℕ) (ts : Tokens) (tree : FileTree) → IsTree text ts tree → read_at text ts ≡ Ok tree
+  tree_read text ts tree h =
+      ap (λ (o : Option Format). read_in o ts) h.0
+      ∙ ap (of_format tree.format) (all_only tree.format terms max_levels ts tree.items h.1)
+
+  other_fault : (text : List ℕ) (ts : Tokens) → format_of text ts ≡ None → Other ts
       → IsFault text ts (failure_of text (record { why = Unexpected; rest = drop 1 ts }))
-  other_fault text ts o =
-      let whole = all_found terms max_levels (o.rml ∷ some_number ∷ []) [] (rml_file o.rml some_number o.is_rml refl) in
+  other_fault text ts none o =
+      let all = rml_begins o.rml o.is_rml in
+      let not : format_of text (o.rml ∷ o.digits ∷ o.more) ≡ None =
+      subst (λ (r : Tokens). format_of text r ≡ None) o.parts none in
       subst (λ (r : Tokens). IsFault text r (failure_of text (record { why = Unexpected; rest = drop 1 r })))
       (sym o.parts) (record {
         front = o.rml ∷ [];
         rest = o.digits ∷ o.more;
         parts = refl;
-        format = tt;
-        begins = (max_levels, record { rest = some_number ∷ []; value = []; means = whole });
-        within = (file_good terms max_levels).closed (o.rml ∷ []) (some_number ∷ [])
-            ((file_good terms max_levels).fronts.whole (o.rml ∷ some_number ∷ []) [] whole);
+        format = One;
+        is_format = refl;
+        begins = all.begins One;
+        within = all.within One;
         place = refl;
-        cause = inl (refl, λ format begins. o.wrong (format (sym o.is_rml) (sym o.is_number)));
+        cause = inl (refl, λ format is begins. no_format format _ not is);
       })
 
-  lift_refused : (text : List ℕ) (front rest : Tokens) → IsRefused front rest → IsUnexpected text front rest
-  lift_refused text front [] h = λ format is. h is
-  lift_refused text front (t ∷ rest) h = λ format is. h is
+  some_is : (f g : Format) → Some f ≡ Some g → f ≡ g
+  some_is f g e = cc
 
-  lift_deep : (text : List ℕ) (front rest : Tokens) → IsFormat1 text (front ++ rest)
-      → OpensTooMany max_levels front rest → IsTooDeep text front rest
-  lift_deep text front [] f h = h
-  lift_deep text front (t ∷ rest) f h = (
-    less_format text (front ++ t ∷ []) rest (subst (IsFormat1 text) (sym (append_assoc front (t ∷ []) rest)) f),
-    h.0,
-    h.1,
-  )
+  lift_refused : (text : List ℕ) (front rest : Tokens) (f : Format) → IsFormat text (front ++ rest) f
+      → IsRefused f front rest → IsUnexpected text front rest
+  lift_refused text front [] f all h = λ format is file.
+      let here : IsFormat text front f = subst (λ (r : Tokens). IsFormat text r f) (append-nil front) all in
+      h (subst (λ (k : Format). IsFile k front) (some_is format f (sym is ∙ here)) file)
+  lift_refused text front (t ∷ rest) f all h = λ format is begins.
+      let b = before text (front ++ t ∷ []) rest f
+      (subst (λ (r : Tokens). IsFormat text r f) (sym (append_assoc front (t ∷ []) rest)) all) in
+      h (b.begins_back (subst (λ (k : Format). BeginsFile k (front ++ t ∷ []))
+      (some_is format b.format (sym is ∙ b.is_format)) begins))
 
-  grammar_fault : (text : List ℕ) (ts : Tokens) (why : Why) (rest : Tokens) → IsFormat1 text ts → all_at max_levels ts
-      ≡ fails why rest → IsFault text ts (failure_of text (record { why = why; rest = rest }))
-  grammar_fault text ts Unexpected rest f e =
-      let s = unexpected terms max_levels ts rest e in
+  lift_deep : (text : List ℕ) (front rest : Tokens) (f : Format) → IsFormat text (front ++ rest) f
+      → OpensTooMany f max_levels front rest → IsTooDeep text front rest
+  lift_deep text front [] f all h = h
+  lift_deep text front (t ∷ rest) f all h =
+      let b = before text (front ++ t ∷ []) rest f
+      (subst (λ (r : Tokens). IsFormat text r f) (sym (append_assoc front (t ∷ []) rest)) all) in
+      (b.format, b.is_format, b.begins h.0, λ within. h.1 (b.within_back within))
+
+  grammar_fault : (text : List ℕ) (ts : Tokens) (f : Format) (why : Why) (rest : Tokens) → IsFormat text ts f
+      → all_at f max_levels ts ≡ fails why rest → IsFault text ts (failure_of text (record { why = why; rest = rest }))
+  grammar_fault text ts f Unexpected rest is e =
+      let s = unexpected f terms max_levels ts rest e in
+      let all : IsFormat text (s.front ++ rest) f = subst (λ (r : Tokens). IsFormat text r f) s.parts is in
+      let b = before text s.front rest f all in
       record {
         front = s.front;
         rest = rest;
         parts = s.parts;
-        format =
-            less_format text s.front rest (subst (IsFormat1 text) s.parts f);
-        begins = s.begins;
-        within =
-            s.within;
+        format = b.format;
+        is_format = b.is_format;
+        begins = b.begins s.begins;
+        within = b.within s.within;
         place = refl;
-        cause = inl (refl, lift_refused text s.front rest s.wrong);
+        cause = inl (refl, lift_refused text s.front rest f all s.wrong);
       }
-  grammar_fault text ts TooDeep rest f e =
-      let s = deep terms max_levels ts rest e in
-      let g : IsFormat1 text (s.front ++ rest) = subst (IsFormat1 text) s.parts f in
+  grammar_fault text ts f TooDeep rest is e =
+      let s = deep f terms max_levels ts rest e in
+      let all : IsFormat text (s.front ++ rest) f = subst (λ (r : Tokens). IsFormat text r f) s.parts is in
+      let b = before text s.front rest f all in
       record {
         front = s.front;
         rest = rest;
         parts = s.parts;
-        format = less_format text s.front rest g;
-        begins =
-            s.begins;
-        within = s.within;
+        format = b.format;
+        is_format = b.is_format;
+        begins = b.begins s.begins;
+        within = b.within s.within;
         place = refl;
-        cause = inr (refl, lift_deep text s.front rest g s.wrong);
+        cause = inr (refl, lift_deep text s.front rest f all s.wrong);
       }
 
   pub reads_fault : (text : List ℕ) (ts : Tokens) (w : Failure) → read_at text ts ≡ Err w
       → IsFault text ts (failure_of text w)
-  reads_fault text ts w e = elim (chosen (is_other_format text ts) (fails Unexpected (drop 1 ts)) (all_at max_levels ts)
-      (Err w) e) [
-        | inl h ↦ subst (λ v. IsFault text ts (failure_of text v))
-            (err_is (record { why = Unexpected; rest = drop 1 ts }) w h.1) (other_fault text ts (other text ts h.0))
-        | inr h ↦ grammar_fault text ts w.why w.rest (has_format text ts h.0) h.1
-      ]
+  reads_fault text ts w e = by_format (format_of text ts) refl e
+    where
+      by_format : (o : Option Format) → format_of text ts ≡ o → read_in o ts ≡ Err w
+          → IsFault text ts (failure_of text w)
+      by_format None is e =
+          subst (λ v. IsFault text ts (failure_of text v))
+          (err_is (record { why = Unexpected; rest = drop 1 ts }) w e) (other_fault text ts is (other text ts is))
+      by_format (Some f) is e =
+          elim (bind_err (all_at f max_levels ts) (λ items. Ok (record { format = f; items = items })) w e) [
+            | inl a ↦ grammar_fault text ts f w.why w.rest is a
+            | inr a ↦
+                let tree : FileTree = record { format = f; items = a.0 } in
+                absurd (let no : ◌≡◌ {A = Result FileTree Failure} (Ok tree) (Err w) = a.2 in cc)
+          ]
 
   -- ---- one tree or one fault
 
-  pub one_tree : (text : List ℕ) (ts : Tokens) (a b : List ItemTree) → IsTree text ts a → IsTree text ts b → a ≡ b
+  pub one_tree : (text : List ℕ) (ts : Tokens) (a b : FileTree) → IsTree text ts a → IsTree text ts b → a ≡ b
   one_tree text ts a b p q = ok_is a b (sym (tree_read text ts a p) ∙ tree_read text ts b q)
 
-  pub some_reading : (text : List ℕ) (ts : Tokens) → ((tree : List ItemTree) × IsTree text ts tree)
+  pub some_reading : (text : List ℕ) (ts : Tokens) → ((tree : FileTree) × IsTree text ts tree)
       ⊎ ((fault : Fault) × IsFault text ts fault)
   some_reading text ts = by_result (read_at text ts) refl
     where
-      by_result : (r : Result (List ItemTree) Failure) → read_at text ts ≡ r
-          → ((tree : List ItemTree) × IsTree text ts tree) ⊎ ((fault : Fault) × IsFault text ts fault)
+      by_result : (r : Result FileTree Failure) → read_at text ts ≡ r
+          → ((tree : FileTree) × IsTree text ts tree) ⊎ ((fault : Fault) × IsFault text ts fault)
       by_result (Ok tree) e = inl (tree, reads_tree text ts tree e)
       by_result (Err w) e = inr (failure_of text w, reads_fault text ts w e)
 
   -- more tokens that begin a file
-  begins_less : (u v : Tokens) → BeginsFile (u ++ v) → BeginsFile u
-  begins_less u v h = let b = h.1 in (
+  begins_less : (f : Format) (u v : Tokens) → BeginsFile f (u ++ v) → BeginsFile f u
+  begins_less f u v h = let b = h.1 in (
     h.0,
     record {
       rest = v ++ b.rest;
       value = b.value;
       means =
-          subst (λ (r : Tokens). (file h.0).whole r b.value) (append_assoc u v b.rest) b.means;
+          subst (λ (r : Tokens). (file f h.0).whole r b.value) (append_assoc u v b.rest) b.means;
     },
   )
 
   -- a fault is behind the longest front that is as it should be
   abbrev Ends : List ℕ → Tokens → Tokens → Type 0
-  Ends text front rest = (w more : Tokens) → rest ≡ w ++ more → IsFormat1 text (front ++ w) → BeginsFile (front ++ w)
-      → (file max_levels).front (front ++ w) → w ≡ []
+  Ends text front rest = (w more : Tokens) (f : Format) → rest ≡ w ++ more → IsFormat text (front ++ w) f
+      → BeginsFile f (front ++ w) → (file f max_levels).front (front ++ w) → w ≡ []
+
+  -- the format of the tokens up to the next one
+  up_to : (text : List ℕ) (front w : Tokens) (t : Token) (f : Format) → IsFormat text (front ++ t ∷ w) f
+      → Before text f (front ++ t ∷ [])
+  up_to text front w t f is = before text (front ++ t ∷ []) w f
+      (subst (λ (r : Tokens). IsFormat text r f) (sym (append_assoc front (t ∷ []) w)) is)
 
   unexpected_ends : (text : List ℕ) (front rest : Tokens) → IsUnexpected text front rest → Ends text front rest
-  unexpected_ends text front rest h [] more e f b i = refl
-  unexpected_ends text front [] h (t ∷ w) more e f b i = absurd cc
-  unexpected_ends text front (r ∷ rest) h (t ∷ w) more e f b i =
-      let same : t ≡ r = cc in
-      let one : front ++ t ∷ w ≡ (front ++ t ∷ []) ++ w = sym (append_assoc front (t ∷ []) w) in
-      absurd (h (subst (λ (u : Token). IsFormat1 text (front ++ u ∷ [])) same
-      (less_format text (front ++ t ∷ []) w (subst (IsFormat1 text) one f)))
-      (subst (λ (u : Token). BeginsFile (front ++ u ∷ [])) same
-      (begins_less (front ++ t ∷ []) w (subst BeginsFile one b))))
+  unexpected_ends text front rest h [] more f e is b i = refl
+  unexpected_ends text front [] h (t ∷ w) more f e is b i = absurd cc
+  unexpected_ends text front (r ∷ rest) h (t ∷ w) more f e is b i =
+      let same : r ≡ t = cc in
+      let p = up_to text front w t f is in
+      let begun : BeginsFile f (front ++ t ∷ []) = begins_less f (front ++ t ∷ []) w
+      (subst (BeginsFile f) (sym (append_assoc front (t ∷ []) w)) b) in
+      absurd (subst (λ (u : Token). IsUnexpected text front (u ∷ rest)) same h p.format p.is_format (p.begins begun))
 
   deep_ends : (text : List ℕ) (front rest : Tokens) → IsTooDeep text front rest → Ends text front rest
-  deep_ends text front rest h [] more e f b i = refl
-  deep_ends text front [] h (t ∷ w) more e f b i = absurd h
-  deep_ends text front (r ∷ rest) h (t ∷ w) more e f b i =
-      let same : t ≡ r = cc in
-      absurd (h.2 (subst (λ (u : Token). (file max_levels).front (front ++ u ∷ [])) same
-      ((file_good terms max_levels).closed (front ++ t ∷ []) w
-      (subst (file max_levels).front (sym (append_assoc front (t ∷ []) w)) i))))
+  deep_ends text front rest h [] more f e is b i = refl
+  deep_ends text front [] h (t ∷ w) more f e is b i = absurd h
+  deep_ends text front (r ∷ rest) h (t ∷ w) more f e is b i =
+      let same : r ≡ t = cc in
+      let p = up_to text front w t f is in
+      let d : IsTooDeep text front (t ∷ rest) = subst (λ (u : Token). IsTooDeep text front (u ∷ rest)) same h in
+      let within : (file f max_levels).front (front ++ t ∷ []) = (file_good terms f max_levels).closed
+      (front ++ t ∷ []) w (subst (file f max_levels).front (sym (append_assoc front (t ∷ []) w)) i) in
+      absurd (d.3 (subst (λ (k : Format). (file k max_levels).front (front ++ t ∷ []))
+      (some_is p.format d.0 (sym p.is_format ∙ d.1)) (p.within within)))
 
   ends : (text : List ℕ) (ts : Tokens) (f : Fault) (p : IsFault text ts f) → Ends text p.front p.rest
   ends text ts f p = elim p.cause [
@@ -284,12 +349,14 @@ module _ (terms : AreRead) where
         let e : q.rest ≡ c.0 ++ p.rest =
         append_cancel_left q.front q.rest (c.0 ++ p.rest)
         (sym q.parts ∙ p.parts ∙ ap (λ (r : Tokens). r ++ p.rest) c.1 ∙ append_assoc q.front c.0 p.rest) in
-        let none = ends text ts g q c.0 p.rest e (subst (IsFormat1 text) c.1 p.format) (subst BeginsFile c.1 p.begins)
-        (subst (file max_levels).front c.1 p.within) in
+        let none = ends text ts g q c.0 p.rest p.format e
+        (subst (λ (r : Tokens). IsFormat text r p.format) c.1 p.is_format) (subst (BeginsFile p.format) c.1 p.begins)
+        (subst (file p.format max_levels).front c.1 p.within) in
         c.1 ∙ ap (λ (r : Tokens). q.front ++ r) none ∙ append-nil q.front
     | inr c ↦
-        let none = ends text ts f p c.0 q.rest c.2 (subst (IsFormat1 text) c.1 q.format) (subst BeginsFile c.1 q.begins)
-        (subst (file max_levels).front c.1 q.within) in
+        let none = ends text ts f p c.0 q.rest q.format c.2
+        (subst (λ (r : Tokens). IsFormat text r q.format) c.1 q.is_format) (subst (BeginsFile q.format) c.1 q.begins)
+        (subst (file q.format max_levels).front c.1 q.within) in
         sym (c.1 ∙ ap (λ (r : Tokens). p.front ++ r) none ∙ append-nil p.front)
   ]
 
@@ -301,7 +368,7 @@ module _ (terms : AreRead) where
 
   both_wrong : (text : List ℕ) (front rest : Tokens) → IsUnexpected text front rest → IsTooDeep text front rest → ⊥
   both_wrong text front [] r d = d
-  both_wrong text front (t ∷ rest) r d = r d.0 d.1
+  both_wrong text front (t ∷ rest) r d = r d.0 d.1 d.2
 
   same_fault : (f g : Fault) → f.code ≡ g.code → f.at ≡ g.at → f ≡ g
   same_fault f g code at = λ i. record { code = code i; at = at i }
@@ -326,20 +393,23 @@ module _ (terms : AreRead) where
       ]
 
   -- a whole file has no fault
-  pub not_both : (text : List ℕ) (ts : Tokens) (tree : List ItemTree) (f : Fault) → IsTree text ts tree
+  pub not_both : (text : List ℕ) (ts : Tokens) (tree : FileTree) (f : Fault) → IsTree text ts tree
       → IsFault text ts f → ⊥
   not_both text ts tree f t p =
       let none : p.rest ≡ [] =
-      ends text ts f p p.rest [] (sym (append-nil p.rest)) (subst (IsFormat1 text) p.parts t.0) (
+      ends text ts f p p.rest [] tree.format (sym (append-nil p.rest))
+      (subst (λ (r : Tokens). IsFormat text r tree.format) p.parts t.0) (
         max_levels,
-        subst (Begins (file max_levels).whole) p.parts
-            (record { rest = []; value = tree; means = rw append-nil t.1 }),
+        subst (Begins (file tree.format max_levels).whole) p.parts
+            (record { rest = []; value = tree.items; means = rw append-nil t.1 }),
       )
-      (subst (file max_levels).front p.parts ((file_good terms max_levels).fronts.whole ts tree t.1)) in
+      (subst (file tree.format max_levels).front p.parts
+      ((file_good terms tree.format max_levels).fronts.whole ts tree.items t.1)) in
       let all : ts ≡ p.front = p.parts ∙ ap (λ (r : Tokens). p.front ++ r) none ∙ append-nil p.front in
       elim p.cause [
-        | inl a ↦ subst (IsUnexpected text p.front) none a.1 (subst (IsFormat1 text) all t.0)
-            (max_levels, tree, subst (λ (r : Tokens). (file max_levels).whole r tree) all t.1)
+        | inl a ↦ subst (IsUnexpected text p.front) none a.1 tree.format
+            (subst (λ (r : Tokens). IsFormat text r tree.format) all t.0)
+            (max_levels, tree.items, subst (λ (r : Tokens). (file tree.format max_levels).whole r tree.items) all t.1)
         | inr b ↦ subst (IsTooDeep text p.front) none b.1
       ]
 
@@ -363,11 +433,11 @@ pub stands : (text : List ℕ) (ts : Tokens) (f : Fault) → AllByRecursion (End
 stands text ts f h p = rw p.place (first_within text p.front p.rest
     (subst (AllByRecursion (EndsBy (length text))) p.parts h))
 
-pub within_text : ((n : ℕ) → TermsStand n) → (text : List ℕ) (ts : Tokens) (tree : List ItemTree) → IsTree text ts tree
+pub within_text : ((n : ℕ) → TermsStand n) → (text : List ℕ) (ts : Tokens) (tree : FileTree) → IsTree text ts tree
     → AllByRecursion (EndsBy (length text)) ts → TreeWithin (length text) tree
 within_text terms text ts tree h all = tree_within (length text) (terms (length text)) max_levels ts tree h.1 all
 
 pub shaped_text : TermsNest → ((n : ℕ) (e : ExprTree) → ExprNests n e → ExprNests (suc n) e)
     → ((n : ℕ) (es : ExprTrees) → ExprsNest n es → ExprsNest (suc n) es)
-    → (text : List ℕ) (ts : Tokens) (tree : List ItemTree) → IsTree text ts tree → IsShaped tree
+    → (text : List ℕ) (ts : Tokens) (tree : FileTree) → IsTree text ts tree → IsShaped tree
 shaped_text terms expr_more exprs_more text ts tree h = is_shaped terms expr_more exprs_more ts tree h.1

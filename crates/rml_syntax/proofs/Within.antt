@@ -7,9 +7,9 @@ use Rattle.rml_phrases.specs.Carries.{Span}
 use Rattle.rml_phrases.proofs.Walk.{Maybe, Each, all_of_each, each_of_some}
 use Rattle.rml_phrases.proofs.Standing.{rules, start_within}
 use Rattle.rml_terms.specs.Tree.{ExprTree, exprs_of}
-use Rattle.rml_terms.specs.Within.{NameWithin, NamesWithin, ExprWithin, ExprsWithin}
+use Rattle.rml_terms.specs.Within.{NameWithin, NamesWithin, BinderWithin, ExprWithin, ExprsWithin}
 use Rattle.rml_terms.specs.Laws.{TermsStand}
-use Rattle.rml_syntax.specs.Tree.{CommandTree, ItemTree, block_of, blocks_of}
+use Rattle.rml_syntax.specs.Tree.{CommandTree, FileTree, block_of, blocks_of}
 use Rattle.rml_syntax.specs.Grammar.{file}
 use Rattle.rml_syntax.specs.Within.{ValueWithin, CommandWithin, BlockWithin, BlocksWithin, ItemWithin, TreeWithin}
 use Rattle.rml_syntax.proofs.Walk.{Trees, file_walks}
@@ -44,8 +44,10 @@ module _ (n : ℕ) where
     OfNames = λ lo hi xs. NamesWithin n xs;
     OfExpr = OfExpr;
     OfExprs = λ lo hi es. ExprsWithin n (exprs_of es);
+    OfBinder = λ lo hi b. BinderWithin n b;
     OfCommand = OfCommand;
     OfItem = λ lo hi x. ItemWithin n x;
+    no_names = λ lo hi h. tt;
     skip = λ lo hi t h. start_within n t h;
     abort = λ lo hi t h. start_within n t h;
     assumption = λ lo hi x h. (start_within n x.0 h.1, h.2);
@@ -66,7 +68,9 @@ module _ (n : ℕ) where
     removal = λ lo hi x h. (start_within n x.0 h.1, h.2.1, h.2.2);
     placement = λ lo hi x h. (start_within n x.0 h.1, h.2.1.1, h.2.1.2, h.2.2);
     assignment = λ lo hi x h. (h.1.1, h.1.2, value_within h.0 hi x.1 h.2);
-    sort = λ lo hi x h. h;
+    binder = λ lo hi x h. (h.1, h.2);
+    plain_sort = λ lo hi x h. (h, tt);
+    sort = λ lo hi x h. (h.1, h.2);
     relation = λ lo hi x h. (h.1, h.2);
     function = λ lo hi x h. (h.1.1, h.1.2, h.2);
     variable = λ lo hi x h. (h.1, h.2);
@@ -75,12 +79,13 @@ module _ (n : ℕ) where
     first = λ lo hi x h. (start_within n x.0 h.1, all_of_each (rules n) (CommandWithin n) h.0 hi x.1 h.2);
     action = λ lo hi x h. (h.1, all_of_each (rules n) (CommandWithin n) h.0 hi x.1 h.2);
     last = λ lo hi x h. (start_within n x.0 h.1, all_of_each (rules n) (CommandWithin n) h.0 hi x.1 h.2);
+    definition = λ lo hi x h. (h.1.1, all_of_each (rules n) (BinderWithin n) h.1.0 h.0 x.0.1 h.1.2, h.2);
   }
 
-  pub tree_within : TermsStand n → (m : ℕ) (ts : Tokens) (tree : List ItemTree) → (file m).whole ts tree
-      → AllByRecursion (EndsBy n) ts → TreeWithin n tree
+  pub tree_within : TermsStand n → (m : ℕ) (ts : Tokens) (tree : FileTree)
+      → (file tree.format m).whole ts tree.items → AllByRecursion (EndsBy n) ts → TreeWithin n tree
   tree_within terms m ts tree h all =
-      all_of_each (rules n) (ItemWithin n) 0 0 tree
+      all_of_each (rules n) (ItemWithin n) 0 0 tree.items
       ((file_walks (rules n) (λ m. trees) (λ m. record {
         name = terms.name;
         names = terms.names;
@@ -88,4 +93,4 @@ module _ (n : ℕ) where
         enclosed = terms.enclosed m;
         arguments = terms.arguments m;
         expr = terms.expr m;
-      }) (λ m lo hi x h. h) m).holds 0 0 ts tree h all)
+      }) (λ m lo hi x h. h) tree.format m).holds 0 0 ts tree.items h all)

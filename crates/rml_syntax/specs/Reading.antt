@@ -1,34 +1,37 @@
 -- What the functions of the parser give: one reader for each production of the grammar, and whole texts. No public
 -- contract cites it.
-use Rattle.std.specs.Prelude.{ℕ, zero, suc, Bool, true, false, ◌&&◌, not, ◌==◌, cond, List, [], ◌∷◌, drop, Option}
+use Rattle.std.specs.Prelude.{ℕ, zero, suc, Bool, true, false, cond, List, [], ◌∷◌, drop, Option}
 use Rattle.std.specs.Prelude.{Some, None, Result, Ok}
 use Rattle.rml_lex.specs.declared.token.Kind.{Kind}
 use Rattle.rml_lex.specs.declared.token.Kind.TheVariants.{Word, Sign}
 use Rattle.rml_lex.specs.declared.token.Kind.TheVariants as kind
 use Rattle.rml_lex.specs.declared.token.Word.TheVariants.{Rml, Sort, Relation, Function, Variable, Axiom, Conjecture}
 use Rattle.rml_lex.specs.declared.token.Word.TheVariants.{Init, Action, Final, Skip, Abort, Assume, Assert, If, Else}
-use Rattle.rml_lex.specs.declared.token.Word.TheVariants.{Choose, Or, Insert, Remove, Put}
-use Rattle.rml_lex.specs.declared.token.Sign.TheVariants.{Arrow, Becomes, OpenBrace, CloseBrace}
-use Rattle.rml_lex.specs.declared.token.Sign.TheVariants.{Semicolon, Colon, Equal, Star}
+use Rattle.rml_lex.specs.declared.token.Word.TheVariants.{Choose, Or, Insert, Remove, Put, Define}
+use Rattle.rml_lex.specs.declared.token.Sign.TheVariants.{Arrow, Becomes, OpenBrace, CloseBrace, OpenParen}
+use Rattle.rml_lex.specs.declared.token.Sign.TheVariants.{CloseParen, Comma, Semicolon, Colon, Equal, Star}
 use Rattle.rml_lex.specs.declared.token.Fault.{Fault}
 use Rattle.rml_lex.specs.declared.fault_code.FaultCode.{FaultCode}
 use Rattle.rml_lex.specs.declared.fault_code.FaultCode.TheVariants as fault_code
-use Rattle.rml_lex.specs.Tokens.{word_of}
 use Rattle.rml_phrases.specs.declared.front.Stop.{Stop}
 use Rattle.rml_phrases.specs.declared.front.Stop.TheVariants as stops
 use Rattle.rml_phrases.specs.Language.{Tokens, or_none}
-use Rattle.rml_phrases.specs.Reading.{number, Why, Unexpected, TooDeep, Failure, Reader, ◌>>=◌, fails, expect_at}
+use Rattle.rml_phrases.specs.Reading.{Why, Unexpected, TooDeep, Failure, Reader, ◌>>=◌, fails, expect_at}
 use Rattle.rml_phrases.specs.Reading.{both_at, made_at, either_at, optional_at, many_at, listed_at, between_at}
 use Rattle.rml_phrases.specs.Reading.{after_at, separated_at}
 use Rattle.rml_terms.specs.declared.tree.Name.{Name}
+use Rattle.rml_terms.specs.declared.tree.Binder.{Binder}
 use Rattle.rml_terms.specs.Tree.{ExprTree}
 use Rattle.rml_terms.specs.Reading as terms
-use Rattle.rml_terms.specs.Reading.{name_at, names_at, parameters_at, enclosed_at, arguments_at, expr_at}
+use Rattle.rml_terms.specs.Reading.{piece, name_at, names_at, parameters_at, enclosed_at, arguments_at, expr_at}
+use Rattle.rml_terms.specs.Reading.{binder_at}
+use Rattle.rml_syntax.specs.declared.tree.Format.{Format}
+use Rattle.rml_syntax.specs.declared.tree.Format.TheVariants.{One, Two}
 use Rattle.rml_syntax.specs.Grammar.{max_levels}
-use Rattle.rml_syntax.specs.Faults.{is_one, place_at}
+use Rattle.rml_syntax.specs.Faults.{format_of, place_at}
 use Rattle.rml_syntax.specs.Tree as node
-use Rattle.rml_syntax.specs.Tree.{CommandTree, ItemTree, assumed, asserted, branched, choice, inserted, removed}
-use Rattle.rml_syntax.specs.Tree.{putting, assigned}
+use Rattle.rml_syntax.specs.Tree.{CommandTree, ItemTree, FileTree, assumed, asserted, branched, choice, inserted}
+use Rattle.rml_syntax.specs.Tree.{removed, putting, assigned}
 
 -- what reads the pieces one level deeper, of terms and of commands
 pub record Inners : Type 0 where
@@ -84,9 +87,8 @@ cmds_at inner = listed_at cmd_starts (Sign Semicolon) (cmd_at inner)
 abbrev pub named_at : {A : Type 0} → Reader A → Reader (Name × A)
 named_at p = both_at name_at (after_at (Sign Colon) p)
 
-unfoldable pub item_at : Inners → Reader ItemTree
-item_at inner = either_at (Word Sort ∷ []) (made_at node.Sort (after_at (Word Sort) name_at))
-    (either_at (Word Relation ∷ [])
+unfoldable pub plain_item_at : Inners → Reader ItemTree
+plain_item_at inner = either_at (Word Relation ∷ [])
     (made_at (λ x. node.Relation x.0 x.1) (after_at (Word Relation) (both_at name_at (parameters_at inner.terms))))
     (either_at (Word Function ∷ [])
     (made_at (λ x. node.Function x.0.0 x.0.1 x.1)
@@ -100,18 +102,55 @@ item_at inner = either_at (Word Sort ∷ []) (made_at node.Sort (after_at (Word 
     (made_at (λ x. node.Init x.0.start x.1) (both_at (expect_at (Word Init)) (block_at inner)))
     (either_at (Word Action ∷ [])
     (made_at (λ x. node.Action x.0 x.1) (after_at (Word Action) (both_at name_at (block_at inner))))
-    (made_at (λ x. node.Final x.0.start x.1) (both_at (expect_at (Word Final)) (block_at inner))))))))))
+    (made_at (λ x. node.Final x.0.start x.1) (both_at (expect_at (Word Final)) (block_at inner)))))))))
 
-abbrev pub item_starts : List Kind
-item_starts =
-    Word Sort ∷ Word Relation ∷ Word Function ∷ Word Variable ∷ Word Axiom ∷ Word Conjecture ∷ Word Init ∷ Word Action
+unfoldable pub elements_at : Inners → Reader (List Name)
+elements_at inner =
+    made_at or_none
+    (optional_at (Sign Equal ∷ [])
+    (after_at (Sign Equal) (between_at (Sign OpenBrace) (piece (λ r. r.names) inner.terms) (Sign CloseBrace))))
+
+unfoldable pub binders_at : Reader (List Binder)
+binders_at = separated_at (Sign Comma) binder_at
+
+unfoldable pub bound_parameters_at : Inners → Reader (List Binder)
+bound_parameters_at inner =
+    made_at or_none
+    (optional_at (Sign OpenParen ∷ [])
+    (between_at (Sign OpenParen) (piece (λ r. binders_at) inner.terms) (Sign CloseParen)))
+
+abbrev pub sort_at : Inners → Reader ItemTree
+sort_at inner = made_at (λ x. node.Sort x.0 x.1) (after_at (Word Sort) (both_at name_at (elements_at inner)))
+
+abbrev pub definition_at : Inners → Reader ItemTree
+definition_at inner = made_at (λ x. node.Define x.0.0 x.0.1 x.1)
+    (after_at (Word Define)
+    (both_at (both_at name_at (bound_parameters_at inner)) (after_at (Sign Becomes) (expr_at inner.terms))))
+
+unfoldable pub item_at : Format → Inners → Reader ItemTree
+item_at One inner =
+    either_at (Word Sort ∷ []) (made_at (λ n. node.Sort n []) (after_at (Word Sort) name_at)) (plain_item_at inner)
+item_at Two inner =
+    either_at (Word Sort ∷ []) (sort_at inner)
+    (either_at (Word Define ∷ []) (definition_at inner) (plain_item_at inner))
+
+abbrev pub plain_starts : List Kind
+plain_starts =
+    Word Relation ∷ Word Function ∷ Word Variable ∷ Word Axiom ∷ Word Conjecture ∷ Word Init ∷ Word Action
     ∷ Word Final ∷ []
 
-unfoldable pub items_at : Inners → Reader (List ItemTree)
-items_at inner =
+-- what an item begins with
+abbrev pub item_starts : Format → List Kind
+item_starts One = Word Sort ∷ plain_starts
+item_starts Two = Word Sort ∷ Word Define ∷ plain_starts
+
+unfoldable pub items_at : Format → Inners → Reader (List ItemTree)
+items_at format inner =
     either_at (Word Rml ∷ [])
-    (made_at (λ x. x.1) (after_at (Word Rml) (both_at (expect_at kind.Number) (many_at item_starts (item_at inner)))))
-    (many_at item_starts (item_at inner))
+    (made_at (λ x. x.1)
+    (after_at (Word Rml)
+    (both_at (expect_at kind.Number) (many_at (item_starts format) (item_at format inner)))))
+    (many_at (item_starts format) (item_at format inner))
 
 -- what reads the commands in a block in which so many levels may open
 abbrev pub inside_at : ℕ → Option (Reader (List CommandTree))
@@ -126,20 +165,23 @@ abbrev pub is_end : Tokens → Bool
 is_end [] = true
 is_end (t ∷ ts) = false
 
--- all of the tokens
-unfoldable pub all_at : ℕ → Tokens → Result (List ItemTree) Failure
-all_at levels ts = items_at (inners levels) ts >>= λ x. cond (is_end x.1) (Ok x.0) (fails Unexpected x.1)
+-- all of the tokens, in this format
+unfoldable pub all_at : Format → ℕ → Tokens → Result (List ItemTree) Failure
+all_at format levels ts =
+    items_at format (inners levels) ts >>= λ x. cond (is_end x.1) (Ok x.0) (fails Unexpected x.1)
 
--- whether `rml` and a number that is not 1 come first
-abbrev pub is_other_format : List ℕ → Tokens → Bool
-is_other_format text [] = false
-is_other_format text (t ∷ []) = false
-is_other_format text (t ∷ u ∷ ts) =
-    (number (Word Rml) == number t.kind) && ((number kind.Number == number u.kind) && not (is_one (word_of text u)))
+-- a tree of this format
+abbrev pub of_format : Format → Result (List ItemTree) Failure → Result FileTree Failure
+of_format format read = read >>= λ items. Ok (record { format = format; items = items })
+
+-- all of the tokens, in the format that is said; where none is, the number of none stops the reading
+abbrev pub read_in : Option Format → Tokens → Result FileTree Failure
+read_in None ts = fails Unexpected (drop 1 ts)
+read_in (Some format) ts = of_format format (all_at format max_levels ts)
 
 -- all of a text's tokens
-abbrev pub read_at : List ℕ → Tokens → Result (List ItemTree) Failure
-read_at text ts = cond (is_other_format text ts) (fails Unexpected (drop 1 ts)) (all_at max_levels ts)
+abbrev pub read_at : List ℕ → Tokens → Result FileTree Failure
+read_at text ts = read_in (format_of text ts) ts
 
 abbrev pub code_of : Why → FaultCode
 code_of Unexpected = fault_code.UnexpectedToken

@@ -4,8 +4,8 @@ use Rattle.std.specs.List.{AllByRecursion}
 use Rattle.rml_terms.specs.Tree.{ExprTree}
 use Rattle.rml_terms.specs.Shape.{ExprNests, ExprsNest}
 use Rattle.rml_syntax.specs.Tree.{CommandTree, Block, Blocks, Skip, Abort, Assume, Assert, If, Choose, Insert, Remove}
-use Rattle.rml_syntax.specs.Tree.{Put, Assign, no_command, and_command, no_block, and_block, ItemTree, Sort, Relation}
-use Rattle.rml_syntax.specs.Tree.{Function, Variable, Axiom, Conjecture, Init, Action, Final}
+use Rattle.rml_syntax.specs.Tree.{Put, Assign, no_command, and_command, no_block, and_block, ItemTree, FileTree, Sort}
+use Rattle.rml_syntax.specs.Tree.{Relation, Function, Variable, Axiom, Conjecture, Init, Action, Final, Define}
 
 -- at most n binders of a command's expression lie inside one another
 abbrev pub SideNests : ℕ → Option ExprTree → Type 0
@@ -39,7 +39,7 @@ abbrev pub CommandsNest : ℕ → List CommandTree → Type 0
 CommandsNest n cs = AllByRecursion (CommandNests n) cs
 
 abbrev pub ItemNests : ℕ → ItemTree → Type 0
-ItemNests n (Sort name) = Unit {0}
+ItemNests n (Sort name names) = Unit {0}
 ItemNests n (Relation name sorts) = Unit {0}
 ItemNests n (Function name sorts sort) = Unit {0}
 ItemNests n (Variable name sort) = Unit {0}
@@ -48,7 +48,8 @@ ItemNests n (Conjecture name e) = ExprNests n e
 ItemNests n (Init at cs) = CommandsNest n cs
 ItemNests n (Action name cs) = CommandsNest n cs
 ItemNests n (Final at cs) = CommandsNest n cs
+ItemNests n (Define name bs e) = ExprNests n e
 
 -- at most 100 binders lie inside one another, and each choice has a branch
-abbrev pub IsShaped : List ItemTree → Type 0
-IsShaped items = AllByRecursion (ItemNests 100) items
+abbrev pub IsShaped : FileTree → Type 0
+IsShaped tree = AllByRecursion (ItemNests 100) tree.items

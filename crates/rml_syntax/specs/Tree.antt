@@ -4,13 +4,15 @@ use Rattle.std.specs.Prelude.{ℕ, List, [], ◌∷◌, map, Option, option_map}
 use Rattle.std.specs.Global.{Vec}
 use Rattle.rml_lex.specs.declared.token.Token.{Token}
 use Rattle.rml_terms.specs.declared.tree.Name.{Name}
+use Rattle.rml_terms.specs.declared.tree.Binder.{Binder}
 use Rattle.rml_terms.specs.Tree.{ExprTree, ExprTrees, exprs_of, expr_tree, expr_trees}
 use Rattle.rml_syntax.specs.declared.tree.Command.{Command}
 use Rattle.rml_syntax.specs.declared.tree.Command.TheOpen as commands
 use Rattle.rml_syntax.specs.declared.tree.Command.TheFolds.{fold-Command}
+use Rattle.rml_syntax.specs.declared.tree.Format.{Format}
 use Rattle.rml_syntax.specs.declared.tree.Tree.{Tree}
 use Rattle.rml_syntax.specs.declared.tree.Item.{Item}
-use Rattle.rml_syntax.specs.declared.tree.Item.TheVariants as items
+use Rattle.rml_syntax.specs.declared.tree.Item.TheVariants as item
 
 mutual
   pub data CommandTree : Type 0 where
@@ -42,7 +44,7 @@ blocks_of [] = no_block
 blocks_of (b ∷ bs) = and_block (block_of b) (blocks_of bs)
 
 pub data ItemTree : Type 0 where
-  Sort : Name → ItemTree
+  Sort : Name → List Name → ItemTree
   Relation : Name → List Name → ItemTree
   Function : Name → List Name → Name → ItemTree
   Variable : Name → Name → ItemTree
@@ -51,6 +53,12 @@ pub data ItemTree : Type 0 where
   Init : ℕ → List CommandTree → ItemTree
   Action : Name → List CommandTree → ItemTree
   Final : ℕ → List CommandTree → ItemTree
+  Define : Name → List Binder → ExprTree → ItemTree
+
+-- a file: its format, and its items in order
+pub record FileTree : Type 0 where
+  pub format : Format
+  pub items : List ItemTree
 
 -- ---- the nodes that productions make
 
@@ -102,18 +110,19 @@ abbrev pub block_trees : List (Vec Command) → List (List CommandTree)
 block_trees bs = map (λ b. command_trees b.items) bs
 
 abbrev pub item_tree : Item → ItemTree
-item_tree (items.Sort name) = Sort name
-item_tree (items.Relation name sorts) = Relation name sorts.items
-item_tree (items.Function name sorts sort) = Function name sorts.items sort
-item_tree (items.Variable name sort) = Variable name sort
-item_tree (items.Axiom name e) = Axiom name (expr_tree e)
-item_tree (items.Conjecture name e) = Conjecture name (expr_tree e)
-item_tree (items.Init at b) = Init at (command_trees b.items)
-item_tree (items.Action name b) = Action name (command_trees b.items)
-item_tree (items.Final at b) = Final at (command_trees b.items)
+item_tree (item.Sort name names) = Sort name names.items
+item_tree (item.Relation name sorts) = Relation name sorts.items
+item_tree (item.Function name sorts sort) = Function name sorts.items sort
+item_tree (item.Variable name sort) = Variable name sort
+item_tree (item.Axiom name e) = Axiom name (expr_tree e)
+item_tree (item.Conjecture name e) = Conjecture name (expr_tree e)
+item_tree (item.Init at b) = Init at (command_trees b.items)
+item_tree (item.Action name b) = Action name (command_trees b.items)
+item_tree (item.Final at b) = Final at (command_trees b.items)
+item_tree (item.Define name bs e) = Define name bs.items (expr_tree e)
 
 abbrev pub item_trees : List Item → List ItemTree
 item_trees xs = map item_tree xs
 
-abbrev pub file_tree : Tree → List ItemTree
-file_tree tree = item_trees tree.items.items
+abbrev pub file_tree : Tree → FileTree
+file_tree tree = record { format = tree.format; items = item_trees tree.items.items }

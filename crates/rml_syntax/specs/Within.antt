@@ -2,10 +2,11 @@
 use Rattle.std.specs.Prelude.{ℕ, ◌≤◌, List, Option, Some, None}
 use Rattle.std.specs.List.{AllByRecursion}
 use Rattle.rml_terms.specs.Tree.{ExprTree}
-use Rattle.rml_terms.specs.Within.{NameWithin, NamesWithin, ExprWithin, ExprsWithin}
+use Rattle.rml_terms.specs.declared.tree.Binder.{Binder}
+use Rattle.rml_terms.specs.Within.{NameWithin, NamesWithin, BinderWithin, ExprWithin, ExprsWithin}
 use Rattle.rml_syntax.specs.Tree.{CommandTree, Block, Blocks, Skip, Abort, Assume, Assert, If, Choose, Insert, Remove}
-use Rattle.rml_syntax.specs.Tree.{Put, Assign, no_command, and_command, no_block, and_block, ItemTree, Sort, Relation}
-use Rattle.rml_syntax.specs.Tree.{Function, Variable, Axiom, Conjecture, Init, Action, Final}
+use Rattle.rml_syntax.specs.Tree.{Put, Assign, no_command, and_command, no_block, and_block, ItemTree, FileTree, Sort}
+use Rattle.rml_syntax.specs.Tree.{Relation, Function, Variable, Axiom, Conjecture, Init, Action, Final, Define}
 
 abbrev pub ValueWithin : ℕ → Option ExprTree → Type 0
 ValueWithin n None = Unit {0}
@@ -36,8 +37,11 @@ abbrev mutual
 abbrev pub CommandsWithin : ℕ → List CommandTree → Type 0
 CommandsWithin n cs = AllByRecursion (CommandWithin n) cs
 
+abbrev pub BindersWithin : ℕ → List Binder → Type 0
+BindersWithin n bs = AllByRecursion (BinderWithin n) bs
+
 abbrev pub ItemWithin : ℕ → ItemTree → Type 0
-ItemWithin n (Sort name) = NameWithin n name
+ItemWithin n (Sort name names) = NameWithin n name × NamesWithin n names
 ItemWithin n (Relation name sorts) = NameWithin n name × NamesWithin n sorts
 ItemWithin n (Function name sorts sort) = NameWithin n name × NamesWithin n sorts × NameWithin n sort
 ItemWithin n (Variable name sort) = NameWithin n name × NameWithin n sort
@@ -46,6 +50,7 @@ ItemWithin n (Conjecture name e) = NameWithin n name × ExprWithin n e
 ItemWithin n (Init at cs) = (at ≤ n) × CommandsWithin n cs
 ItemWithin n (Action name cs) = NameWithin n name × CommandsWithin n cs
 ItemWithin n (Final at cs) = (at ≤ n) × CommandsWithin n cs
+ItemWithin n (Define name bs e) = NameWithin n name × BindersWithin n bs × ExprWithin n e
 
-abbrev pub TreeWithin : ℕ → List ItemTree → Type 0
-TreeWithin n items = AllByRecursion (ItemWithin n) items
+abbrev pub TreeWithin : ℕ → FileTree → Type 0
+TreeWithin n tree = AllByRecursion (ItemWithin n) tree.items

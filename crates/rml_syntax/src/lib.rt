@@ -13,4 +13,4 @@ mod tree;
 
 pub use laws::{ascending, one_tree_or_fault, places_ascend};
 pub use parser::parse;
-pub use tree::{Command, Item, Tree};
+pub use tree::{Command, Format, Item, Tree};

@@ -1,9 +1,17 @@
 //! The tree of a file. A place is a byte of the text, counted from 0.
-use rml_terms::{Expr, Name};
+use rml_terms::{Binder, Expr, Name};
 
-/// The tree of a file: its items in order.
+/// The format of a file, which the number behind `rml` says; without it, the first.
+#[derive(Clone, Copy, Debug, PartialEq, Eq)]
+pub enum Format {
+    One,
+    Two,
+}
+
+/// The tree of a file: its format, and its items in order.
 #[derive(Drop)]
 pub struct Tree {
+    pub format: Format,
     pub items: Vec<Item>,
 }
 
@@ -28,7 +36,8 @@ pub enum Command {
 /// A declaration or a block. A number is the place of its word.
 #[derive(Debug, Drop)]
 pub enum Item {
-    Sort(Name),
+    /// A name, and the names of its elements; where there are none, the sort is not listed.
+    Sort(Name, Vec<Name>),
     Relation(Name, Vec<Name>),
     /// A name, the sorts of the arguments, and the sort of the value.
     Function(Name, Vec<Name>, Name),
@@ -38,4 +47,6 @@ pub enum Item {
     Init(u64, Vec<Command>),
     Action(Name, Vec<Command>),
     Final(u64, Vec<Command>),
+    /// A name, its parameters, and what stands for it.
+    Define(Name, Vec<Binder>, Expr),
 }

@@ -1,4 +1,4 @@
-use Rattle.rml_syntax.specs.Tree.{item_trees}
+use Rattle.rml_syntax.specs.Tree.{file_tree}
 use Rattle.rml_syntax.proofs.Texts.{reads_tree, stop_fault, one_tree, one_fault, not_both, stands, within_text}
 use Rattle.rml_syntax.proofs.Texts.{shaped_text}
 use Rattle.rml_syntax.proofs.parser.parse.Goals as goal
@@ -6,28 +6,28 @@ use Rattle.rml_syntax.proofs.parser.parse.Goals as goal
 pub returns-in-Ok-clause-tree : goal.returns-in-Ok-clause-tree
 returns-in-Ok-clause-tree c =
     reads_tree c.terms_are_read.ensures c.args.text.now c.args.tokens.now
-    (item_trees c.in-Ok.items.items) c.in-Ok.ensures
+    (file_tree c.in-Ok.tree) c.in-Ok.ensures
 
 pub returns-in-Ok-clause-within : goal.returns-in-Ok-clause-within
 returns-in-Ok-clause-within c =
-    within_text c.terms_stand.ensures c.args.text.now c.args.tokens.now (item_trees c.in-Ok.items.items)
-    (reads_tree c.terms_are_read.ensures _ _ (item_trees c.in-Ok.items.items) c.in-Ok.ensures) c.requires
+    within_text c.terms_stand.ensures c.args.text.now c.args.tokens.now (file_tree c.in-Ok.tree)
+    (reads_tree c.terms_are_read.ensures _ _ (file_tree c.in-Ok.tree) c.in-Ok.ensures) c.requires
 
 pub returns-in-Ok-clause-shape : goal.returns-in-Ok-clause-shape
 returns-in-Ok-clause-shape c =
     shaped_text c.terms_nest.ensures.terms c.terms_nest.ensures.deeper c.terms_nest.ensures.deeper_all
-    c.args.text.now c.args.tokens.now (item_trees c.in-Ok.items.items)
-    (reads_tree c.terms_are_read.ensures _ _ (item_trees c.in-Ok.items.items) c.in-Ok.ensures)
+    c.args.text.now c.args.tokens.now (file_tree c.in-Ok.tree)
+    (reads_tree c.terms_are_read.ensures _ _ (file_tree c.in-Ok.tree) c.in-Ok.ensures)
 
 pub returns-in-Ok-clause-found : goal.returns-in-Ok-clause-found
 returns-in-Ok-clause-found c =
     λ tree is. one_tree c.terms_are_read.ensures c.args.text.now c.args.tokens.now _ tree
-    (reads_tree c.terms_are_read.ensures _ _ (item_trees c.in-Ok.items.items) c.in-Ok.ensures) is
+    (reads_tree c.terms_are_read.ensures _ _ (file_tree c.in-Ok.tree) c.in-Ok.ensures) is
 
 pub returns-in-Ok-clause-refused : goal.returns-in-Ok-clause-refused
 returns-in-Ok-clause-refused c =
     λ fault is. not_both c.terms_are_read.ensures c.args.text.now c.args.tokens.now _ fault
-    (reads_tree c.terms_are_read.ensures _ _ (item_trees c.in-Ok.items.items) c.in-Ok.ensures) is
+    (reads_tree c.terms_are_read.ensures _ _ (file_tree c.in-Ok.tree) c.in-Ok.ensures) is
 
 pub returns-in-Err-For-clause-fault : goal.returns-in-Err-For-clause-fault
 returns-in-Err-For-clause-fault c =

@@ -1,10 +1,10 @@
 use Rattle.std.proofs.Common.{◌≡◌, length}
-use Rattle.rml_syntax.specs.Faults.{is_one}
-use Rattle.rml_syntax.proofs.parser.is_one.Given as goal
+use Rattle.rml_syntax.specs.Faults.{format_of_digits}
+use Rattle.rml_syntax.proofs.parser.format_of_digits.Given as goal
 
 abbrev pub invariant-loop-rest : goal.invariant-loop-rest
 invariant-loop-rest l = record {
-  value : is_one l.rest ≡ is_one l.digits;
+  value : format_of_digits l.rest ≡ format_of_digits l.digits;
 }
 
 abbrev pub decreases-loop-rest : goal.decreases-loop-rest
