@@ -78,7 +78,7 @@ capped-product a (suc u) n pa pn =
     ⊎_elim (λ (small : n < 1000002). product-few a (suc u) n small pn)
     (λ (large : 1000002 ≤ n). product-many a (suc u) n pa (omega arith) large) (cases_lt n 1000002)
 
-put_in-extent : (a b u r n d : ℕ) → 1 ≤ a → 1 ≤ n → 1 ≤ d → put_in (extent a b) (extent u r) (extent n d)
+pub put_in-extent : (a b u r n d : ℕ) → 1 ≤ a → 1 ≤ n → 1 ≤ d → put_in (extent a b) (extent u r) (extent n d)
     ≡ extent (a + u * (n - 1)) (max b (deepened r d))
 put_in-extent a b u zero n d pa pn pd =
     let e1 = capped-product a u n pa pn in
@@ -91,19 +91,19 @@ put_in-extent a b u (suc m) n d pa pn pd =
     rw (ne_eqb (capped (suc m)) 0 (λ e. absurd (omega arith))) (omega arith) in
     cc (e1, e2)
 
-over-one : (x : Extent) (a b : ℕ) → x ≡ extent a b → over x ≡ extent (a + 1) (b + 1)
+pub over-one : (x : Extent) (a b : ℕ) → x ≡ extent a b → over x ≡ extent (a + 1) (b + 1)
 over-one x a b e = ap over e ∙ over-extent a b
 
-over-two : (x y : Extent) (a b c d : ℕ) → x ≡ extent a b → y ≡ extent c d
+pub over-two : (x y : Extent) (a b c d : ℕ) → x ≡ extent a b → y ≡ extent c d
     → over (beside x y) ≡ extent (a + c + 1) (max b d + 1)
 over-two x y a b c d e1 e2 =
     ap (λ z. over (beside z y)) e1 ∙ ap (λ z. over (beside (extent a b) z)) e2 ∙ ap over (beside-extent a b c d)
     ∙ over-extent (a + c) (max b d)
 
-both : (x y : Extent) (a b c d : ℕ) → x ≡ extent a b → y ≡ extent c d → beside x y ≡ extent (a + c) (max b d)
+pub both : (x y : Extent) (a b c d : ℕ) → x ≡ extent a b → y ≡ extent c d → beside x y ≡ extent (a + c) (max b d)
 both x y a b c d e1 e2 = ap (λ z. beside z y) e1 ∙ ap (λ z. beside (extent a b) z) e2 ∙ beside-extent a b c d
 
-over-three : (x y z : Extent) (a b c d e f : ℕ) → x ≡ extent a b → y ≡ extent c d → z ≡ extent e f
+pub over-three : (x y z : Extent) (a b c d e f : ℕ) → x ≡ extent a b → y ≡ extent c d → z ≡ extent e f
     → over (beside x (beside y z)) ≡ extent (a + c + e + 1) (max b (max d f) + 1)
 over-three x y z a b c d e f e1 e2 e3 =
     let e4 : a + (c + e) + 1 ≡ a + c + e + 1 = omega arith in
@@ -266,7 +266,7 @@ HasExtents c ts new =
 zero_by : (f : ℕ → ℕ) (j : ℕ) → f (j + 0) ≡ f j
 zero_by f j = let e : j + 0 ≡ j = omega arith in ap f e
 
-filled-args : (n d : ℕ) (u r : ℕ → ℕ) (n' d' : ℕ) (new : TermTrees)
+pub filled-args : (n d : ℕ) (u r : ℕ → ℕ) (n' d' : ℕ) (new : TermTrees)
     → Filled (reverse (list_of new)) n d (λ j. u (j + 0)) (λ j. r (j + 0)) n' d'
     → extent n' d' ≡ extent (n + weighted_args u new) (max d (highest_args r new))
 filled-args n d u r n' d' new h =
@@ -276,7 +276,7 @@ filled-args n d u r n' d' new h =
     ap (λ m. extent m d') (h.nodes ∙ ap (λ m. n + m) e1)
     ∙ ap (extent (n + weighted_args u new)) (h.depth ∙ ap (λ m. max d m) e2)
 
-form_nodes-positive : (p : FormTree) → 1 ≤ form_nodes p
+pub form_nodes-positive : (p : FormTree) → 1 ≤ form_nodes p
 form_nodes-positive top = omega arith
 form_nodes-positive bottom = omega arith
 form_nodes-positive (rel r args) = omega arith

@@ -198,7 +198,7 @@ picked-free args depth i h =
     (free-at args (i - depth) _ h)))
     (cases_lt i depth)
 
-put_keeps : (args : TermTrees) → AreQuantifierFreeTerms args → KeepsFree (putting (reverse (list_of args)))
+pub put_keeps : (args : TermTrees) → AreQuantifierFreeTerms args → KeepsFree (putting (reverse (list_of args)))
 put_keeps args h = record {
   index = λ depth i. picked-free (reverse (list_of args)) depth i
       (free-reversed (list_of args) [] (free-list args h) tt);
@@ -230,6 +230,27 @@ app-free (change_const g index) none depth f args h = which (f == g)
     which true = tt
     which false = h
 
+-- plain terms stay plain, where what quantifier-free arguments become is quantifier-free
+module _ (free : QuantifierFreeIsUniversal) (rules : Rules) (keeps : KeepsFree rules) where
+  mutual
+    pub plain-by : (p : FormTree) (depth : ℕ) → HasPlainTerms p → HasPlainTerms (form_by rules depth p)
+    plain-by top depth h = tt
+    plain-by bottom depth h = tt
+    plain-by (rel q args) depth h =
+        (free (form_by rules depth (rel q args)) (free-by rules keeps (rel q args) depth h)).plain
+    plain-by (equal a b) depth h = free-by rules keeps (equal a b) depth h
+    plain-by (negation p) depth h = plain-by p depth h
+    plain-by (conjunction ps) depth h = plains-by ps depth h
+    plain-by (disjunction ps) depth h = plains-by ps depth h
+    plain-by (implication p q) depth h = (plain-by p depth h.0, plain-by q depth h.1)
+    plain-by (equivalence p q) depth h = (plain-by p depth h.0, plain-by q depth h.1)
+    plain-by (for_all k p) depth h = plain-by p (suc depth) h
+    plain-by (for_some k p) depth h = plain-by p (suc depth) h
+
+    plains-by : (ps : FormTrees) (depth : ℕ) → HavePlainTerms ps → HavePlainTerms (forms_by rules depth ps)
+    plains-by no_forms depth h = tt
+    plains-by (form_then p ps) depth h = (plain-by p depth h.0, plains-by ps depth h.1)
+
 pub record Fragments : Type 0 where
   pub prefix : UniversalIsExistsForall
   pub free : QuantifierFreeIsUniversal
@@ -257,30 +278,11 @@ module _ (known : Fragments) (c : Change) (none : HasNoQuantifier c) where
   relations_free (change_fun g by) h positive q args = tt
   relations_free (change_const g index) h positive q args = tt
 
-  mutual
-    plain-by : (p : FormTree) (depth : ℕ) → HasPlainTerms p → HasPlainTerms (changed_form c depth p)
-    plain-by top depth h = tt
-    plain-by bottom depth h = tt
-    plain-by (rel q args) depth h =
-        (known.free (changed_form c depth (rel q args)) (free-by (changing c) change_keeps (rel q args) depth h)).plain
-    plain-by (equal a b) depth h = free-by (changing c) change_keeps (equal a b) depth h
-    plain-by (negation p) depth h = plain-by p depth h
-    plain-by (conjunction ps) depth h = plains-by ps depth h
-    plain-by (disjunction ps) depth h = plains-by ps depth h
-    plain-by (implication p q) depth h = (plain-by p depth h.0, plain-by q depth h.1)
-    plain-by (equivalence p q) depth h = (plain-by p depth h.0, plain-by q depth h.1)
-    plain-by (for_all k p) depth h = plain-by p (suc depth) h
-    plain-by (for_some k p) depth h = plain-by p (suc depth) h
-
-    plains-by : (ps : FormTrees) (depth : ℕ) → HavePlainTerms ps → HavePlainTerms (forms_by (changing c) depth ps)
-    plains-by no_forms depth h = tt
-    plains-by (form_then p ps) depth h = (plain-by p depth h.0, plains-by ps depth h.1)
-
   pub keeps_fragments : (within : FormTree) → KeepsFragments within (changed_form c 0 within)
   keeps_fragments within = record {
     universal = λ positive h. universal-by known.prefix (changing c) (relations_free c none) positive within 0 h;
     exists_forall = λ positive h. prefix-by known.prefix (changing c) (relations_free c none) positive within 0 h;
-    plain = λ h. plain-by within 0 h;
+    plain = λ h. plain-by known.free (changing c) change_keeps within 0 h;
     quantifier_free = λ h. free-by (changing c) change_keeps within 0 h;
     existentials = λ positive. sorts-by known.no_witness (changing c) (relations_free c none) positive within 0;
   }

@@ -8,3 +8,4 @@ mod Rooms
 mod InStructures
 mod Fragments
 mod Meaning
+mod Templates

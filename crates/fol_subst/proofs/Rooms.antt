@@ -19,7 +19,7 @@ use Rattle.fol_subst.specs.Replace.{picked, put_form, put_forms, put_term, put_t
 use Rattle.fol_subst.specs.Replace.{rel_instance, app_instance, changing, changed_form, changed_terms, changed_term}
 use Rattle.fol_formula.specs.Indices.{IndicesFit, IndicesFitAll, IndicesFitTerm, IndicesFitTerms}
 use Rattle.fol_subst.specs.Limits.{is_too_large}
-use Rattle.fol_subst.specs.Room.{RoomForm, RoomForms, RoomTerm, RoomTerms, ReadyTerm, ReadyTerms, RelTakes, AppTakes}
+use Rattle.fol_subst.specs.Room.{RoomForm, RoomForms, RoomTerm, RoomTerms, ReadyTerm, ReadyTerms}
 use Rattle.fol_subst.specs.Extents.{places_of, put_in, extent_term, extent_instance}
 use Rattle.fol_subst.specs.declared.extent.Extent.{Extent}
 use Rattle.fol_subst.specs.Kept.{kept, kept_one}
@@ -217,73 +217,70 @@ module _ (xs : List TermTree) (j d : ℕ) (inside : j < length xs) where
 -- arguments that agree wherever they are used make one result
 module _ (xs ys : List TermTree) where
   abbrev AgreeAt : (ℕ → ℕ) → Type 0
-  AgreeAt f = (j : ℕ) → j < length xs → 0 < f j → argument xs j ≡ argument ys j
+  AgreeAt f = (j : ℕ) → 0 < f j → argument xs j ≡ argument ys j
 
   mutual
-    same-form : (p : FormTree) (e n : ℕ) → n ≡ e + length xs → BoundForm n p → AgreeAt (λ j. reach_form (j + e) p)
-        → put_form e xs p ≡ put_form e ys p
-    same-form top e n is h s = refl
-    same-form bottom e n is h s = refl
-    same-form (rel r ts) e n is h s = ap (rel r) (same-terms ts e n is h (λ j lt u. s j lt (below-some _ u)))
-    same-form (equal a b) e n is h s =
-        let e1 = same-term a e n is h.0 (λ j lt u. s j lt (below-left _ _ u)) in
-        let e2 = same-term b e n is h.1 (λ j lt u. s j lt (below-right _ _ u)) in
+    same-form : (p : FormTree) (e : ℕ) → AgreeAt (λ j. reach_form (j + e) p) → put_form e xs p ≡ put_form e ys p
+    same-form top e s = refl
+    same-form bottom e s = refl
+    same-form (rel r ts) e s = ap (rel r) (same-terms ts e (λ j u. s j (below-some _ u)))
+    same-form (equal a b) e s =
+        let e1 = same-term a e (λ j u. s j (below-left _ _ u)) in
+        let e2 = same-term b e (λ j u. s j (below-right _ _ u)) in
         cc (e1, e2)
-    same-form (negation p) e n is h s = ap negation (same-form p e n is h (λ j lt u. s j lt (below-some _ u)))
-    same-form (conjunction ps) e n is h s = ap conjunction (same-forms ps e n is h (λ j lt u. s j lt (below-some _ u)))
-    same-form (disjunction ps) e n is h s = ap disjunction (same-forms ps e n is h (λ j lt u. s j lt (below-some _ u)))
-    same-form (implication p q) e n is h s =
-        let e1 = same-form p e n is h.0 (λ j lt u. s j lt (below-left _ _ u)) in
-        let e2 = same-form q e n is h.1 (λ j lt u. s j lt (below-right _ _ u)) in
+    same-form (negation p) e s = ap negation (same-form p e (λ j u. s j (below-some _ u)))
+    same-form (conjunction ps) e s = ap conjunction (same-forms ps e (λ j u. s j (below-some _ u)))
+    same-form (disjunction ps) e s = ap disjunction (same-forms ps e (λ j u. s j (below-some _ u)))
+    same-form (implication p q) e s =
+        let e1 = same-form p e (λ j u. s j (below-left _ _ u)) in
+        let e2 = same-form q e (λ j u. s j (below-right _ _ u)) in
         cc (e1, e2)
-    same-form (equivalence p q) e n is h s =
-        let e1 = same-form p e n is h.0 (λ j lt u. s j lt (below-left _ _ u)) in
-        let e2 = same-form q e n is h.1 (λ j lt u. s j lt (below-right _ _ u)) in
+    same-form (equivalence p q) e s =
+        let e1 = same-form p e (λ j u. s j (below-left _ _ u)) in
+        let e2 = same-form q e (λ j u. s j (below-right _ _ u)) in
         cc (e1, e2)
-    same-form (for_all k p) e n is h s =
+    same-form (for_all k p) e s =
         ap (for_all k)
-        (same-form p (suc e) (suc n) (omega arith) h
-        (λ j lt u. s j lt (below-some _ (subst (λ m. 0 < reach_form m p) (sym (under_suc j e)) u))))
-    same-form (for_some k p) e n is h s =
+        (same-form p (suc e)
+        (λ j u. s j (below-some _ (subst (λ m. 0 < reach_form m p) (sym (under_suc j e)) u))))
+    same-form (for_some k p) e s =
         ap (for_some k)
-        (same-form p (suc e) (suc n) (omega arith) h
-        (λ j lt u. s j lt (below-some _ (subst (λ m. 0 < reach_form m p) (sym (under_suc j e)) u))))
+        (same-form p (suc e)
+        (λ j u. s j (below-some _ (subst (λ m. 0 < reach_form m p) (sym (under_suc j e)) u))))
 
-    same-forms : (ps : FormTrees) (e n : ℕ) → n ≡ e + length xs → BoundForms n ps
-        → AgreeAt (λ j. reach_forms (j + e) ps) → put_forms e xs ps ≡ put_forms e ys ps
-    same-forms no_forms e n is h s = refl
-    same-forms (form_then p ps) e n is h s =
-        let e1 = same-form p e n is h.0 (λ j lt u. s j lt (omega (arith, u))) in
-        let e2 = same-forms ps e n is h.1 (λ j lt u. s j lt (omega (arith, u))) in
+    same-forms : (ps : FormTrees) (e : ℕ) → AgreeAt (λ j. reach_forms (j + e) ps)
+        → put_forms e xs ps ≡ put_forms e ys ps
+    same-forms no_forms e s = refl
+    same-forms (form_then p ps) e s =
+        let e1 = same-form p e (λ j u. s j (omega (arith, u))) in
+        let e2 = same-forms ps e (λ j u. s j (omega (arith, u))) in
         cc (e1, e2)
 
-    same-term : (t : TermTree) (e n : ℕ) → n ≡ e + length xs → BoundTerm n t → AgreeAt (λ j. reach_term (j + e) t)
-        → put_term e xs t ≡ put_term e ys t
-    same-term (bound i) e n is h s =
+    same-term : (t : TermTree) (e : ℕ) → AgreeAt (λ j. reach_term (j + e) t) → put_term e xs t ≡ put_term e ys t
+    same-term (bound i) e s =
         ⊎_elim
         (λ (l : i < e). picked-below e xs i l ∙ sym (picked-below e ys i l))
         (λ (l : e ≤ i).
         let used : 0 < reach_term (i - e + e) (bound i) = rw (eq-eqb i (i - e + e) (omega arith)) (omega arith) in
-        picked-above e xs i l ∙ ap (shift_term 0 e) (s (i - e) (omega (arith, h, is)) used)
-        ∙ sym (picked-above e ys i l))
+        picked-above e xs i l ∙ ap (shift_term 0 e) (s (i - e) used) ∙ sym (picked-above e ys i l))
         (cases_lt i e)
-    same-term (app f ts) e n is h s = ap (app f) (same-terms ts e n is h (λ j lt u. s j lt (below-some _ u)))
-    same-term (ite p a b) e n is h s =
-        let e1 = same-form p e n is h.0 (λ j lt u. s j lt (below-left _ _ u)) in
-        let e2 = same-term a e n is h.1 (λ j lt u. s j lt (below-right _ _ (omega (arith, u)))) in
-        let e3 = same-term b e n is h.2 (λ j lt u. s j lt (below-right _ _ (omega (arith, u)))) in
+    same-term (app f ts) e s = ap (app f) (same-terms ts e (λ j u. s j (below-some _ u)))
+    same-term (ite p a b) e s =
+        let e1 = same-form p e (λ j u. s j (below-left _ _ u)) in
+        let e2 = same-term a e (λ j u. s j (below-right _ _ (omega (arith, u)))) in
+        let e3 = same-term b e (λ j u. s j (below-right _ _ (omega (arith, u)))) in
         cc (e1, e2, e3)
 
-    same-terms : (ts : TermTrees) (e n : ℕ) → n ≡ e + length xs → BoundTerms n ts
-        → AgreeAt (λ j. reach_terms (j + e) ts) → put_terms e xs ts ≡ put_terms e ys ts
-    same-terms no_terms e n is h s = refl
-    same-terms (term_then t ts) e n is h s =
-        let e1 = same-term t e n is h.0 (λ j lt u. s j lt (omega (arith, u))) in
-        let e2 = same-terms ts e n is h.1 (λ j lt u. s j lt (omega (arith, u))) in
+    same-terms : (ts : TermTrees) (e : ℕ) → AgreeAt (λ j. reach_terms (j + e) ts)
+        → put_terms e xs ts ≡ put_terms e ys ts
+    same-terms no_terms e s = refl
+    same-terms (term_then t ts) e s =
+        let e1 = same-term t e (λ j u. s j (omega (arith, u))) in
+        let e2 = same-terms ts e (λ j u. s j (omega (arith, u))) in
         cc (e1, e2)
 
 -- the arguments in reverse order
-reversed_args : RowsAreLists → (ts : List Term) (a : TermTrees) → terms ts ≡ a
+pub reversed_args : RowsAreLists → (ts : List Term) (a : TermTrees) → terms ts ≡ a
     → map term (reverse ts) ≡ reverse (list_of a)
 reversed_args rows ts a e = map-reverse term ts ∙ ap reverse (sym (rows.term_list ts) ∙ ap list_of e)
 
@@ -332,14 +329,30 @@ kept-argument c (term_then t ts) j lt u =
     ∙ ap (λ n. get_or (reverse (list_of (term_then t ts))) n (bound 0)) (sym at))
     (cases_lt j (size_of ts))
 
-kept-same : (c : Change) (ts : TermTrees) (j : ℕ) → j < length (reverse (list_of (kept c ts))) → 0 < reach_of c j
+kept-inside : (c : Change) (ts : TermTrees) (j : ℕ) → j < length (reverse (list_of (kept c ts))) → 0 < reach_of c j
     → argument (reverse (list_of (kept c ts))) j ≡ argument (reverse (list_of ts)) j
-kept-same c ts j lt u =
+kept-inside c ts j lt u =
     let n = length-reversed (kept c ts) in
     let m = size_of-kept c ts in
     let l = length-reversed ts in
     argument-inside (reverse (list_of (kept c ts))) j lt ∙ kept-argument c ts j (omega (arith, lt, n, m)) u
     ∙ sym (argument-inside (reverse (list_of ts)) j (omega (arith, lt, n, m, l)))
+
+-- beyond the arguments there is an index outside of them, and there are as many
+kept-beyond : (c : Change) (ts : TermTrees) (j : ℕ) → length (reverse (list_of (kept c ts))) ≤ j
+    → argument (reverse (list_of (kept c ts))) j ≡ argument (reverse (list_of ts)) j
+kept-beyond c ts j le =
+    let many : length (reverse (list_of (kept c ts))) ≡ length (reverse (list_of ts)) =
+    length-reversed (kept c ts) ∙ size_of-kept c ts ∙ sym (length-reversed ts) in
+    get_or_past (reverse (list_of (kept c ts))) j _ le
+    ∙ ap (λ n. bound (j - n)) many
+    ∙ sym (get_or_past (reverse (list_of ts)) j _ (omega (arith, many, le)))
+
+kept-same : (c : Change) (ts : TermTrees) (j : ℕ) → 0 < reach_of c j
+    → argument (reverse (list_of (kept c ts))) j ≡ argument (reverse (list_of ts)) j
+kept-same c ts j u =
+    ⊎_elim (λ lt. kept-inside c ts j lt u) (λ le. kept-beyond c ts j le)
+    (cases_lt j (length (reverse (list_of (kept c ts)))))
 
 kept-room : (c : Change) (d : ℕ) (ts : TermTrees)
     → ((j : ℕ) → j < size_of ts → 0 < reach_of c j → RoomTerm d (get_or (reverse (list_of ts)) j (bound 0)))
@@ -363,52 +376,34 @@ kept-room c d (term_then t ts) h = (
     which true e = omega arith
     which false e = subst (RoomTerm d) (last-argument t ts) (h (size_of ts) (omega arith) (used e))
 
--- what a replaced atom or application needs, and what it makes
-pub record BuiltForm (by : FormTree) (ts : List Term) (made : FormTree) : Type 0 where
-  pub room : RoomForm 0 (put_form 0 (map term ts) by)
-  pub same : put_form 0 (map term ts) by ≡ made
+-- what is left out does not count
+outermost : (f : ℕ → ℕ) (j : ℕ) → 0 < f (j + 0) → 0 < f j
+outermost f j u = let e : j + 0 ≡ j = omega arith in subst (λ m. 0 < f m) e u
 
-pub record BuiltTerm (by : TermTree) (ts : List Term) (made : TermTree) : Type 0 where
-  pub room : RoomTerm 0 (put_term 0 (map term ts) by)
-  pub same : put_term 0 (map term ts) by ≡ made
+pub kept-form : (r : ℕ) (by : FormTree) (new : TermTrees)
+    → put_form 0 (reverse (list_of (kept (change_rel r by) new))) by ≡ put_form 0 (reverse (list_of new)) by
+kept-form r by new =
+    same-form (reverse (list_of (kept (change_rel r by) new))) (reverse (list_of new)) by 0
+    (λ j u. kept-same (change_rel r by) new j (outermost (λ m. reach_form m by) j u))
 
-pub built-form : RowsAreLists → (r : ℕ) (by : FormTree) (depth : ℕ) (new : TermTrees) (all ts : List Term)
-    → BoundForm (size_of new) by → RoomForm depth (put_form 0 (reverse (list_of new)) by) → ts ≡ reverse all
-    → terms all ≡ kept (change_rel r by) new → BuiltForm by ts (put_form 0 (reverse (list_of new)) by)
-built-form rows r by depth new all ts ready room is made =
-    let c = change_rel r by in
-    let args : map term ts ≡ reverse (list_of (kept c new)) =
-    ap (map term) is ∙ reversed_args rows all (kept c new) made in
-    let same : put_form 0 (reverse (list_of (kept c new))) by ≡ put_form 0 (reverse (list_of new)) by =
-    same-form (reverse (list_of (kept c new))) (reverse (list_of new)) by 0 (size_of new)
-    (let e1 = length-reversed (kept c new) in let e2 = size_of-kept c new in omega (arith, e1, e2)) ready
-    (λ j lt u. kept-same c new j lt (subst (λ m. 0 < reach_form m by) (let e : j + 0 ≡ j = omega arith in e) u)) in
-    let whole : put_form 0 (map term ts) by ≡ put_form 0 (reverse (list_of new)) by =
-    ap (λ z. put_form 0 z by) args ∙ same in
-    record {
-      room = subst (RoomForm 0) (sym whole)
-          (less-form (put_form 0 (reverse (list_of new)) by) 0 depth room (omega arith));
-      same = whole;
-    }
+kept-term : (g : ℕ) (by : TermTree) (new : TermTrees)
+    → put_term 0 (reverse (list_of (kept (change_fun g by) new))) by ≡ put_term 0 (reverse (list_of new)) by
+kept-term g by new =
+    same-term (reverse (list_of (kept (change_fun g by) new))) (reverse (list_of new)) by 0
+    (λ j u. kept-same (change_fun g by) new j (outermost (λ m. reach_term m by) j u))
 
-pub built-term : RowsAreLists → (g : ℕ) (by : TermTree) (depth : ℕ) (new : TermTrees) (all ts : List Term)
-    → BoundTerm (size_of new) by → RoomTerm depth (put_term 0 (reverse (list_of new)) by) → ts ≡ reverse all
-    → terms all ≡ kept (change_fun g by) new → BuiltTerm by ts (put_term 0 (reverse (list_of new)) by)
-built-term rows g by depth new all ts ready room is made =
-    let c = change_fun g by in
-    let args : map term ts ≡ reverse (list_of (kept c new)) =
-    ap (map term) is ∙ reversed_args rows all (kept c new) made in
-    let same : put_term 0 (reverse (list_of (kept c new))) by ≡ put_term 0 (reverse (list_of new)) by =
-    same-term (reverse (list_of (kept c new))) (reverse (list_of new)) by 0 (size_of new)
-    (let e1 = length-reversed (kept c new) in let e2 = size_of-kept c new in omega (arith, e1, e2)) ready
-    (λ j lt u. kept-same c new j lt (subst (λ m. 0 < reach_term m by) (let e : j + 0 ≡ j = omega arith in e) u)) in
-    let whole : put_term 0 (map term ts) by ≡ put_term 0 (reverse (list_of new)) by =
-    ap (λ z. put_term 0 z by) args ∙ same in
-    record {
-      room = subst (RoomTerm 0) (sym whole)
-          (less-term (put_term 0 (reverse (list_of new)) by) 0 depth room (omega arith));
-      same = whole;
-    }
+-- what a replaced atom or application makes
+built-form : RowsAreLists → (r : ℕ) (by : FormTree) (new : TermTrees) (all ts : List Term) → ts ≡ reverse all
+    → terms all ≡ kept (change_rel r by) new → put_form 0 (map term ts) by ≡ put_form 0 (reverse (list_of new)) by
+built-form rows r by new all ts is made =
+    ap (λ z. put_form 0 z by) (ap (map term) is ∙ reversed_args rows all (kept (change_rel r by) new) made)
+    ∙ kept-form r by new
+
+built-term : RowsAreLists → (g : ℕ) (by : TermTree) (new : TermTrees) (all ts : List Term) → ts ≡ reverse all
+    → terms all ≡ kept (change_fun g by) new → put_term 0 (map term ts) by ≡ put_term 0 (reverse (list_of new)) by
+built-term rows g by new all ts is made =
+    ap (λ z. put_term 0 z by) (ap (map term) is ∙ reversed_args rows all (kept (change_fun g by) new) made)
+    ∙ kept-term g by new
 
 -- the arguments that are kept have room
 pub kept_room-form : (r : ℕ) (by : FormTree) (depth : ℕ) (new : TermTrees)
@@ -438,12 +433,6 @@ module _ (depth i : ℕ) (args : List Term) (above : depth ≤ i) where
   picked-inside x inside is =
       picked-above depth (map term args) i above ∙ ap (shift_term 0 depth) (argument-at x inside is)
 
-  pub picked-room : (x : Term) → i - depth < length args → x ≡ get_or args (i - depth) x
-      → RoomTerm depth (picked depth (map term args) i) → RoomTerm 0 (shift_term 0 depth (term x))
-  picked-room x inside is room =
-      less-term (shift_term 0 depth (term x)) 0 depth (subst (RoomTerm depth) (picked-inside x inside is) room)
-      (omega arith)
-
   pub picked-beyond : length args ≤ i - depth → picked depth (map term args) i ≡ bound (i - length args)
   picked-beyond beyond =
       let n = length-map args term in
@@ -471,35 +460,25 @@ kept_room-application c g f depth by new is at room =
     ∙ ap (λ b. cond b (put_term 0 (reverse (list_of new)) by) (app f new)) (eq-eqb f g at)) room))
 
 pub built-atom : RowsAreLists → (c : Change) (r q depth : ℕ) (by : FormTree) (args : TermTrees) (all ts : List Term)
-    → c ≡ change_rel r by → q ≡ r → RelTakes c q (size_of args)
-    → RoomForm depth (rel_instance c q (changed_terms c depth args)) → ts ≡ reverse all
-    → terms all ≡ kept c (changed_terms c depth args) → BuiltForm by ts (rel_instance c q (changed_terms c depth args))
-built-atom rows c r q depth by args all ts is at ready room rev made =
+    → c ≡ change_rel r by → q ≡ r → ts ≡ reverse all → terms all ≡ kept c (changed_terms c depth args)
+    → put_form 0 (map term ts) by ≡ rel_instance c q (changed_terms c depth args)
+built-atom rows c r q depth by args all ts is at rev made =
     let new = changed_terms c depth args in
     let here : rel_instance c q new ≡ put_form 0 (reverse (list_of new)) by =
     ap (λ z. rel_instance z q new) is ∙ ap (λ b. cond b (put_form 0 (reverse (list_of new)) by) (rel q new))
     (eq-eqb q r at) in
-    subst (BuiltForm by ts) (sym here)
-    (built-form rows r by depth new all ts
-    (subst (λ n. BoundForm n by) (sym (size_of-by (changing c) depth args))
-    (subst (λ z. RelTakes z q (size_of args)) is ready at)) (subst (RoomForm depth) here room) rev
-    (made ∙ ap (λ z. kept z new) is))
+    built-form rows r by new all ts rev (made ∙ ap (λ z. kept z new) is) ∙ sym here
 
 pub built-application : RowsAreLists → (c : Change) (g f depth : ℕ) (by : TermTree) (args : TermTrees)
-    (all ts : List Term) → c ≡ change_fun g by → f ≡ g → AppTakes c f (size_of args)
-    → RoomTerm depth (app_instance c depth f (changed_terms c depth args)) → ts ≡ reverse all
+    (all ts : List Term) → c ≡ change_fun g by → f ≡ g → ts ≡ reverse all
     → terms all ≡ kept c (changed_terms c depth args)
-    → BuiltTerm by ts (app_instance c depth f (changed_terms c depth args))
-built-application rows c g f depth by args all ts is at ready room rev made =
+    → put_term 0 (map term ts) by ≡ app_instance c depth f (changed_terms c depth args)
+built-application rows c g f depth by args all ts is at rev made =
     let new = changed_terms c depth args in
     let here : app_instance c depth f new ≡ put_term 0 (reverse (list_of new)) by =
     ap (λ z. app_instance z depth f new) is
     ∙ ap (λ b. cond b (put_term 0 (reverse (list_of new)) by) (app f new)) (eq-eqb f g at) in
-    subst (BuiltTerm by ts) (sym here)
-    (built-term rows g by depth new all ts
-    (subst (λ n. BoundTerm n by) (sym (size_of-by (changing c) depth args))
-    (subst (λ z. AppTakes z f (size_of args)) is ready at)) (subst (RoomTerm depth) here room) rev
-    (made ∙ ap (λ z. kept z new) is))
+    built-term rows g by new all ts rev (made ∙ ap (λ z. kept z new) is) ∙ sym here
 
 -- one turn of the loop over the arguments
 pub args-drop : RowsAreLists → (ts : List Term) (index i : ℕ) (t : Term) → length ts ≤ 8 → index + i ≡ length ts

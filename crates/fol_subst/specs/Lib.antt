@@ -12,3 +12,4 @@ pub mod Room
 pub mod Changes
 pub mod Measured
 pub mod Kept
+pub mod Templates

@@ -11,17 +11,23 @@ pub const MOST_DEPTH: u64 = 1000;
 // Above both limits: there the counts stop.
 const CAP: u64 = MOST_NODES + 1;
 
+/// How many nodes there are, and how deep the deepest lies: of a formula or term, or of the places of an index in it.
 #[derive(Clone, Copy)]
 pub struct Extent {
+    /// How many there are.
     pub count: u64,
+    /// How deep the deepest lies, or 0 where there is none.
     pub depth: u64,
 }
 
 impl Extent {
+    /// No node.
     pub const NONE: Extent = Extent { count: 0, depth: 0 };
 
+    /// One node.
     pub const ONE: Extent = Extent { count: 1, depth: 1 };
 
+    /// So many, so deep. Counts stop at 1,000,001.
     pub fn new(count: u64, depth: u64) -> Extent
         ensures { result ≡ extent count depth }
     {
@@ -31,6 +37,7 @@ impl Extent {
         }
     }
 
+    /// Both, beside one another.
     pub fn beside(self, other: Extent) -> Extent
         ensures { result ≡ beside self other }
     {
@@ -40,7 +47,7 @@ impl Extent {
         }
     }
 
-    // With one node above.
+    /// With one node above.
     pub fn over(self) -> Extent
         ensures { result ≡ over self }
     {
@@ -50,7 +57,7 @@ impl Extent {
         }
     }
 
-    // One level further down, where there is any.
+    /// One level further down, where there is any.
     pub fn under(self) -> Extent
         ensures { result ≡ under self }
     {
@@ -65,7 +72,7 @@ impl Extent {
         }
     }
 
-    // Where these places of it hold a part each.
+    /// Where these places of it hold a part each.
     pub fn put_in(self, places: Extent, part: Extent) -> Extent
         ensures { result ≡ put_in self places part }
     {
@@ -81,6 +88,7 @@ impl Extent {
         }
     }
 
+    /// Whether it is above the limits of a formula's size.
     pub fn is_over(self) -> bool
         ensures { result ≡ is_over self }
     {

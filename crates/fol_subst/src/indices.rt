@@ -1,25 +1,23 @@
 // A formula is copied, and its indices are changed on the way: they are shifted, or arguments stand in
 // their places. What an index becomes is all in which the two differ, so they share one walk. The walk of
 // a replacement (`change`) is another one: it changes its formula in place, begins with arguments and not
-// with indices, and passes its measure along.
-ghost use Rattle.std.specs.Prelude.{◌≡◌, ◌<◌, ◌^◌, ℕ, IfOk, map};
+// with indices, and passes its measure along. An index that four bytes do not hold is taken for want of memory.
+ghost use Rattle.std.specs.Prelude.{◌≡◌, ℕ, suc, IfOk, map};
 ghost use Rattle.fol_formula.specs.View.{form, forms, term as term_view, terms as terms_view};
 ghost use Rattle.fol_formula.specs.Syntax.{TermTree, bound};
 ghost use Rattle.fol_subst.specs.Rules.{of_indices, form_by, forms_by, term_by, terms_by};
 ghost use Rattle.fol_subst.specs.Shift.{raised};
 ghost use Rattle.fol_subst.specs.Replace.{picked};
-ghost use Rattle.fol_subst.specs.Room.{RoomForm, RoomForms, RoomTerm, RoomTerms};
 
 use base::Mem;
 use fol_formula::{Formula, Term};
-use std::alloc::Global;
+use std::alloc::{AllocError, Global};
 
 // What an index under so many binders becomes.
 pub trait Indices {
     ghost becomes: { Self → ℕ → ℕ → TermTree };
 
     fn index(&self, alloc: Global, i: u32, depth: u64) -> Mem<Term>
-        requires { RoomTerm depth (becomes self.now depth i) }
         ensures { IfOk result (λ t. term_view t ≡ becomes self.now depth i) };
 }
 
@@ -36,7 +34,7 @@ impl Indices for Shift {
         if (i as u64) < depth {
             return Ok(Term::Bound(i));
         }
-        Ok(Term::Bound((i as u64 + self.by) as u32))
+        index_term((i as u64).saturating_add(self.by))
     }
 }
 
@@ -60,21 +58,22 @@ impl<'a> Indices for Put<'a> {
             let t = copy_term(alloc, &self.args[place], &Shift { by: depth }, 0)?;
             return Ok(t);
         }
-        let outside = index_term(index - self.args.len() as u64);
+        let outside = index_term(index - self.args.len() as u64)?;
         Ok(outside)
     }
 }
 
-fn index_term(index: u64) -> Term
-    requires { index < 2 ^ 32 }
-    ensures { term_view result ≡ bound index }
+fn index_term(index: u64) -> Mem<Term>
+    ensures { IfOk result (λ t. term_view t ≡ bound index) }
 {
-    Term::Bound(index as u32)
+    if index > u32::MAX as u64 {
+        return Err(AllocError);
+    }
+    Ok(Term::Bound(index as u32))
 }
 
 #[cycle(copy)]
 pub fn copy_formula<R: Indices>(alloc: Global, p: &Formula, rule: &R, depth: u64) -> Mem<Formula>
-    requires { RoomForm depth (form_by (of_indices (R.becomes rule.now)) depth (form p.now)) }
     ensures { IfOk result (λ f. form f ≡ form_by (of_indices (R.becomes rule.now)) depth (form p.now)) }
 {
     match p {
@@ -96,18 +95,29 @@ pub fn copy_formula<R: Indices>(alloc: Global, p: &Formula, rule: &R, depth: u64
             let p = copy_boxed(alloc, p, rule, depth)?;
             Ok(Formula::Iff(p, copy_boxed(alloc, q, rule, depth)?))
         }
-        Formula::Forall(k, p) => Ok(Formula::Forall(*k, copy_boxed(alloc, p, rule, depth + 1)?)),
-        Formula::Exists(k, p) => Ok(Formula::Exists(*k, copy_boxed(alloc, p, rule, depth + 1)?)),
+        Formula::Forall(k, p) => Ok(Formula::Forall(*k, copy_inside(alloc, p, rule, depth)?)),
+        Formula::Exists(k, p) => Ok(Formula::Exists(*k, copy_inside(alloc, p, rule, depth)?)),
     }
 }
 
 #[cycle(copy)]
 fn copy_boxed<R: Indices>(alloc: Global, p: &Formula, rule: &R, depth: u64) -> Mem<Box<Formula>>
-    requires { RoomForm depth (form_by (of_indices (R.becomes rule.now)) depth (form p.now)) }
     ensures { IfOk result (λ f. form f.value ≡ form_by (of_indices (R.becomes rule.now)) depth (form p.now)) }
 {
     let p = copy_formula(alloc, p, rule, depth)?;
     Ok(Box::new(alloc, p)?)
+}
+
+// Under a binder.
+#[cycle(copy)]
+fn copy_inside<R: Indices>(alloc: Global, p: &Formula, rule: &R, depth: u64) -> Mem<Box<Formula>>
+    ensures { IfOk result (λ f. form f.value ≡ form_by (of_indices (R.becomes rule.now)) (suc depth) (form p.now)) }
+{
+    let Some(inside) = depth.checked_add(1) else {
+        return Err(AllocError);
+    };
+    let p = copy_boxed(alloc, p, rule, inside)?;
+    Ok(p)
 }
 
 #[cycle(copy)]
@@ -117,7 +127,6 @@ fn copy_formulas<R: Indices>(
     rule: &R,
     depth: u64,
 ) -> Mem<Vec<Formula>>
-    requires { RoomForms depth (forms_by (of_indices (R.becomes rule.now)) depth (forms ps.now)) }
     ensures { IfOk result (λ fs. forms fs.items ≡ forms_by (of_indices (R.becomes rule.now)) depth (forms ps.now)) }
 {
     fol_formula::lists();
@@ -130,7 +139,6 @@ fn copy_formulas<R: Indices>(
 
 #[cycle(copy)]
 pub fn copy_term<R: Indices>(alloc: Global, t: &Term, rule: &R, depth: u64) -> Mem<Term>
-    requires { RoomTerm depth (term_by (of_indices (R.becomes rule.now)) depth (term_view t.now)) }
     ensures { IfOk result (λ f. term_view f ≡ term_by (of_indices (R.becomes rule.now)) depth (term_view t.now)) }
 {
     match t {
@@ -146,7 +154,6 @@ pub fn copy_term<R: Indices>(alloc: Global, t: &Term, rule: &R, depth: u64) -> M
 
 #[cycle(copy)]
 fn copy_boxed_term<R: Indices>(alloc: Global, t: &Term, rule: &R, depth: u64) -> Mem<Box<Term>>
-    requires { RoomTerm depth (term_by (of_indices (R.becomes rule.now)) depth (term_view t.now)) }
     ensures { IfOk result (λ f. term_view f.value ≡ term_by (of_indices (R.becomes rule.now)) depth (term_view t.now)) }
 {
     let t = copy_term(alloc, t, rule, depth)?;
@@ -155,7 +162,6 @@ fn copy_boxed_term<R: Indices>(alloc: Global, t: &Term, rule: &R, depth: u64) ->
 
 #[cycle(copy)]
 fn copy_terms<R: Indices>(alloc: Global, ts: &[Term], rule: &R, depth: u64) -> Mem<Vec<Term>>
-    requires { RoomTerms depth (terms_by (of_indices (R.becomes rule.now)) depth (terms_view ts.now)) }
     ensures { IfOk result
         (λ fs. terms_view fs.items ≡ terms_by (of_indices (R.becomes rule.now)) depth (terms_view ts.now)) }
 {

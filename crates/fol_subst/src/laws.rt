@@ -2,6 +2,9 @@
 ghost use Rattle.fol_subst.specs.Outcome.{ShortListsSuffice, ShortListsAllowShifts, ReplacementKeepsMeaning};
 ghost use Rattle.fol_subst.specs.KeptSize.{ShiftKeepsSize, IndexKeepsSize};
 ghost use Rattle.fol_subst.specs.Unchanged.{OwnValueChangesNothing};
+ghost use Rattle.fol_subst.specs.Templates.{InstancesReplaceRelations, InstancesFit, InstancesAreQuantifierFree};
+ghost use Rattle.fol_subst.specs.Templates.{InstancesHavePlainTerms, OtherArgumentsDoNotCount, ExtentsAreFilled};
+ghost use Rattle.fol_subst.specs.Templates.{ExtentsAreCounts};
 
 /// A formula with a symbol replaced is true in a structure exactly where the formula is true in the
 /// structure with the symbol's table changed; it fits where the formula does, and stays in its fragments.
@@ -37,4 +40,23 @@ pub fn same_size()
 /// To replace a symbol by its own application to its parameters in order changes nothing.
 pub fn own_values()
     ensures { OwnValueChangesNothing }
+{}
+
+/// A formula with arguments in the place of its parameters is what a relation becomes that is replaced by it. It fits
+/// where the arguments have the sorts of the parameters, has no quantifier and plain terms where it and they have none,
+/// and does not depend on an argument whose parameter does not stand in it.
+pub fn instance_laws()
+    ensures replaced { InstancesReplaceRelations }
+    ensures fits { InstancesFit }
+    ensures quantifier_free { InstancesAreQuantifierFree }
+    ensures plain { InstancesHavePlainTerms }
+    ensures others { OtherArgumentsDoNotCount }
+{
+    fol_formula::inclusion();
+}
+
+/// Extents are counts of nodes and depths, and that of an instance is found without the instance.
+pub fn extent_laws()
+    ensures counts { ExtentsAreCounts }
+    ensures filled { ExtentsAreFilled }
 {}

@@ -12,6 +12,7 @@ mod measure;
 mod own;
 mod places;
 mod replacement;
+mod template;
 
 ghost use Rattle.std.specs.Prelude.{IfOk, IfErr, IsTrue};
 ghost use Rattle.base.specs.Because.{Because};
@@ -25,16 +26,16 @@ ghost use Rattle.fol_subst.specs.Changes.{change_of};
 use base::Refused;
 use change::change_formula;
 pub use counted::Counted;
-use extent::Extent;
-pub use extent::{MOST_DEPTH, MOST_NODES};
+pub use extent::{Extent, MOST_DEPTH, MOST_NODES};
 use fol_formula::{Formula, Term};
 use fol_sig::{FunId, RelId};
 use indices::{Shift, copy_formula};
-pub use laws::{conditions, exactness, own_values, same_size};
+pub use laws::{conditions, exactness, extent_laws, instance_laws, own_values, same_size};
 use measure::Measure;
 pub use own::{is_own_fun, is_own_rel};
 use replacement::Replacement;
 use std::alloc::Global;
+pub use template::Template;
 
 /// The result would have over 1,000,000 nodes, or be over 1,000 deep.
 #[derive(Clone, Copy, PartialEq, Eq, Debug)]

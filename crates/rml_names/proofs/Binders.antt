@@ -1,10 +1,10 @@
 -- A name that is not that of the nearest binder.
 use Rattle.std.proofs.Common.{◌≡◌, ◌≤◌, ◌+◌, ℕ, suc, false, List, ◌∷◌, length, refl, subst, arith}
 use Rattle.std.specs.Str.{bytes_eq}
-use Rattle.rml_command.specs.Models.{ModelTree}
+use Rattle.rml_names.specs.Vocabulary.{Vocabulary}
 use Rattle.rml_names.specs.Meanings.{BoundName, meaning_from}
 
-pub past_binder : (m : ModelTree) (i : ℕ) (b : BoundName) (bs all : List BoundName) (name : List ℕ)
+pub past_binder : (m : Vocabulary) (i : ℕ) (b : BoundName) (bs all : List BoundName) (name : List ℕ)
     → all ≡ b ∷ bs → bytes_eq name b.name ≡ false
     → meaning_from m (i + 1) bs name ≡ meaning_from m i all name
 past_binder m i b bs all name is other =

@@ -1,3 +1,3 @@
 pub mod Tables
 pub mod Binders
-pub mod Declaring
+pub mod NewNames

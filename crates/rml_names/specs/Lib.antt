@@ -1,3 +1,4 @@
+pub mod Vocabulary
 pub mod Meanings
 pub mod Scopes
 pub mod Growth

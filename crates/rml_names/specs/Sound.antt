@@ -1,28 +1,26 @@
--- What holds of the model of every first part of a text whose names and sorts are right.
-use Rattle.std.specs.Prelude.{◌≡◌, ◌<◌, ◌≤◌, [], length}
-use Rattle.std.specs.List.{AllByRecursion}
+-- What holds of what every first part of a text declares, where its names and sorts are right.
+use Rattle.std.specs.Prelude.{◌≡◌, ◌<◌, ◌≤◌, All, length}
+use Rattle.fol_sig.specs.Tables.{AreSorts}
 use Rattle.fol_sig.specs.Symbols.{symbols, AreSorted}
-use Rattle.fol_formula.specs.Fits.{FitsForm}
-use Rattle.rml_command.specs.Trees.{EachPrimitive, HasBranches}
-use Rattle.rml_command.specs.Models.{ModelTree, EachBlock, FitsModel, IsNamed, IsPlaced, IsWritten, IsPlainModel}
 use Rattle.rml_names.specs.declared.meaning.Meaning.{Meaning}
-use Rattle.rml_names.specs.declared.meaning.Meaning.TheVariants.{Bound, Relation, Function, Unknown}
-use Rattle.rml_names.specs.Meanings.{max_names, name_count}
+use Rattle.rml_names.specs.declared.meaning.Meaning.TheVariants.{Bound, Relation, Function, Derived, Unknown}
+use Rattle.rml_names.specs.Vocabulary.{Vocabulary, max_names, name_count}
 
-pub record IsSound (m : ModelTree) : Type 0 where
-  pub sorted : AreSorted (symbols m.signature)
-  pub fits : FitsModel m
-  pub conditions_fit : AllByRecursion (λ c. FitsForm (symbols m.signature) [] c.sentence) m.places.conditions
-  pub branches : EachBlock HasBranches m
-  pub named : IsNamed m
-  pub placed : IsPlaced m
-  pub few : name_count m.names ≤ max_names
-  pub written : EachBlock (EachPrimitive (IsWritten m.places.conditions)) m
-  pub plain : m.places.quantifiers ≡ [] → IsPlainModel m
+-- each symbol has known sorts, and at most 8 arguments, and each thing has a name; there are no more names than may be
+pub record IsSorted (v : Vocabulary) : Type 0 where
+  pub sorted : AreSorted (symbols v.signature)
+  pub derived_sorted : All (AreSorts v.signature.sorts) v.derived
+  pub derived_short : All (λ ks. length ks ≤ 8) v.derived
+  pub sorts : length v.names.sorts ≡ v.signature.sorts
+  pub relations : length v.names.relations ≡ length v.signature.relations
+  pub functions : length v.names.functions ≡ length v.signature.functions
+  pub derived : length v.derived_names ≡ length v.derived
+  pub few : name_count v ≤ max_names
 
 -- the symbol that is meant is declared
-abbrev pub IsDeclared : ModelTree → Meaning → Type 0
-IsDeclared m (Bound i k) = Unit {0}
-IsDeclared m (Relation r) = r < length m.signature.relations
-IsDeclared m (Function f) = f < length m.signature.functions
-IsDeclared m Unknown = Unit {0}
+abbrev pub IsDeclared : Vocabulary → Meaning → Type 0
+IsDeclared v (Bound i k) = Unit {0}
+IsDeclared v (Relation r) = r < length v.signature.relations
+IsDeclared v (Function f) = f < length v.signature.functions
+IsDeclared v (Derived d) = d < length v.derived
+IsDeclared v Unknown = Unit {0}

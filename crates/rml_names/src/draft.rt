@@ -1,37 +1,25 @@
-// The model of the items that were read so far, and what a name means there.
-ghost use Rattle.std.specs.Prelude.{◌≡◌, ◌≤◌, ◌+◌, length};
-ghost use Rattle.fol_sig.specs.Tables.{numbers};
-ghost use Rattle.rml_terms.specs.Within.{NameWithin};
-ghost use Rattle.rml_names.specs.Meanings.{bytes_of, place_among, symbol_of, is_symbol};
-ghost use Rattle.rml_names.specs.Meanings.{argument_sorts as sorts_of_arguments, result_sort as sort_of_result};
-ghost use Rattle.rml_names.specs.Meanings.{meaning_from, name_count};
-ghost use Rattle.rml_names.specs.Scopes.{bound_names};
-ghost use Rattle.rml_names.specs.Drafts.{model_in};
-ghost use Rattle.rml_names.specs.Sound.{IsSound, IsDeclared};
+// The model that is built of the items so far. What its text declares is kept beside its parts, and grows by calls of
+// its own; each call here adds one part.
+ghost use Rattle.std.specs.Prelude.{◌≡◌, ◌++◌, ◌∷◌, [], OnOk};
+ghost use Rattle.rml_command.specs.View.{command as command_view};
+ghost use Rattle.rml_names.specs.Drafts.{draft_in, empty_draft, places_in};
 
-use crate::meaning::Meaning;
-use crate::scope::Scope;
-use crate::table::NameTable;
+use crate::declarations::Declarations;
+use base::Mem;
 use fol_formula::Sentence;
-use fol_sig::{FunId, RelId, Signature, Sort};
-use rml_command::{Command, Condition};
-use rml_terms::Name;
+use fol_subst::Template;
+use rml_command::{Command, Condition, Name};
+use std::alloc::Global;
 
-/// The names of what is declared, those of each kind in a table.
+/// The axioms of listed sorts: no two names of a sort are one element, and each element has a name.
 #[derive(Drop)]
-pub struct NameTables {
-    /// Sorts.
-    pub sorts: NameTable,
-    /// Relations.
-    pub relations: NameTable,
-    /// Functions and variables, in one table.
-    pub functions: NameTable,
-    /// Axioms.
-    pub axioms: NameTable,
-    /// Conjectures.
-    pub conjectures: NameTable,
-    /// Actions.
-    pub actions: NameTable,
+pub struct ListedAxioms {
+    /// The names of the sorts.
+    pub names: Vec<Name>,
+    /// What is assumed of each sort.
+    pub sentences: Vec<Sentence>,
+    /// Where the names of the sorts begin.
+    pub places: Vec<u64>,
 }
 
 /// The places at which the fragment may be left: bytes of the text, counted from 0.
@@ -51,17 +39,19 @@ pub struct PlaceLists {
     pub last: u64,
     /// The conditions of all blocks.
     pub conditions: Vec<Condition>,
-    /// The quantifiers inside an `ite` and on the right of `:=`.
+    /// The quantifiers inside an `ite`, on the right of `:=` and of a definition.
     pub quantifiers: Vec<u64>,
 }
 
-/// The model of the items that were read so far: the parts of a model, with its names in tables.
+/// The model of the items that were read so far: what they declare, and the parts of a model.
 #[derive(Drop)]
 pub struct ModelDraft {
-    /// The symbols so far.
-    pub signature: Signature,
-    /// The names so far.
-    pub names: NameTables,
+    /// What is declared so far.
+    pub declared: Declarations,
+    /// The right sides of the derived relations so far, with all uses written out, each a template of its parameters.
+    pub bodies: Vec<Template>,
+    /// The axioms of the listed sorts so far.
+    pub listed: ListedAxioms,
     /// The axioms so far.
     pub axioms: Vec<Sentence>,
     /// The conjectures so far.
@@ -76,99 +66,160 @@ pub struct ModelDraft {
     pub places: PlaceLists,
 }
 
-/// The bytes of a name in the text.
-pub fn bytes(text: &[u8], name: Name) -> &[u8]
-    requires { NameWithin (length text.now) name }
-    ensures { result.now ≡ bytes_of text.now name }
+// No places.
+fn no_places(alloc: Global) -> PlaceLists
+    ensures { places_in result ≡ empty_draft.places }
 {
-    &text[name.start as usize..name.end as usize]
+    PlaceLists {
+        functions: Vec::new(alloc),
+        axioms: Vec::new(alloc),
+        conjectures: Vec::new(alloc),
+        init: 0,
+        actions: Vec::new(alloc),
+        last: 0,
+        conditions: Vec::new(alloc),
+        quantifiers: Vec::new(alloc),
+    }
+}
+
+// A block that is missing.
+fn skip(alloc: Global) -> Command
+    ensures { command_view result ≡ empty_draft.init }
+{
+    Command::Seq(Vec::new(alloc))
 }
 
 impl ModelDraft {
-    /// The number of the sort of this name, if it is declared.
-    pub fn sort(&self, name: &[u8]) -> Option<u32>
-        ensures { result ≡ place_among (model_in self.now).names.sorts name.now }
+    /// No items.
+    pub fn new(alloc: Global) -> Self
+        ensures { draft_in result ≡ empty_draft }
     {
-        self.names.sorts.find(name)
-    }
-
-    /// The relation, function or variable of this name.
-    pub fn symbol(&self, name: &[u8]) -> Meaning
-        requires { IsSound (model_in self.now) }
-        ensures value { result ≡ symbol_of (model_in self.now) name.now }
-        ensures declared { IsDeclared (model_in self.now) result }
-    {
-        if let Some(place) = self.names.relations.find(name) {
-            return Meaning::Relation(place);
-        }
-        match self.names.functions.find(name) {
-            Some(place) => Meaning::Function(place),
-            None => Meaning::Unknown,
-        }
-    }
-
-    /// Whether the name is declared as a relation, function or variable.
-    pub fn is_symbol(&self, name: &[u8]) -> bool
-        requires { IsSound (model_in self.now) }
-        ensures { result ≡ is_symbol (model_in self.now) name.now }
-    {
-        !matches!(self.symbol(name), Meaning::Unknown)
-    }
-
-    /// The meaning of a name under these binders, the first of them with the index `depth`.
-    pub fn meaning_from(&self, depth: u32, scope: &Scope, name: &[u8]) -> Meaning
-        requires sound { IsSound (model_in self.now) }
-        requires few { depth + length (bound_names scope.now) ≤ 108 }
-        ensures value { result ≡ meaning_from (model_in self.now) depth (bound_names scope.now) name.now }
-        ensures declared { IsDeclared (model_in self.now) result }
-    {
-        let mut index = depth;
-        let mut around = scope;
-        while let Scope::Inside(bound, outer) = around {
-            if name == bound.name {
-                return Meaning::Bound(index, bound.sort);
-            }
-            index += 1;
-            around = outer;
-        }
-        self.symbol(name)
-    }
-
-    /// The sorts of the arguments of what is meant; a bound name has none.
-    pub fn argument_sorts(&self, meaning: Meaning) -> &[Sort]
-        requires { IsDeclared (model_in self.now) meaning }
-        ensures { numbers result.now ≡ sorts_of_arguments (model_in self.now) meaning }
-    {
-        match meaning {
-            Meaning::Relation(place) => self.signature.sorts_of(RelId(place)),
-            Meaning::Function(place) => self.signature.from_of(FunId(place)),
-            Meaning::Bound(_, _) | Meaning::Unknown => &[],
+        ModelDraft {
+            declared: Declarations::new(alloc),
+            bodies: Vec::new(alloc),
+            listed: ListedAxioms {
+                names: Vec::new(alloc),
+                sentences: Vec::new(alloc),
+                places: Vec::new(alloc),
+            },
+            axioms: Vec::new(alloc),
+            conjectures: Vec::new(alloc),
+            init: skip(alloc),
+            actions: Vec::new(alloc),
+            last: skip(alloc),
+            places: no_places(alloc),
         }
     }
 
-    /// The number of the sort of a bound name, a variable or a function's values.
-    pub fn result_sort(&self, meaning: Meaning) -> Option<u32>
-        requires { IsDeclared (model_in self.now) meaning }
-        ensures { result ≡ sort_of_result (model_in self.now) meaning }
+    /// Adds an axiom, its place, and the places of its quantifiers that stand inside an `ite`. Err: out of memory.
+    pub fn push_axiom(
+        &mut self,
+        sentence: Sentence,
+        place: u64,
+        mut quantifiers: Vec<u64>,
+    ) -> Mem<()>
+        ensures { OnOk result (draft_in self.new ≡ record (draft_in self.old) {
+          axioms = (draft_in self.old).axioms ++ sentence ∷ [];
+          places = record (draft_in self.old).places {
+            axioms = (draft_in self.old).places.axioms ++ place ∷ [];
+            quantifiers = (draft_in self.old).places.quantifiers ++ quantifiers.items;
+          };
+        }) }
     {
-        match meaning {
-            Meaning::Bound(_, sort) => Some(sort),
-            Meaning::Function(place) => Some(self.signature.into_of(FunId(place)).0),
-            Meaning::Relation(_) | Meaning::Unknown => None,
-        }
+        self.axioms.push(sentence)?;
+        self.places.axioms.push(place)?;
+        self.places.quantifiers.append(&mut quantifiers)?;
+        Ok(())
     }
 
-    /// How many names are declared, of all kinds together.
-    pub fn name_count(&self) -> usize
-        requires { IsSound (model_in self.now) }
-        ensures { result ≡ name_count (model_in self.now).names }
+    /// Adds the axiom of a listed sort, with the sort's name and place. Err: out of memory.
+    pub fn push_listed(&mut self, name: Name, sentence: Sentence, place: u64) -> Mem<()>
+        ensures { OnOk result (draft_in self.new ≡ record (draft_in self.old) {
+          listed = record {
+            names = (draft_in self.old).listed.names ++ name ∷ [];
+            sentences = (draft_in self.old).listed.sentences ++ sentence ∷ [];
+            places = (draft_in self.old).listed.places ++ place ∷ [];
+          };
+        }) }
     {
-        let names = &self.names;
-        names.sorts.len()
-            + names.relations.len()
-            + names.functions.len()
-            + names.axioms.len()
-            + names.conjectures.len()
-            + names.actions.len()
+        self.listed.names.push(name)?;
+        self.listed.sentences.push(sentence)?;
+        self.listed.places.push(place)?;
+        Ok(())
+    }
+
+    /// Adds a conjecture, its place, and the places of its quantifiers that stand inside an `ite`. Err: out of memory.
+    pub fn push_conjecture(
+        &mut self,
+        sentence: Sentence,
+        place: u64,
+        mut quantifiers: Vec<u64>,
+    ) -> Mem<()>
+        ensures { OnOk result (draft_in self.new ≡ record (draft_in self.old) {
+          conjectures = (draft_in self.old).conjectures ++ sentence ∷ [];
+          places = record (draft_in self.old).places {
+            conjectures = (draft_in self.old).places.conjectures ++ place ∷ [];
+            quantifiers = (draft_in self.old).places.quantifiers ++ quantifiers.items;
+          };
+        }) }
+    {
+        self.conjectures.push(sentence)?;
+        self.places.conjectures.push(place)?;
+        self.places.quantifiers.append(&mut quantifiers)?;
+        Ok(())
+    }
+
+    /// Adds the block of an action, and its place. Err: out of memory.
+    pub fn push_action(&mut self, block: Command, place: u64) -> Mem<()>
+        ensures { OnOk result (draft_in self.new ≡ record (draft_in self.old) {
+          actions = (draft_in self.old).actions ++ command_view block ∷ [];
+          places = record (draft_in self.old).places { actions = (draft_in self.old).places.actions ++ place ∷ [] };
+        }) }
+    {
+        self.actions.push(block)?;
+        self.places.actions.push(place)?;
+        Ok(())
+    }
+
+    /// Adds the place of a function or variable. Err: out of memory.
+    pub fn push_function(&mut self, place: u64) -> Mem<()>
+        ensures { OnOk result (draft_in self.new ≡ record (draft_in self.old) {
+          places = record (draft_in self.old).places
+              { functions = (draft_in self.old).places.functions ++ place ∷ [] };
+        }) }
+    {
+        self.places.functions.push(place)?;
+        Ok(())
+    }
+
+    /// Adds the right side of a derived relation, and the places of its quantifiers. Err: out of memory.
+    pub fn push_body(&mut self, body: Template, mut quantifiers: Vec<u64>) -> Mem<()>
+        ensures { OnOk result (draft_in self.new ≡ record (draft_in self.old) {
+          bodies = (draft_in self.old).bodies ++ body ∷ [];
+          places = record (draft_in self.old).places
+              { quantifiers = (draft_in self.old).places.quantifiers ++ quantifiers.items };
+        }) }
+    {
+        self.bodies.push(body)?;
+        self.places.quantifiers.append(&mut quantifiers)?;
+        Ok(())
+    }
+
+    /// Adds the conditions of a block, and the places of its quantifiers that may not stand there. Err: out of memory.
+    pub fn push_places(
+        &mut self,
+        mut conditions: Vec<Condition>,
+        mut quantifiers: Vec<u64>,
+    ) -> Mem<()>
+        ensures { OnOk result (draft_in self.new ≡ record (draft_in self.old) {
+          places = record (draft_in self.old).places {
+            conditions = (draft_in self.old).places.conditions ++ conditions.items;
+            quantifiers = (draft_in self.old).places.quantifiers ++ quantifiers.items;
+          };
+        }) }
+    {
+        self.places.conditions.append(&mut conditions)?;
+        self.places.quantifiers.append(&mut quantifiers)?;
+        Ok(())
     }
 }

@@ -10,6 +10,8 @@ pub enum Meaning {
     Relation(u32),
     /// A function, or a variable, which is a function without arguments, by its number.
     Function(u32),
+    /// A derived relation, by its number.
+    Derived(u32),
     /// Nothing declares the name.
     Unknown,
 }

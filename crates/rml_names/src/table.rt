@@ -1,7 +1,8 @@
 // The declared names of one kind. A text may use a name wherever it may stand, so that each look-up is by hash; and a
 // name's place in the table is the number of what it declares, so that nothing else has to be kept with it.
 ghost use Rattle.std.specs.Prelude.{◌≡◌, ◌<◌, ◌++◌, ◌∷◌, [], false, length, OnOk, IfOk, OnErr};
-ghost use Rattle.rml_names.specs.Meanings.{max_names, place_among, is_among};
+ghost use Rattle.rml_names.specs.Meanings.{place_among, is_among};
+ghost use Rattle.rml_names.specs.Vocabulary.{max_names};
 
 use base::{Mem, Row};
 use indexmap::IndexSet;
@@ -29,7 +30,7 @@ pub struct NameTable {
 
 impl Model for NameTable {
     ghost use Rattle.std.specs.Prelude.{List, ℕ, map, ◌≤◌, length};
-    ghost use Rattle.rml_names.specs.Meanings.{max_names};
+    ghost use Rattle.rml_names.specs.Vocabulary.{max_names};
 
     ghost Value = { List (List ℕ) };
 

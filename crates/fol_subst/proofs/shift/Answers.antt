@@ -1,4 +1,4 @@
-use Rattle.std.proofs.Common.{◌≡◌, ◌++◌, false, ap, sym, subst, ◌∙◌, arith}
+use Rattle.std.proofs.Common.{◌≡◌, ◌++◌, false, ap, sym, subst, ◌∙◌}
 use Rattle.fol_formula.specs.View.{form}
 use Rattle.fol_formula.specs.Truth.{truth}
 use Rattle.fol_formula.specs.Fits.{FitsForm}
@@ -10,7 +10,6 @@ use Rattle.fol_subst.proofs.Truth.{truth-shifted}
 use Rattle.fol_subst.proofs.Fitting.{shifted-fits}
 use Rattle.fol_subst.proofs.Sizes.{size-shifted}
 use Rattle.fol_subst.proofs.Counting.{extent-saturated, over-is-too-large}
-use Rattle.fol_subst.proofs.Rooms.{room-within}
 use Rattle.fol_subst.proofs.shift.Goals as goal
 
 pub returns-then-is_over-clause-limit : goal.returns-then-is_over-clause-limit
@@ -25,21 +24,6 @@ returns-then-is_over-clause-limit c =
     ∙ extent-saturated (form_nodes within) (form_depth within) ∙ same))
     ∙ sym c.is_over.ensures
     ∙ c.if-is_over.true
-
-pub copy_formula-requires : goal.copy_formula-requires
-copy_formula-requires c =
-    let within = form c.args.within.now in
-    let new = shift_form c.args.from c.args.by within in
-    let same : extent (form_nodes within) (form_depth within) ≡ extent (form_nodes new) (form_depth new) =
-    ap (λ n. extent n (form_depth within)) (sym (size-shifted within c.args.from c.args.by).nodes)
-    ∙ ap (extent (form_nodes new)) (sym (size-shifted within c.args.from c.args.by).depth) in
-    let small : is_too_large new ≡ false =
-    sym (over-is-too-large new c.new-extent.result
-    (c.new-extent.ensures ∙ ap (λ n. extent n c.depth.result) c.nodes.ensures.count ∙ ap (extent _) c.depth.ensures
-    ∙ extent-saturated (form_nodes within) (form_depth within) ∙ same))
-    ∙ sym c.is_over.ensures
-    ∙ c.if-is_over.false in
-    room-within new c.args.from (c.requires small) small (omega arith)
 
 pub returns-clause-shifted : goal.returns-clause-shifted
 returns-clause-shifted c =

@@ -65,25 +65,15 @@ change_atom-change_kept-requires t c =
     c.requires.room in
     (search rules, (c.requires.measures, (c.requires.ready.0.0, (c.requires.ready.1, room))))
 
-pub change_atom-copy_formula-requires : goal.change_atom-copy_formula-requires
-change_atom-copy_formula-requires t c =
-    let same = ap change_of c.in-Rel.is in
-    let built =
-    built-atom c.lists.ensures.rows (change_of c.args.c.now) c.in-Rel.r.0 c.args.q.0 c.args.depth
-    (form c.in-Rel.by.now) (terms c.args.args.items) c.in_ok-all-in-Rel.all.items c.deref.result.now same
-    c.if-q-r.true c.requires.ready.0.1 c.requires.room (c.deref.ensures.value ∙ c.reverse.ensures.items)
-    c.in_ok-all-in-Rel.ensures in
-    built.room
-
 pub change_atom-returns-in_ok-f-in-Rel : goal.change_atom-returns-in_ok-f-in-Rel
 change_atom-returns-in_ok-f-in-Rel t c =
     let same = ap change_of c.in-Rel.is in
     let built =
     built-atom c.lists.ensures.rows (change_of c.args.c.now) c.in-Rel.r.0 c.args.q.0 c.args.depth
     (form c.in-Rel.by.now) (terms c.args.args.items) c.in_ok-all-in-Rel.all.items c.deref.result.now same
-    c.if-q-r.true c.requires.ready.0.1 c.requires.room (c.deref.ensures.value ∙ c.reverse.ensures.items)
+    c.if-q-r.true (c.deref.ensures.value ∙ c.reverse.ensures.items)
     c.in_ok-all-in-Rel.ensures in
-    c.in_ok-f-in-Rel.ensures ∙ built.same
+    c.in_ok-f-in-Rel.ensures ∙ built
 
 pub change_application-change_kept-requires : goal.change_application-change_kept-requires
 change_application-change_kept-requires t c =
@@ -93,22 +83,12 @@ change_application-change_kept-requires t c =
     c.if-f-g.true c.requires.room in
     (search rules, (c.requires.measures, (c.requires.ready.0.0, (c.requires.ready.1, room))))
 
-pub change_application-copy_term-requires : goal.change_application-copy_term-requires
-change_application-copy_term-requires t c =
-    let same = ap change_of c.in-Fun.is in
-    let built =
-    built-application c.lists.ensures.rows (change_of c.args.c.now) c.in-Fun.g.0 c.args.f.0 c.args.depth
-    (term c.in-Fun.by.now) (terms c.args.args.items) c.in_ok-kept-in-Fun.kept.items c.deref.result.now same
-    c.if-f-g.true c.requires.ready.0.1 c.requires.room (c.deref.ensures.value ∙ c.reverse.ensures.items)
-    c.in_ok-kept-in-Fun.ensures in
-    built.room
-
 pub change_application-returns-in_ok-t-in-Fun : goal.change_application-returns-in_ok-t-in-Fun
 change_application-returns-in_ok-t-in-Fun t c =
     let same = ap change_of c.in-Fun.is in
     let built =
     built-application c.lists.ensures.rows (change_of c.args.c.now) c.in-Fun.g.0 c.args.f.0 c.args.depth
     (term c.in-Fun.by.now) (terms c.args.args.items) c.in_ok-kept-in-Fun.kept.items c.deref.result.now same
-    c.if-f-g.true c.requires.ready.0.1 c.requires.room (c.deref.ensures.value ∙ c.reverse.ensures.items)
+    c.if-f-g.true (c.deref.ensures.value ∙ c.reverse.ensures.items)
     c.in_ok-kept-in-Fun.ensures in
-    c.in_ok-t-in-Fun.ensures ∙ built.same
+    c.in_ok-t-in-Fun.ensures ∙ built
