@@ -1,3 +1,4 @@
 pub mod Nesting
 pub mod Turns
 pub mod Tuples
+pub mod Extents

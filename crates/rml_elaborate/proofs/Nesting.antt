@@ -2,15 +2,15 @@
 use Rattle.std.proofs.Common.{◌≡◌, ◌≤◌, ◌-◌, ◌+◌, ℕ, zero, suc, List, [], ◌∷◌, length, refl, sym, ap, ◌∙◌, subst, arith}
 use Rattle.rml_terms.specs.declared.tree.Binder.{Binder}
 use Rattle.rml_terms.specs.declared.tree.Quantifier.{Quantifier}
-use Rattle.rml_terms.specs.Tree.{ExprTree, Quantified}
-use Rattle.rml_terms.specs.Shape.{ExprNests}
+use Rattle.rml_terms.specs.Tree.{ExprTree, ExprTrees, Quantified}
+use Rattle.rml_terms.specs.Shape.{ExprNests, ExprsNest}
 use Rattle.rml_names.specs.declared.scope.Scope.TheVariants.{Outside}
 use Rattle.rml_names.specs.declared.scope.Scope.TheViews.{rolls-Outside}
 use Rattle.rml_names.specs.declared.scope.Scope.TheOpen as opened
 use Rattle.rml_names.specs.declared.scope.Scope.TheFolds.{fold-roll-Scope}
 use Rattle.rml_names.specs.Meanings.{BoundName}
 use Rattle.rml_names.specs.Scopes.{bound_names, scope_step}
-use Rattle.rml_names.specs.Nesting.{nests_more}
+use Rattle.rml_names.specs.Nesting.{nests_more, nest_more}
 
 -- under m binders
 pub record NestsUnder (m : ℕ) (a : ExprTree) : Type 0 where
@@ -33,9 +33,11 @@ nests_inside q at b a x bs inner is h =
     nests_under q at b a (length bs) (108 - length bs) (length inner) refl more h
 
 -- without a binder around
+outside : bound_names Outside ≡ []
+outside = ap bound_names (sym rolls-Outside) ∙ fold-roll-Scope (List BoundName) scope_step opened.Outside
+
 pub nests_outside : (e : ExprTree) → ExprNests 100 e → ExprNests (108 - length (bound_names Outside)) e
-nests_outside e h =
-    let none : bound_names Outside ≡ [] =
-    ap bound_names (sym rolls-Outside) ∙ fold-roll-Scope (List BoundName) scope_step opened.Outside in
-    let more : 100 ≤ 108 - length (bound_names Outside) = omega (arith, ap length none) in
-    nests_more e 100 (108 - length (bound_names Outside)) more h
+nests_outside e h = nests_more e 100 (108 - length (bound_names Outside)) (omega (arith, ap length outside)) h
+
+pub nest_outside : (es : ExprTrees) → ExprsNest 100 es → ExprsNest (108 - length (bound_names Outside)) es
+nest_outside es h = nest_more es 100 (108 - length (bound_names Outside)) (omega (arith, ap length outside)) h

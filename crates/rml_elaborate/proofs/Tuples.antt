@@ -1,15 +1,16 @@
 -- The parameters of an update, and how many arguments a tuple has.
 use Rattle.std.proofs.Common.{◌≡◌, ◌<◌, ◌-◌, ℕ, zero, suc, List, [], ◌∷◌, ◌++◌, length, map, refl, sym, ap, ◌∙◌, arith}
-use Rattle.fol_formula.specs.Syntax.{TermTrees, bound, term_then, terms_then}
+use Rattle.fol_formula.specs.Syntax.{FormTree, TermTrees, bound, term_then, terms_then, size_of}
 use Rattle.fol_formula.specs.View.{term}
 use Rattle.fol_formula.specs.declared.Term.{Term}
 use Rattle.fol_formula.specs.Lists.{TermLists}
 use Rattle.rml_terms.specs.declared.tree.Expr.{Expr}
 use Rattle.rml_terms.specs.Tree.{expr_trees, exprs_of}
-use Rattle.rml_command.specs.Models.{ModelTree}
+use Rattle.rml_command.specs.Fresh.{parameters}
+use Rattle.rml_names.specs.Vocabulary.{Vocabulary}
 use Rattle.rml_names.specs.Meanings.{BoundName}
 use Rattle.rml_elaborate.specs.Formulas.{terms_of}
-use Rattle.rml_elaborate.specs.Updates.{parameters, term_count}
+use Rattle.rml_elaborate.specs.Updates.{term_count}
 
 -- one parameter more
 parameters-more : (n : ℕ) → 0 < n → parameters n ≡ term_then (bound (n - 1)) (parameters (n - 1))
@@ -30,7 +31,11 @@ parameters_turn lists n all more t whole some pushed made before =
     ∙ before
 
 -- there is a term for each expression
-pub terms_counted : (text : List ℕ) (m : ModelTree) (bs : List BoundName) (es : List Expr)
-    → term_count (terms_of text m bs (exprs_of (expr_trees es))) ≡ length es
-terms_counted text m bs [] = refl
-terms_counted text m bs (e ∷ es) = ap suc (terms_counted text m bs es)
+module _ (text : List ℕ) (v : Vocabulary) (bodies : List FormTree) (bs : List BoundName) where
+  pub terms_counted : (es : List Expr) → term_count (terms_of text v bodies bs (exprs_of (expr_trees es))) ≡ length es
+  terms_counted [] = refl
+  terms_counted (e ∷ es) = ap suc (terms_counted es)
+
+  pub terms_sized : (es : List Expr) → size_of (terms_of text v bodies bs (exprs_of (expr_trees es))) ≡ length es
+  terms_sized [] = refl
+  terms_sized (e ∷ es) = ap suc (terms_sized es)

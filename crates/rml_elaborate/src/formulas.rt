@@ -5,15 +5,19 @@ ghost use Rattle.rml_terms.specs.Tree.{expr_tree, expr_trees, exprs_of, Quantifi
 ghost use Rattle.rml_terms.specs.Shape.{ExprNests, ExprsNest};
 ghost use Rattle.rml_terms.specs.Within.{NameWithin, BinderWithin, ExprWithin, ExprsWithin};
 ghost use Rattle.rml_names.specs.Meanings.{bytes_of, sort_number};
-ghost use Rattle.rml_elaborate.specs.Formulas.{formula_of, formulas_of, term_of, terms_of};
+ghost use Rattle.rml_names.specs.declared.meaning.Meaning.TheVariants.{Derived};
+ghost use Rattle.fol_subst.specs.Replace.{change_rel};
+ghost use Rattle.fol_subst.specs.Kept.{kept, kept_one};
+ghost use Rattle.rml_elaborate.specs.Formulas.{formula_of, formulas_of, term_of, terms_of, atom_of};
 ghost use Rattle.rml_names.specs.Scopes.{bound_names};
-ghost use Rattle.rml_names.specs.Drafts.{model_in};
-ghost use Rattle.rml_names.specs.Sound.{IsSound};
+ghost use Rattle.rml_names.specs.Drafts.{words_in};
+ghost use Rattle.rml_names.specs.Sound.{IsSorted};
 
 use base::Mem;
 use fol_formula::{Formula, Term};
 use fol_sig::{FunId, RelId, Sort};
-use rml_names::{Meaning, ModelDraft, Scope, bytes};
+use fol_subst::Template;
+use rml_names::{Declarations, Meaning, ModelDraft, Scope, bytes};
 use rml_terms::{Binder, Expr, Name, Quantifier};
 use std::alloc::Global;
 
@@ -29,9 +33,10 @@ pub fn formula(
     requires nests { ExprNests (108 - length (bound_names scope.now)) (expr_tree e.now) }
     requires few { length (bound_names scope.now) ≤ 108 }
     requires within { ExprWithin (length text.now) (expr_tree e.now) }
-    requires sound { IsSound (model_in draft.now) }
+    requires sound { IsSorted (words_in draft.now.declared) }
     ensures { IfOk result (λ p. form p
-        ≡ formula_of text.now (model_in draft.now) (bound_names scope.now) (expr_tree e.now)) }
+        ≡ formula_of text.now (words_in draft.now.declared) draft.now.bodies.items (bound_names scope.now)
+        (expr_tree e.now)) }
 {
     match e {
         Expr::True(_) => Ok(Formula::True),
@@ -57,7 +62,7 @@ pub fn formula(
     }
 }
 
-// The atom of a relation and its arguments.
+// The atom of a relation and its arguments; of a derived relation what it stands for.
 #[cycle(formula)]
 fn atom(
     alloc: Global,
@@ -70,19 +75,108 @@ fn atom(
     requires nests { ExprNests (108 - length (bound_names scope.now)) (Apply name (exprs_of (expr_trees args.now))) }
     requires few { length (bound_names scope.now) ≤ 108 }
     requires within { ExprWithin (length text.now) (Apply name (exprs_of (expr_trees args.now))) }
-    requires sound { IsSound (model_in draft.now) }
+    requires sound { IsSorted (words_in draft.now.declared) }
     ensures { IfOk result (λ p. form p
-        ≡ formula_of text.now (model_in draft.now) (bound_names scope.now)
+        ≡ formula_of text.now (words_in draft.now.declared) draft.now.bodies.items (bound_names scope.now)
         (Apply name (exprs_of (expr_trees args.now)))) }
 {
-    match draft.meaning_from(0, scope, bytes(text, name)) {
+    match draft.declared.meaning_from(0, scope, bytes(text, name)) {
         Meaning::Bound(_, _) => Ok(Formula::False),
         Meaning::Relation(place) => {
             let args = terms(alloc, text, draft, scope, args)?;
             Ok(Formula::Rel(RelId(place), args))
         }
+        Meaning::Derived(place) => {
+            let p = written_out(alloc, text, draft, scope, place, args)?;
+            Ok(p)
+        }
         Meaning::Function(_) => Ok(Formula::False),
         Meaning::Unknown => Ok(Formula::False),
+    }
+}
+
+// What a use of a derived relation stands for: its right side, with the arguments in the place of the parameters.
+#[cycle(formula)]
+fn written_out(
+    alloc: Global,
+    text: &[u8],
+    draft: &ModelDraft,
+    scope: &Scope,
+    place: u32,
+    es: &[Expr],
+) -> Mem<Formula>
+    requires nests { ExprsNest (108 - length (bound_names scope.now)) (exprs_of (expr_trees es.now)) }
+    requires few { length (bound_names scope.now) ≤ 108 }
+    requires within { ExprsWithin (length text.now) (exprs_of (expr_trees es.now)) }
+    requires sound { IsSorted (words_in draft.now.declared) }
+    ensures { IfOk result (λ p. form p
+        ≡ atom_of draft.now.bodies.items (Derived place)
+        (terms_of text.now (words_in draft.now.declared) draft.now.bodies.items (bound_names scope.now)
+        (exprs_of (expr_trees es.now)))) }
+{
+    fol_subst::instance_laws();
+    let Some(body) = draft.bodies.get(place as usize) else {
+        return Ok(Formula::False);
+    };
+    let args = kept_terms(alloc, text, draft, scope, body, es)?;
+    let p = body.instance(alloc, args)?;
+    Ok(p)
+}
+
+// The terms of the arguments whose parameters stand in the right side. Another one is left out, with an index in its
+// place: so no more is built than the result holds.
+#[cycle(formula)]
+fn kept_terms(
+    alloc: Global,
+    text: &[u8],
+    draft: &ModelDraft,
+    scope: &Scope,
+    body: &Template,
+    es: &[Expr],
+) -> Mem<Vec<Term>>
+    requires nests { ExprsNest (108 - length (bound_names scope.now)) (exprs_of (expr_trees es.now)) }
+    requires few { length (bound_names scope.now) ≤ 108 }
+    requires within { ExprsWithin (length text.now) (exprs_of (expr_trees es.now)) }
+    requires sound { IsSorted (words_in draft.now.declared) }
+    ensures { IfOk result (λ ts. terms_view ts.items
+        ≡ kept (change_rel 0 body.now)
+        (terms_of text.now (words_in draft.now.declared) draft.now.bodies.items (bound_names scope.now)
+        (exprs_of (expr_trees es.now)))) }
+{
+    fol_formula::lists();
+    let mut all = Vec::with_capacity(alloc, es.len())?;
+    let mut left = es.len();
+    for e in es {
+        left -= 1;
+        all.push(kept_term(alloc, text, draft, scope, body, left, e)?)?;
+    }
+    Ok(all)
+}
+
+// The term of the argument of a parameter, if that stands in the right side.
+#[cycle(formula)]
+fn kept_term(
+    alloc: Global,
+    text: &[u8],
+    draft: &ModelDraft,
+    scope: &Scope,
+    body: &Template,
+    parameter: usize,
+    e: &Expr,
+) -> Mem<Term>
+    requires nests { ExprNests (108 - length (bound_names scope.now)) (expr_tree e.now) }
+    requires few { length (bound_names scope.now) ≤ 108 }
+    requires within { ExprWithin (length text.now) (expr_tree e.now) }
+    requires sound { IsSorted (words_in draft.now.declared) }
+    ensures { IfOk result (λ t. term_view t
+        ≡ kept_one (change_rel 0 body.now) parameter
+        (term_of text.now (words_in draft.now.declared) draft.now.bodies.items (bound_names scope.now)
+        (expr_tree e.now))) }
+{
+    if body.mentions(parameter) {
+        term(alloc, text, draft, scope, e)
+    } else {
+        Ok(Term::Bound(0))
     }
 }
 
@@ -101,11 +195,12 @@ fn quantified(
     requires nests { ExprNests (108 - length (bound_names scope.now)) (Quantified q at b (expr_tree body.now)) }
     requires few { length (bound_names scope.now) ≤ 108 }
     requires within { ExprWithin (length text.now) (Quantified q at b (expr_tree body.now)) }
-    requires sound { IsSound (model_in draft.now) }
+    requires sound { IsSorted (words_in draft.now.declared) }
     ensures { IfOk result (λ p. form p
-        ≡ formula_of text.now (model_in draft.now) (bound_names scope.now) (Quantified q at b (expr_tree body.now))) }
+        ≡ formula_of text.now (words_in draft.now.declared) draft.now.bodies.items (bound_names scope.now)
+        (Quantified q at b (expr_tree body.now))) }
 {
-    let sort = sort_number(text, draft, b.sort);
+    let sort = sort_number(text, &draft.declared, b.sort);
     let inner = Scope::inside(bytes(text, b.name), sort, &*scope);
     let body = boxed(alloc, text, draft, &inner, body)?;
     match q {
@@ -115,11 +210,11 @@ fn quantified(
 }
 
 // The number of a sort, and 0 where it is unknown.
-fn sort_number(text: &[u8], draft: &ModelDraft, name: Name) -> u32
+pub fn sort_number(text: &[u8], known: &Declarations, name: Name) -> u32
     requires { NameWithin (length text.now) name }
-    ensures { result ≡ sort_number text.now (model_in draft.now) name }
+    ensures { result ≡ sort_number text.now (words_in known.now) name }
 {
-    draft.sort(bytes(text, name)).unwrap_or(0)
+    known.sort(bytes(text, name)).unwrap_or(0)
 }
 
 #[cycle(formula)]
@@ -133,9 +228,10 @@ fn boxed(
     requires nests { ExprNests (108 - length (bound_names scope.now)) (expr_tree e.now) }
     requires few { length (bound_names scope.now) ≤ 108 }
     requires within { ExprWithin (length text.now) (expr_tree e.now) }
-    requires sound { IsSound (model_in draft.now) }
+    requires sound { IsSorted (words_in draft.now.declared) }
     ensures { IfOk result (λ p. form p.value
-        ≡ formula_of text.now (model_in draft.now) (bound_names scope.now) (expr_tree e.now)) }
+        ≡ formula_of text.now (words_in draft.now.declared) draft.now.bodies.items (bound_names scope.now)
+        (expr_tree e.now)) }
 {
     let p = formula(alloc, text, draft, scope, e)?;
     Ok(Box::new(alloc, p)?)
@@ -153,9 +249,10 @@ pub fn formulas(
     requires nests { ExprsNest (108 - length (bound_names scope.now)) (exprs_of (expr_trees es.now)) }
     requires few { length (bound_names scope.now) ≤ 108 }
     requires within { ExprsWithin (length text.now) (exprs_of (expr_trees es.now)) }
-    requires sound { IsSound (model_in draft.now) }
+    requires sound { IsSorted (words_in draft.now.declared) }
     ensures { IfOk result (λ ps. forms ps.items
-        ≡ formulas_of text.now (model_in draft.now) (bound_names scope.now) (exprs_of (expr_trees es.now))) }
+        ≡ formulas_of text.now (words_in draft.now.declared) draft.now.bodies.items (bound_names scope.now)
+        (exprs_of (expr_trees es.now))) }
 {
     fol_formula::lists();
     let mut all = Vec::with_capacity(alloc, es.len())?;
@@ -171,9 +268,10 @@ pub fn term(alloc: Global, text: &[u8], draft: &ModelDraft, scope: &Scope, e: &E
     requires nests { ExprNests (108 - length (bound_names scope.now)) (expr_tree e.now) }
     requires few { length (bound_names scope.now) ≤ 108 }
     requires within { ExprWithin (length text.now) (expr_tree e.now) }
-    requires sound { IsSound (model_in draft.now) }
+    requires sound { IsSorted (words_in draft.now.declared) }
     ensures { IfOk result (λ t. term_view t
-        ≡ term_of text.now (model_in draft.now) (bound_names scope.now) (expr_tree e.now)) }
+        ≡ term_of text.now (words_in draft.now.declared) draft.now.bodies.items (bound_names scope.now)
+        (expr_tree e.now)) }
 {
     match e {
         Expr::Apply(name, args) => application(alloc, text, draft, scope, *name, args),
@@ -207,17 +305,19 @@ fn application(
     requires nests { ExprNests (108 - length (bound_names scope.now)) (Apply name (exprs_of (expr_trees args.now))) }
     requires few { length (bound_names scope.now) ≤ 108 }
     requires within { ExprWithin (length text.now) (Apply name (exprs_of (expr_trees args.now))) }
-    requires sound { IsSound (model_in draft.now) }
+    requires sound { IsSorted (words_in draft.now.declared) }
     ensures { IfOk result (λ t. term_view t
-        ≡ term_of text.now (model_in draft.now) (bound_names scope.now) (Apply name (exprs_of (expr_trees args.now)))) }
+        ≡ term_of text.now (words_in draft.now.declared) draft.now.bodies.items (bound_names scope.now)
+        (Apply name (exprs_of (expr_trees args.now)))) }
 {
-    match draft.meaning_from(0, scope, bytes(text, name)) {
+    match draft.declared.meaning_from(0, scope, bytes(text, name)) {
         Meaning::Bound(index, _) => Ok(Term::Bound(index)),
         Meaning::Function(place) => {
             let args = terms(alloc, text, draft, scope, args)?;
             Ok(Term::App(FunId(place), args))
         }
         Meaning::Relation(_) => Ok(Term::Bound(0)),
+        Meaning::Derived(_) => Ok(Term::Bound(0)),
         Meaning::Unknown => Ok(Term::Bound(0)),
     }
 }
@@ -233,9 +333,10 @@ fn boxed_term(
     requires nests { ExprNests (108 - length (bound_names scope.now)) (expr_tree e.now) }
     requires few { length (bound_names scope.now) ≤ 108 }
     requires within { ExprWithin (length text.now) (expr_tree e.now) }
-    requires sound { IsSound (model_in draft.now) }
+    requires sound { IsSorted (words_in draft.now.declared) }
     ensures { IfOk result (λ t. term_view t.value
-        ≡ term_of text.now (model_in draft.now) (bound_names scope.now) (expr_tree e.now)) }
+        ≡ term_of text.now (words_in draft.now.declared) draft.now.bodies.items (bound_names scope.now)
+        (expr_tree e.now)) }
 {
     let t = term(alloc, text, draft, scope, e)?;
     Ok(Box::new(alloc, t)?)
@@ -253,9 +354,10 @@ pub fn terms(
     requires nests { ExprsNest (108 - length (bound_names scope.now)) (exprs_of (expr_trees es.now)) }
     requires few { length (bound_names scope.now) ≤ 108 }
     requires within { ExprsWithin (length text.now) (exprs_of (expr_trees es.now)) }
-    requires sound { IsSound (model_in draft.now) }
+    requires sound { IsSorted (words_in draft.now.declared) }
     ensures { IfOk result (λ ts. terms_view ts.items
-        ≡ terms_of text.now (model_in draft.now) (bound_names scope.now) (exprs_of (expr_trees es.now))) }
+        ≡ terms_of text.now (words_in draft.now.declared) draft.now.bodies.items (bound_names scope.now)
+        (exprs_of (expr_trees es.now))) }
 {
     fol_formula::lists();
     let mut all = Vec::with_capacity(alloc, es.len())?;

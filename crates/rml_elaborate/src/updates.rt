@@ -8,25 +8,26 @@ ghost use Rattle.rml_terms.specs.Tree.{expr_tree, expr_trees, exprs_of};
 ghost use Rattle.rml_terms.specs.Shape.{ExprNests, ExprsNest};
 ghost use Rattle.rml_syntax.specs.Shape.{SideNests};
 ghost use Rattle.rml_terms.specs.Within.{NameWithin, NamesWithin, ExprWithin, ExprsWithin};
-ghost use Rattle.rml_syntax.specs.Within.{ValueWithin};
+ghost use Rattle.rml_syntax.specs.Within.{ValueWithin, BindersWithin};
 ghost use Rattle.rml_command.specs.View.{primitive};
 ghost use Rattle.rml_names.specs.Meanings.{bytes_of, symbol_of, argument_sorts as sorts_of_arguments};
-ghost use Rattle.rml_names.specs.Meanings.{with_parameters as names_with};
+ghost use Rattle.rml_names.specs.Meanings.{with_parameters as names_with, with_binders};
 ghost use Rattle.rml_elaborate.specs.Formulas.{formula_of, term_of, terms_of};
 ghost use Rattle.rml_elaborate.specs.Updates.{insertion as insertion_of, removal as removal_of};
 ghost use Rattle.rml_elaborate.specs.Updates.{placement as placement_of, assignment as assignment_of, at_tuple};
-ghost use Rattle.rml_elaborate.specs.Updates.{equations as equations_of, parameters as parameters_of};
+ghost use Rattle.rml_elaborate.specs.Updates.{equations as equations_of, definition as definition_of};
+ghost use Rattle.rml_command.specs.Fresh.{parameters as parameters_of};
 ghost use Rattle.rml_names.specs.Scopes.{bound_names};
-ghost use Rattle.rml_names.specs.Drafts.{model_in};
-ghost use Rattle.rml_names.specs.Sound.{IsSound};
+ghost use Rattle.rml_names.specs.Drafts.{words_in};
+ghost use Rattle.rml_names.specs.Sound.{IsSorted};
 
-use crate::formulas::{formula, term};
+use crate::formulas::{formula, sort_number, term};
 use base::Mem;
 use fol_formula::{Formula, Term};
 use fol_sig::{FunId, RelId, Sort};
 use rml_command::Primitive;
 use rml_names::{Meaning, ModelDraft, Scope, bytes};
-use rml_terms::{Expr, Name};
+use rml_terms::{Binder, Expr, Name};
 use std::alloc::Global;
 
 /// insert r(t..) is r(x..) := r(x..) | (x1 = t1 & ..)
@@ -41,13 +42,13 @@ pub fn insertion(
     requires nests { ExprsNest 100 (exprs_of (expr_trees args.now)) }
     requires name { NameWithin (length text.now) name }
     requires within { ExprsWithin (length text.now) (exprs_of (expr_trees args.now)) }
-    requires sound { IsSound (model_in draft.now) }
+    requires sound { IsSorted (words_in draft.now.declared) }
     requires few { length args.now ≤ 8 }
     ensures { IfOk result (λ p. primitive p
-        ≡ insertion_of (symbol_of (model_in draft.now) (bytes_of text.now name))
-        (terms_of text.now (model_in draft.now) [] (exprs_of (expr_trees args.now)))) }
+        ≡ insertion_of (symbol_of (words_in draft.now.declared) (bytes_of text.now name))
+        (terms_of text.now (words_in draft.now.declared) draft.now.bodies.items [] (exprs_of (expr_trees args.now)))) }
 {
-    match draft.symbol(bytes(text, name)) {
+    match draft.declared.symbol(bytes(text, name)) {
         Meaning::Relation(place) => {
             let held = atom(alloc, RelId(place), args.len() as u32)?;
             let tuple = tuple(alloc, text, draft, args)?;
@@ -56,6 +57,7 @@ pub fn insertion(
         }
         Meaning::Bound(_, _) => Ok(Primitive::Abort),
         Meaning::Function(_) => Ok(Primitive::Abort),
+        Meaning::Derived(_) => Ok(Primitive::Abort),
         Meaning::Unknown => Ok(Primitive::Abort),
     }
 }
@@ -72,13 +74,13 @@ pub fn removal(
     requires nests { ExprsNest 100 (exprs_of (expr_trees args.now)) }
     requires name { NameWithin (length text.now) name }
     requires within { ExprsWithin (length text.now) (exprs_of (expr_trees args.now)) }
-    requires sound { IsSound (model_in draft.now) }
+    requires sound { IsSorted (words_in draft.now.declared) }
     requires few { length args.now ≤ 8 }
     ensures { IfOk result (λ p. primitive p
-        ≡ removal_of (symbol_of (model_in draft.now) (bytes_of text.now name))
-        (terms_of text.now (model_in draft.now) [] (exprs_of (expr_trees args.now)))) }
+        ≡ removal_of (symbol_of (words_in draft.now.declared) (bytes_of text.now name))
+        (terms_of text.now (words_in draft.now.declared) draft.now.bodies.items [] (exprs_of (expr_trees args.now)))) }
 {
-    match draft.symbol(bytes(text, name)) {
+    match draft.declared.symbol(bytes(text, name)) {
         Meaning::Relation(place) => {
             let held = atom(alloc, RelId(place), args.len() as u32)?;
             let tuple = tuple(alloc, text, draft, args)?;
@@ -87,6 +89,7 @@ pub fn removal(
         }
         Meaning::Bound(_, _) => Ok(Primitive::Abort),
         Meaning::Function(_) => Ok(Primitive::Abort),
+        Meaning::Derived(_) => Ok(Primitive::Abort),
         Meaning::Unknown => Ok(Primitive::Abort),
     }
 }
@@ -106,14 +109,14 @@ pub fn placement(
     requires name { NameWithin (length text.now) name }
     requires within { ExprsWithin (length text.now) (exprs_of (expr_trees args.now)) }
     requires value_within { ExprWithin (length text.now) (expr_tree value.now) }
-    requires sound { IsSound (model_in draft.now) }
+    requires sound { IsSorted (words_in draft.now.declared) }
     requires few { length args.now ≤ 8 }
     ensures { IfOk result (λ p. primitive p
-        ≡ placement_of (symbol_of (model_in draft.now) (bytes_of text.now name))
-        (terms_of text.now (model_in draft.now) [] (exprs_of (expr_trees args.now)))
-        (term_of text.now (model_in draft.now) [] (expr_tree value.now))) }
+        ≡ placement_of (symbol_of (words_in draft.now.declared) (bytes_of text.now name))
+        (terms_of text.now (words_in draft.now.declared) draft.now.bodies.items [] (exprs_of (expr_trees args.now)))
+        (term_of text.now (words_in draft.now.declared) draft.now.bodies.items [] (expr_tree value.now))) }
 {
-    match draft.symbol(bytes(text, name)) {
+    match draft.declared.symbol(bytes(text, name)) {
         Meaning::Function(place) => {
             let tuple = tuple(alloc, text, draft, args)?;
             let value = term_outside(alloc, text, draft, value)?;
@@ -123,11 +126,12 @@ pub fn placement(
         }
         Meaning::Bound(_, _) => Ok(Primitive::Abort),
         Meaning::Relation(_) => Ok(Primitive::Abort),
+        Meaning::Derived(_) => Ok(Primitive::Abort),
         Meaning::Unknown => Ok(Primitive::Abort),
     }
 }
 
-/// r(x..) := phi, f(x..) := t, and v := *
+/// r(x..) := phi, f(x..) := t, v := * and r(x..) := *
 pub fn assignment(
     alloc: Global,
     text: &[u8],
@@ -140,19 +144,21 @@ pub fn assignment(
     requires name { NameWithin (length text.now) name }
     requires parameters { NamesWithin (length text.now) parameters.now }
     requires within { ValueWithin (length text.now) (option_map expr_tree value.now) }
-    requires sound { IsSound (model_in draft.now) }
+    requires sound { IsSorted (words_in draft.now.declared) }
     ensures { IfOk result (λ p. primitive p
-        ≡ assignment_of text.now (model_in draft.now) (symbol_of (model_in draft.now) (bytes_of text.now name))
+        ≡ assignment_of text.now (words_in draft.now.declared) draft.now.bodies.items
+        (symbol_of (words_in draft.now.declared) (bytes_of text.now name))
         parameters.now (option_map expr_tree value.now)) }
 {
-    let meaning = draft.symbol(bytes(text, name));
-    let sorts = draft.argument_sorts(meaning);
+    let meaning = draft.declared.symbol(bytes(text, name));
+    let sorts = draft.declared.argument_sorts(meaning);
     match value {
         Some(e) => set_to(alloc, text, draft, meaning, parameters, sorts, e),
         None => match meaning {
             Meaning::Function(place) => Ok(Primitive::Havoc(FunId(place))),
+            Meaning::Relation(place) => Ok(Primitive::HavocRel(RelId(place))),
             Meaning::Bound(_, _) => Ok(Primitive::Abort),
-            Meaning::Relation(_) => Ok(Primitive::Abort),
+            Meaning::Derived(_) => Ok(Primitive::Abort),
             Meaning::Unknown => Ok(Primitive::Abort),
         },
     }
@@ -172,10 +178,11 @@ fn set_to(
     requires nests { ExprNests 100 (expr_tree e.now) }
     requires within { ExprWithin (length text.now) (expr_tree e.now) }
     requires few { length sorts.now ≤ 8 }
-    requires sorts { numbers sorts.now ≡ sorts_of_arguments (model_in draft.now) meaning }
-    requires sound { IsSound (model_in draft.now) }
+    requires sorts { numbers sorts.now ≡ sorts_of_arguments (words_in draft.now.declared) meaning }
+    requires sound { IsSorted (words_in draft.now.declared) }
     ensures { IfOk result (λ p. primitive p
-        ≡ assignment_of text.now (model_in draft.now) meaning parameters.now (Some (expr_tree e.now))) }
+        ≡ assignment_of text.now (words_in draft.now.declared) draft.now.bodies.items meaning parameters.now
+        (Some (expr_tree e.now))) }
 {
     match meaning {
         Meaning::Relation(place) => {
@@ -187,6 +194,7 @@ fn set_to(
             Ok(Primitive::SetFun(FunId(place), by))
         }
         Meaning::Bound(_, _) => Ok(Primitive::Abort),
+        Meaning::Derived(_) => Ok(Primitive::Abort),
         Meaning::Unknown => Ok(Primitive::Abort),
     }
 }
@@ -205,9 +213,9 @@ fn formula_under(
     requires nests { ExprNests 100 (expr_tree e.now) }
     requires within { ExprWithin (length text.now) (expr_tree e.now) }
     requires few { length (bound_names scope.now) + length sorts.now ≤ 8 }
-    requires sound { IsSound (model_in draft.now) }
+    requires sound { IsSorted (words_in draft.now.declared) }
     ensures { IfOk result (λ p. form p
-        ≡ formula_of text.now (model_in draft.now)
+        ≡ formula_of text.now (words_in draft.now.declared) draft.now.bodies.items
         (names_with text.now (bound_names scope.now) parameters.now (numbers sorts.now)) (expr_tree e.now)) }
 {
     if let [parameter, more @ ..] = parameters {
@@ -235,9 +243,9 @@ fn term_under(
     requires nests { ExprNests 100 (expr_tree e.now) }
     requires within { ExprWithin (length text.now) (expr_tree e.now) }
     requires few { length (bound_names scope.now) + length sorts.now ≤ 8 }
-    requires sound { IsSound (model_in draft.now) }
+    requires sound { IsSorted (words_in draft.now.declared) }
     ensures { IfOk result (λ t. term_view t
-        ≡ term_of text.now (model_in draft.now)
+        ≡ term_of text.now (words_in draft.now.declared) draft.now.bodies.items
         (names_with text.now (bound_names scope.now) parameters.now (numbers sorts.now)) (expr_tree e.now)) }
 {
     if let [parameter, more @ ..] = parameters {
@@ -255,19 +263,73 @@ fn term_under(
 fn term_outside(alloc: Global, text: &[u8], draft: &ModelDraft, e: &Expr) -> Mem<Term>
     requires nests { ExprNests 100 (expr_tree e.now) }
     requires within { ExprWithin (length text.now) (expr_tree e.now) }
-    requires sound { IsSound (model_in draft.now) }
-    ensures { IfOk result (λ t. term_view t ≡ term_of text.now (model_in draft.now) [] (expr_tree e.now)) }
+    requires sound { IsSorted (words_in draft.now.declared) }
+    ensures { IfOk result
+        (λ t. term_view t ≡ term_of text.now (words_in draft.now.declared) draft.now.bodies.items []
+        (expr_tree e.now)) }
 {
     let t = term(alloc, text, draft, &Scope::Outside, e)?;
     Ok(t)
+}
+
+/// The right side of a definition, with its parameters free: the last one is the index 0.
+pub fn definition(
+    alloc: Global,
+    text: &[u8],
+    draft: &ModelDraft,
+    parameters: &[Binder],
+    e: &Expr,
+) -> Mem<Formula>
+    requires parameters { BindersWithin (length text.now) parameters.now }
+    requires few { length parameters.now ≤ 8 }
+    requires nests { ExprNests 100 (expr_tree e.now) }
+    requires within { ExprWithin (length text.now) (expr_tree e.now) }
+    requires sound { IsSorted (words_in draft.now.declared) }
+    ensures { IfOk result (λ p. form p
+        ≡ definition_of text.now (words_in draft.now.declared) draft.now.bodies.items parameters.now
+        (expr_tree e.now)) }
+{
+    let outside = Scope::outside();
+    let p = definition_under(alloc, text, draft, &outside, parameters, e)?;
+    Ok(p)
+}
+
+// The formula of an expression, with the parameters of a definition put into the scope one after the other.
+fn definition_under(
+    alloc: Global,
+    text: &[u8],
+    draft: &ModelDraft,
+    scope: &Scope,
+    parameters: &[Binder],
+    e: &Expr,
+) -> Mem<Formula>
+    requires parameters { BindersWithin (length text.now) parameters.now }
+    requires nests { ExprNests 100 (expr_tree e.now) }
+    requires within { ExprWithin (length text.now) (expr_tree e.now) }
+    requires few { length (bound_names scope.now) + length parameters.now ≤ 8 }
+    requires sound { IsSorted (words_in draft.now.declared) }
+    ensures { IfOk result (λ p. form p
+        ≡ formula_of text.now (words_in draft.now.declared) draft.now.bodies.items
+        (with_binders text.now (words_in draft.now.declared) (bound_names scope.now) parameters.now)
+        (expr_tree e.now)) }
+{
+    if let [b, more @ ..] = parameters {
+        let sort = sort_number(text, &draft.declared, b.sort);
+        let inner = Scope::inside(bytes(text, b.name), sort, &*scope);
+        let p = definition_under(alloc, text, draft, &inner, more, e)?;
+        return Ok(p);
+    }
+    let p = formula(alloc, text, draft, scope, e)?;
+    Ok(p)
 }
 
 /// The formula of an expression without binders around it.
 pub fn formula_outside(alloc: Global, text: &[u8], draft: &ModelDraft, e: &Expr) -> Mem<Formula>
     requires nests { ExprNests 100 (expr_tree e.now) }
     requires within { ExprWithin (length text.now) (expr_tree e.now) }
-    requires sound { IsSound (model_in draft.now) }
-    ensures { IfOk result (λ p. form p ≡ formula_of text.now (model_in draft.now) [] (expr_tree e.now)) }
+    requires sound { IsSorted (words_in draft.now.declared) }
+    ensures { IfOk result
+        (λ p. form p ≡ formula_of text.now (words_in draft.now.declared) draft.now.bodies.items [] (expr_tree e.now)) }
 {
     let p = formula(alloc, text, draft, &Scope::Outside, e)?;
     Ok(p)
@@ -337,10 +399,11 @@ fn choice(alloc: Global, p: Formula, a: Term, b: Term) -> Mem<Term>
 fn tuple(alloc: Global, text: &[u8], draft: &ModelDraft, args: &[Expr]) -> Mem<Formula>
     requires nests { ExprsNest 100 (exprs_of (expr_trees args.now)) }
     requires within { ExprsWithin (length text.now) (exprs_of (expr_trees args.now)) }
-    requires sound { IsSound (model_in draft.now) }
+    requires sound { IsSorted (words_in draft.now.declared) }
     requires few { length args.now ≤ 8 }
     ensures { IfOk result (λ p. form p
-        ≡ at_tuple (terms_of text.now (model_in draft.now) [] (exprs_of (expr_trees args.now)))) }
+        ≡ at_tuple (terms_of text.now (words_in draft.now.declared) draft.now.bodies.items []
+        (exprs_of (expr_trees args.now)))) }
 {
     let all = equations(alloc, text, draft, args)?;
     Ok(Formula::And(all))
@@ -349,10 +412,11 @@ fn tuple(alloc: Global, text: &[u8], draft: &ModelDraft, args: &[Expr]) -> Mem<F
 fn equations(alloc: Global, text: &[u8], draft: &ModelDraft, args: &[Expr]) -> Mem<Vec<Formula>>
     requires nests { ExprsNest 100 (exprs_of (expr_trees args.now)) }
     requires within { ExprsWithin (length text.now) (exprs_of (expr_trees args.now)) }
-    requires sound { IsSound (model_in draft.now) }
+    requires sound { IsSorted (words_in draft.now.declared) }
     requires few { length args.now ≤ 8 }
     ensures { IfOk result (λ ps. forms ps.items
-        ≡ equations_of (terms_of text.now (model_in draft.now) [] (exprs_of (expr_trees args.now)))) }
+        ≡ equations_of (terms_of text.now (words_in draft.now.declared) draft.now.bodies.items []
+        (exprs_of (expr_trees args.now)))) }
 {
     fol_formula::lists();
     let mut all = Vec::with_capacity(alloc, args.len())?;

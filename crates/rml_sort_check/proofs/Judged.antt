@@ -9,7 +9,7 @@ use Rattle.rml_terms.specs.declared.tree.Expr.{Expr}
 use Rattle.rml_terms.specs.declared.tree.Name.{Name}
 use Rattle.rml_terms.specs.Tree.{ExprTree, ExprTrees, Apply, Ite, Equal, Implies, Iff, no_expr, and_expr, exprs_of}
 use Rattle.rml_terms.specs.Tree.{expr_tree, expr_trees}
-use Rattle.rml_command.specs.Models.{ModelTree}
+use Rattle.rml_names.specs.Vocabulary.{Vocabulary}
 use Rattle.rml_names.specs.declared.meaning.Meaning.{Meaning}
 use Rattle.rml_sort_check.specs.declared.wanted.Wanted.{Wanted}
 use Rattle.rml_sort_check.specs.declared.wanted.Wanted.TheVariants.{Formula, Term}
@@ -70,7 +70,7 @@ exprs-drop es i e lt is =
     ∙ ap (λ (x : Expr). and_expr (expr_tree x) (exprs_of (expr_trees (drop (i + 1) es)))) (sym is)
 
 -- A turn of a walk over expressions: one that has no fault leaves those behind it, the fault of one is that of all.
-module _ (text : List ℕ) (m : ModelTree) (bound : List BoundName) where
+module _ (text : List ℕ) (m : Vocabulary) (bound : List BoundName) where
   pub formulas-turn : (es : List Expr) (i : ℕ) (e : Expr) (whole : Option Fault) → i < length es → e ≡ get_or es i e
       → first_fault (demands text m bound Formula (expr_tree e)) ≡ None
       → first_fault (formula_demands text m bound (exprs_of (expr_trees (drop i es)))) ≡ whole

@@ -13,14 +13,14 @@ ghost use Rattle.rml_sort_check.specs.Demands.{no_term_code as code_of_no_term, 
 ghost use Rattle.rml_sort_check.specs.Demands.{is_told_first, binder_demands, demands, formula_demands};
 ghost use Rattle.rml_sort_check.specs.Demands.{argument_demands};
 ghost use Rattle.rml_names.specs.Scopes.{bound_names};
-ghost use Rattle.rml_names.specs.Drafts.{model_in};
-ghost use Rattle.rml_names.specs.Sound.{IsSound, IsDeclared};
+ghost use Rattle.rml_names.specs.Drafts.{words_in};
+ghost use Rattle.rml_names.specs.Sound.{IsSorted, IsDeclared};
 ghost use Rattle.rml_sort_check.specs.Judging.{compound_fault, first_of as first_fault_of};
 
 use crate::wanted::Wanted;
 use fol_sig::Sort;
 use rml_lex::{Fault, FaultCode};
-use rml_names::{Meaning, ModelDraft, Scope, bytes};
+use rml_names::{Declarations, Meaning, Scope, bytes};
 use rml_terms::{Binder, Expr, Name, Quantifier};
 
 // The fault of one demand.
@@ -34,7 +34,8 @@ pub fn is_known(meaning: Meaning) -> bool
     ensures { result ≡ means_known meaning }
 {
     match meaning {
-        Meaning::Bound(_, _) | Meaning::Relation(_) | Meaning::Function(_) => true,
+        Meaning::Bound(_, _) | Meaning::Relation(_) | Meaning::Function(_) | Meaning::Derived(_) =>
+            true,
         Meaning::Unknown => false,
     }
 }
@@ -43,7 +44,7 @@ pub fn is_relation(meaning: Meaning) -> bool
     ensures { result ≡ means_relation meaning }
 {
     match meaning {
-        Meaning::Relation(_) => true,
+        Meaning::Relation(_) | Meaning::Derived(_) => true,
         Meaning::Bound(_, _) | Meaning::Function(_) | Meaning::Unknown => false,
     }
 }
@@ -97,14 +98,14 @@ fn compound_fault(wanted: Wanted, at: u64, parts: Option<Fault>) -> Option<Fault
 }
 
 fn name_fault(
-    draft: &ModelDraft,
+    known: &Declarations,
     wanted: Wanted,
     meaning: Meaning,
     at: u64,
     count: usize,
 ) -> Option<Fault>
-    requires { IsDeclared (model_in draft.now) meaning }
-    ensures { result ≡ first_fault (name_demands (model_in draft.now) wanted meaning at count) }
+    requires { IsDeclared (words_in known.now) meaning }
+    ensures { result ≡ first_fault (name_demands (words_in known.now) wanted meaning at count) }
 {
     if !is_known(meaning) {
         return Some(Fault {
@@ -112,7 +113,7 @@ fn name_fault(
             at,
         });
     }
-    let counted = count == draft.argument_sorts(meaning).len();
+    let counted = count == known.argument_sorts(meaning).len();
     match wanted {
         Wanted::Formula => {
             if !is_relation(meaning) {
@@ -130,7 +131,7 @@ fn name_fault(
                     at,
                 });
             }
-            if !is_expected(expected, draft.result_sort(meaning)) {
+            if !is_expected(expected, known.result_sort(meaning)) {
                 return Some(Fault {
                     code: FaultCode::WrongSort,
                     at,
@@ -142,15 +143,15 @@ fn name_fault(
 }
 
 // The sort that an expression has as a term.
-pub fn term_sort(text: &[u8], draft: &ModelDraft, scope: &Scope, e: &Expr) -> Option<u32>
+pub fn term_sort(text: &[u8], known: &Declarations, scope: &Scope, e: &Expr) -> Option<u32>
     requires few { length (bound_names scope.now) ≤ 108 }
     requires within { ExprWithin (length text.now) (expr_tree e.now) }
-    requires sound { IsSound (model_in draft.now) }
-    ensures { result ≡ sort_of_term text.now (model_in draft.now) (bound_names scope.now) (expr_tree e.now) }
+    requires sound { IsSorted (words_in known.now) }
+    ensures { result ≡ sort_of_term text.now (words_in known.now) (bound_names scope.now) (expr_tree e.now) }
 {
     match e {
-        Expr::Apply(name, _) => draft.result_sort(draft.meaning_from(0, scope, bytes(text, *name))),
-        Expr::Ite(_, _, a, _) => term_sort(text, draft, scope, a),
+        Expr::Apply(name, _) => known.result_sort(known.meaning_from(0, scope, bytes(text, *name))),
+        Expr::Ite(_, _, a, _) => term_sort(text, known, scope, a),
         Expr::True(_) | Expr::False(_) | Expr::Equal(_, _, _) | Expr::Not(_, _) => None,
         Expr::And(_, _) | Expr::Or(_, _) | Expr::Implies(_, _, _) | Expr::Iff(_, _, _) => None,
         Expr::Quantified(_, _, _, _) => None,
@@ -181,7 +182,7 @@ pub fn first_of(first: Option<Fault>, second: Option<Fault>) -> Option<Fault>
 #[cycle(judging)]
 pub fn expression_fault(
     text: &[u8],
-    draft: &ModelDraft,
+    known: &Declarations,
     scope: &Scope,
     wanted: Wanted,
     e: &Expr,
@@ -189,47 +190,47 @@ pub fn expression_fault(
     requires nests { ExprNests (108 - length (bound_names scope.now)) (expr_tree e.now) }
     requires few { length (bound_names scope.now) ≤ 108 }
     requires within { ExprWithin (length text.now) (expr_tree e.now) }
-    requires sound { IsSound (model_in draft.now) }
+    requires sound { IsSorted (words_in known.now) }
     ensures { result ≡ first_fault
-        (demands text.now (model_in draft.now) (bound_names scope.now) wanted (expr_tree e.now)) }
+        (demands text.now (words_in known.now) (bound_names scope.now) wanted (expr_tree e.now)) }
 {
     match e {
         Expr::True(at) | Expr::False(at) => compound_fault(wanted, *at, None),
-        Expr::Apply(name, args) => application_fault(text, draft, scope, wanted, *name, args),
+        Expr::Apply(name, args) => application_fault(text, known, scope, wanted, *name, args),
         Expr::Ite(at, c, a, b) => match wanted {
             Wanted::Formula => Some(Fault {
                 code: FaultCode::NotAFormula,
                 at: *at,
             }),
             Wanted::Term(expected) => {
-                let condition = expression_fault(text, draft, scope, Wanted::Formula, c);
-                let first = expression_fault(text, draft, scope, Wanted::Term(expected), a);
-                let sort = second_sort(expected, term_sort(text, draft, scope, a));
-                let second = expression_fault(text, draft, scope, Wanted::Term(sort), b);
+                let condition = expression_fault(text, known, scope, Wanted::Formula, c);
+                let first = expression_fault(text, known, scope, Wanted::Term(expected), a);
+                let sort = second_sort(expected, term_sort(text, known, scope, a));
+                let second = expression_fault(text, known, scope, Wanted::Term(sort), b);
                 first_of(condition, first_of(first, second))
             }
         },
         Expr::Equal(at, a, b) => {
-            let left = expression_fault(text, draft, scope, Wanted::Term(None), a);
-            let sort = term_sort(text, draft, scope, a);
-            let right = expression_fault(text, draft, scope, Wanted::Term(sort), b);
+            let left = expression_fault(text, known, scope, Wanted::Term(None), a);
+            let sort = term_sort(text, known, scope, a);
+            let right = expression_fault(text, known, scope, Wanted::Term(sort), b);
             compound_fault(wanted, *at, first_of(left, right))
         }
         Expr::Not(at, a) => {
-            let part = expression_fault(text, draft, scope, Wanted::Formula, a);
+            let part = expression_fault(text, known, scope, Wanted::Formula, a);
             compound_fault(wanted, *at, part)
         }
         Expr::And(at, args) | Expr::Or(at, args) => {
-            let parts = formulas_fault(text, draft, scope, args);
+            let parts = formulas_fault(text, known, scope, args);
             compound_fault(wanted, *at, parts)
         }
         Expr::Implies(at, a, b) | Expr::Iff(at, a, b) => {
-            let left = expression_fault(text, draft, scope, Wanted::Formula, a);
-            let right = expression_fault(text, draft, scope, Wanted::Formula, b);
+            let left = expression_fault(text, known, scope, Wanted::Formula, a);
+            let right = expression_fault(text, known, scope, Wanted::Formula, b);
             compound_fault(wanted, *at, first_of(left, right))
         }
         Expr::Quantified(quantifier, at, binder, a) => {
-            let part = quantified_fault(text, draft, scope, *quantifier, *at, *binder, a);
+            let part = quantified_fault(text, known, scope, *quantifier, *at, *binder, a);
             compound_fault(wanted, *at, part)
         }
     }
@@ -239,7 +240,7 @@ pub fn expression_fault(
 #[cycle(judging)]
 fn application_fault(
     text: &[u8],
-    draft: &ModelDraft,
+    known: &Declarations,
     scope: &Scope,
     wanted: Wanted,
     name: Name,
@@ -249,14 +250,14 @@ fn application_fault(
         (ApplyTree name (exprs_of (expr_trees args.now))) }
     requires few { length (bound_names scope.now) ≤ 108 }
     requires within { ExprWithin (length text.now) (ApplyTree name (exprs_of (expr_trees args.now))) }
-    requires sound { IsSound (model_in draft.now) }
+    requires sound { IsSorted (words_in known.now) }
     ensures { result ≡ first_fault
-        (demands text.now (model_in draft.now) (bound_names scope.now) wanted
+        (demands text.now (words_in known.now) (bound_names scope.now) wanted
         (ApplyTree name (exprs_of (expr_trees args.now)))) }
 {
-    let meaning = draft.meaning_from(0, scope, bytes(text, name));
-    let named = name_fault(draft, wanted, meaning, name.start, args.len());
-    let applied = arguments_fault(text, draft, scope, args, draft.argument_sorts(meaning));
+    let meaning = known.meaning_from(0, scope, bytes(text, name));
+    let named = name_fault(known, wanted, meaning, name.start, args.len());
+    let applied = arguments_fault(text, known, scope, args, known.argument_sorts(meaning));
     first_of(named, applied)
 }
 
@@ -264,7 +265,7 @@ fn application_fault(
 #[cycle(judging)]
 fn quantified_fault(
     text: &[u8],
-    draft: &ModelDraft,
+    known: &Declarations,
     scope: &Scope,
     quantifier: Quantifier,
     at: u64,
@@ -275,40 +276,40 @@ fn quantified_fault(
         (QuantifiedTree quantifier at binder (expr_tree body.now)) }
     requires few { length (bound_names scope.now) ≤ 108 }
     requires within { ExprWithin (length text.now) (QuantifiedTree quantifier at binder (expr_tree body.now)) }
-    requires sound { IsSound (model_in draft.now) }
+    requires sound { IsSorted (words_in known.now) }
     ensures { result ≡ first_fault
-        (demands text.now (model_in draft.now) (bound_names scope.now) Formula
+        (demands text.now (words_in known.now) (bound_names scope.now) Formula
         (QuantifiedTree quantifier at binder (expr_tree body.now))) }
 {
     let name = bytes(text, binder.name);
-    if draft.is_symbol(name) {
+    if known.is_symbol(name) {
         return Some(Fault {
             code: FaultCode::TakenName,
             at: binder.name.start,
         });
     }
-    let Some(sort) = draft.sort(bytes(text, binder.sort)) else {
+    let Some(sort) = known.sort(bytes(text, binder.sort)) else {
         return Some(Fault {
             code: FaultCode::UnknownName,
             at: binder.sort.start,
         });
     };
     let inside = Scope::inside(name, sort, &*scope);
-    expression_fault(text, draft, &inside, Wanted::Formula, body)
+    expression_fault(text, known, &inside, Wanted::Formula, body)
 }
 
 // The operands of a connective.
 #[cycle(judging)]
-fn formulas_fault(text: &[u8], draft: &ModelDraft, scope: &Scope, args: &[Expr]) -> Option<Fault>
+fn formulas_fault(text: &[u8], known: &Declarations, scope: &Scope, args: &[Expr]) -> Option<Fault>
     requires nests { ExprsNest (108 - length (bound_names scope.now)) (exprs_of (expr_trees args.now)) }
     requires few { length (bound_names scope.now) ≤ 108 }
     requires within { ExprsWithin (length text.now) (exprs_of (expr_trees args.now)) }
-    requires sound { IsSound (model_in draft.now) }
+    requires sound { IsSorted (words_in known.now) }
     ensures { result ≡ first_fault
-        (formula_demands text.now (model_in draft.now) (bound_names scope.now) (exprs_of (expr_trees args.now))) }
+        (formula_demands text.now (words_in known.now) (bound_names scope.now) (exprs_of (expr_trees args.now))) }
 {
     for e in args {
-        if let Some(fault) = expression_fault(text, draft, scope, Wanted::Formula, e) {
+        if let Some(fault) = expression_fault(text, known, scope, Wanted::Formula, e) {
             return Some(fault);
         }
     }
@@ -319,7 +320,7 @@ fn formulas_fault(text: &[u8], draft: &ModelDraft, scope: &Scope, args: &[Expr])
 #[cycle(judging)]
 pub fn arguments_fault(
     text: &[u8],
-    draft: &ModelDraft,
+    known: &Declarations,
     scope: &Scope,
     args: &[Expr],
     sorts: &[Sort],
@@ -327,9 +328,9 @@ pub fn arguments_fault(
     requires nests { ExprsNest (108 - length (bound_names scope.now)) (exprs_of (expr_trees args.now)) }
     requires few { length (bound_names scope.now) ≤ 108 }
     requires within { ExprsWithin (length text.now) (exprs_of (expr_trees args.now)) }
-    requires sound { IsSound (model_in draft.now) }
+    requires sound { IsSorted (words_in known.now) }
     ensures { result ≡ first_fault
-        (argument_demands text.now (model_in draft.now) (bound_names scope.now) (exprs_of (expr_trees args.now))
+        (argument_demands text.now (words_in known.now) (bound_names scope.now) (exprs_of (expr_trees args.now))
         (numbers sorts.now)) }
 {
     let mut sorts = sorts;
@@ -337,7 +338,7 @@ pub fn arguments_fault(
         let [sort, others @ ..] = sorts else {
             return None;
         };
-        if let Some(fault) = expression_fault(text, draft, scope, Wanted::Term(Some(sort.0)), e) {
+        if let Some(fault) = expression_fault(text, known, scope, Wanted::Term(Some(sort.0)), e) {
             return Some(fault);
         }
         sorts = others;

@@ -2,9 +2,11 @@
 //! reading. It only reads, so that building needs no answer for what has a fault.
 #![tactic(auto)]
 
+mod definitions;
 mod faults;
 mod targets;
 mod wanted;
 
+pub use definitions::definition_fault;
 pub use targets::{assign_fault, put_fault, sentence_fault, tuple_fault};
 pub use wanted::Wanted;

@@ -1,5 +1,6 @@
 // The first fault of the left side of an update, and of what becomes of it.
-ghost use Rattle.std.specs.Prelude.{◌≡◌, ◌==◌, ◌||◌, ◌≤◌, is_some, ◌+◌, ◌++◌, ◌∷◌, [], None, Some, length, option_map};
+ghost use Rattle.std.specs.Prelude.{◌≡◌, ◌==◌, ◌||◌, ◌&&◌, ◌≤◌, is_some, ◌+◌, ◌++◌, ◌∷◌, [], None, Some};
+ghost use Rattle.std.specs.Prelude.{length, option_map};
 ghost use Rattle.fol_sig.specs.Tables.{numbers};
 ghost use Rattle.rml_terms.specs.Tree.{expr_tree, expr_trees, exprs_of};
 ghost use Rattle.rml_terms.specs.Shape.{ExprNests, ExprsNest};
@@ -13,20 +14,22 @@ ghost use Rattle.rml_names.specs.Meanings.{is_function_with_arguments as means_f
 ghost use Rattle.rml_names.specs.Meanings.{with_parameters};
 ghost use Rattle.rml_sort_check.specs.Demands.{first_fault, expr_count, demands, argument_demands, tuple_demands};
 ghost use Rattle.rml_sort_check.specs.Demands.{put_demands, assign_demands, parameter_demands, side_of as wanted_side};
-ghost use Rattle.rml_sort_check.specs.Demands.{side_demands};
+ghost use Rattle.rml_sort_check.specs.Demands.{side_demands, may_vary as may_become_anything};
+ghost use Rattle.rml_names.specs.Meanings.{is_writable as may_be_written};
 ghost use Rattle.rml_names.specs.Scopes.{bound_names, names_of};
-ghost use Rattle.rml_names.specs.Drafts.{model_in};
-ghost use Rattle.rml_names.specs.Sound.{IsSound, IsDeclared};
+ghost use Rattle.rml_names.specs.Drafts.{words_in};
+ghost use Rattle.rml_names.specs.Sound.{IsSorted, IsDeclared};
 
 use crate::faults::{arguments_fault, expression_fault, first_of, is_known, is_relation};
 use crate::wanted::Wanted;
 use fol_sig::Sort;
 use rml_lex::{Fault, FaultCode};
-use rml_names::{Meaning, ModelDraft, Scope, bytes};
+use rml_names::{Declarations, Meaning, Scope, bytes};
+use rml_syntax::Format;
 use rml_terms::{Expr, Name};
 
 // A fault where a name begins.
-fn fault_at(code: FaultCode, name: Name) -> Fault
+pub fn fault_at(code: FaultCode, name: Name) -> Fault
     ensures { result ≡ record { code = code; at = name.start } }
 {
     Fault {
@@ -36,30 +39,30 @@ fn fault_at(code: FaultCode, name: Name) -> Fault
 }
 
 /// The first fault of an expression that has to be a formula, under no binder.
-pub fn sentence_fault(text: &[u8], draft: &ModelDraft, e: &Expr) -> Option<Fault>
+pub fn sentence_fault(text: &[u8], known: &Declarations, e: &Expr) -> Option<Fault>
     requires nests { ExprNests 100 (expr_tree e.now) }
     requires within { ExprWithin (length text.now) (expr_tree e.now) }
-    requires sound { IsSound (model_in draft.now) }
-    ensures { result ≡ first_fault (demands text.now (model_in draft.now) [] Formula (expr_tree e.now)) }
+    requires sound { IsSorted (words_in known.now) }
+    ensures { result ≡ first_fault (demands text.now (words_in known.now) [] Formula (expr_tree e.now)) }
 {
-    outer_fault(text, draft, Wanted::Formula, e)
+    outer_fault(text, known, Wanted::Formula, e)
 }
 
 // An expression under no binder.
-fn outer_fault(text: &[u8], draft: &ModelDraft, wanted: Wanted, e: &Expr) -> Option<Fault>
+fn outer_fault(text: &[u8], known: &Declarations, wanted: Wanted, e: &Expr) -> Option<Fault>
     requires nests { ExprNests 100 (expr_tree e.now) }
     requires within { ExprWithin (length text.now) (expr_tree e.now) }
-    requires sound { IsSound (model_in draft.now) }
-    ensures { result ≡ first_fault (demands text.now (model_in draft.now) [] wanted (expr_tree e.now)) }
+    requires sound { IsSorted (words_in known.now) }
+    ensures { result ≡ first_fault (demands text.now (words_in known.now) [] wanted (expr_tree e.now)) }
 {
     let outside = Scope::outside();
-    shallow_fault(text, draft, &outside, wanted, e)
+    shallow_fault(text, known, &outside, wanted, e)
 }
 
 // An expression under at most 8 names.
-fn shallow_fault(
+pub fn shallow_fault(
     text: &[u8],
-    draft: &ModelDraft,
+    known: &Declarations,
     scope: &Scope,
     wanted: Wanted,
     e: &Expr,
@@ -67,28 +70,28 @@ fn shallow_fault(
     requires few { length (bound_names scope.now) ≤ 8 }
     requires nests { ExprNests 100 (expr_tree e.now) }
     requires within { ExprWithin (length text.now) (expr_tree e.now) }
-    requires sound { IsSound (model_in draft.now) }
+    requires sound { IsSorted (words_in known.now) }
     ensures { result ≡ first_fault
-        (demands text.now (model_in draft.now) (bound_names scope.now) wanted (expr_tree e.now)) }
+        (demands text.now (words_in known.now) (bound_names scope.now) wanted (expr_tree e.now)) }
 {
-    expression_fault(text, draft, scope, wanted, e)
+    expression_fault(text, known, scope, wanted, e)
 }
 
 // Arguments under no binder, each of its sort.
 fn outer_arguments_fault(
     text: &[u8],
-    draft: &ModelDraft,
+    known: &Declarations,
     args: &[Expr],
     sorts: &[Sort],
 ) -> Option<Fault>
     requires nests { ExprsNest 100 (exprs_of (expr_trees args.now)) }
     requires within { ExprsWithin (length text.now) (exprs_of (expr_trees args.now)) }
-    requires sound { IsSound (model_in draft.now) }
+    requires sound { IsSorted (words_in known.now) }
     ensures { result ≡ first_fault
-        (argument_demands text.now (model_in draft.now) [] (exprs_of (expr_trees args.now)) (numbers sorts.now)) }
+        (argument_demands text.now (words_in known.now) [] (exprs_of (expr_trees args.now)) (numbers sorts.now)) }
 {
     let outside = Scope::outside();
-    arguments_fault(text, draft, &outside, args, sorts)
+    arguments_fault(text, known, &outside, args, sorts)
 }
 
 // Whether there are as many arguments as sorts.
@@ -99,33 +102,33 @@ fn is_counted(args: &[Expr], sorts: &[Sort]) -> bool
 }
 
 /// The first fault of a relation and its arguments, of `insert` or `remove`.
-pub fn tuple_fault(text: &[u8], draft: &ModelDraft, name: Name, args: &[Expr]) -> Option<Fault>
+pub fn tuple_fault(text: &[u8], known: &Declarations, name: Name, args: &[Expr]) -> Option<Fault>
     requires nests { ExprsNest 100 (exprs_of (expr_trees args.now)) }
     requires name { NameWithin (length text.now) name }
     requires within { ExprsWithin (length text.now) (exprs_of (expr_trees args.now)) }
-    requires sound { IsSound (model_in draft.now) }
+    requires sound { IsSorted (words_in known.now) }
     ensures { result ≡ first_fault
-        (tuple_demands text.now (model_in draft.now) (symbol_of (model_in draft.now) (bytes_of text.now name))
+        (tuple_demands text.now (words_in known.now) (symbol_of (words_in known.now) (bytes_of text.now name))
         name.start (exprs_of (expr_trees args.now))) }
 {
-    let symbol = draft.symbol(bytes(text, name));
+    let symbol = known.symbol(bytes(text, name));
     if !is_known(symbol) {
         return Some(fault_at(FaultCode::UnknownName, name));
     }
-    if !is_relation(symbol) {
+    if !(is_relation(symbol) && known.is_writable(symbol)) {
         return Some(fault_at(FaultCode::BadTarget, name));
     }
-    let sorts = draft.argument_sorts(symbol);
+    let sorts = known.argument_sorts(symbol);
     if !is_counted(args, sorts) {
         return Some(fault_at(FaultCode::WrongArgumentCount, name));
     }
-    outer_arguments_fault(text, draft, args, sorts)
+    outer_arguments_fault(text, known, args, sorts)
 }
 
 /// The first fault of `put`: a function with arguments, and its new value at them.
 pub fn put_fault(
     text: &[u8],
-    draft: &ModelDraft,
+    known: &Declarations,
     name: Name,
     args: &[Expr],
     value: &Expr,
@@ -135,28 +138,28 @@ pub fn put_fault(
     requires name { NameWithin (length text.now) name }
     requires within { ExprsWithin (length text.now) (exprs_of (expr_trees args.now)) }
     requires value_within { ExprWithin (length text.now) (expr_tree value.now) }
-    requires sound { IsSound (model_in draft.now) }
+    requires sound { IsSorted (words_in known.now) }
     ensures { result ≡ first_fault
-        (put_demands text.now (model_in draft.now) (symbol_of (model_in draft.now) (bytes_of text.now name)) name.start
+        (put_demands text.now (words_in known.now) (symbol_of (words_in known.now) (bytes_of text.now name)) name.start
         (exprs_of (expr_trees args.now)) (expr_tree value.now)) }
 {
-    let symbol = draft.symbol(bytes(text, name));
+    let symbol = known.symbol(bytes(text, name));
     if !is_known(symbol) {
         return Some(fault_at(FaultCode::UnknownName, name));
     }
-    if !is_function_with_arguments(draft, symbol) {
+    if !is_function_with_arguments(known, symbol) {
         return Some(fault_at(FaultCode::BadTarget, name));
     }
-    if !is_counted(args, draft.argument_sorts(symbol)) {
+    if !is_counted(args, known.argument_sorts(symbol)) {
         return Some(fault_at(FaultCode::WrongArgumentCount, name));
     }
-    entry_fault(text, draft, symbol, args, value)
+    entry_fault(text, known, symbol, args, value)
 }
 
 // The arguments of a function, and its new value there.
 fn entry_fault(
     text: &[u8],
-    draft: &ModelDraft,
+    known: &Declarations,
     symbol: Meaning,
     args: &[Expr],
     value: &Expr,
@@ -165,49 +168,71 @@ fn entry_fault(
     requires value_nests { ExprNests 100 (expr_tree value.now) }
     requires within { ExprsWithin (length text.now) (exprs_of (expr_trees args.now)) }
     requires value_within { ExprWithin (length text.now) (expr_tree value.now) }
-    requires declared { IsDeclared (model_in draft.now) symbol }
-    requires sound { IsSound (model_in draft.now) }
+    requires declared { IsDeclared (words_in known.now) symbol }
+    requires sound { IsSorted (words_in known.now) }
     ensures { result ≡ first_fault
-        (argument_demands text.now (model_in draft.now) [] (exprs_of (expr_trees args.now))
-        (sorts_of_arguments (model_in draft.now) symbol)
-        ++ demands text.now (model_in draft.now) [] (Term (sort_of_result (model_in draft.now) symbol))
+        (argument_demands text.now (words_in known.now) [] (exprs_of (expr_trees args.now))
+        (sorts_of_arguments (words_in known.now) symbol)
+        ++ demands text.now (words_in known.now) [] (Term (sort_of_result (words_in known.now) symbol))
         (expr_tree value.now)) }
 {
-    let sorts = draft.argument_sorts(symbol);
-    let arguments = outer_arguments_fault(text, draft, args, sorts);
-    let sort = draft.result_sort(symbol);
-    let entry = outer_fault(text, draft, Wanted::Term(sort), value);
+    let sorts = known.argument_sorts(symbol);
+    let arguments = outer_arguments_fault(text, known, args, sorts);
+    let sort = known.result_sort(symbol);
+    let entry = outer_fault(text, known, Wanted::Term(sort), value);
     first_of(arguments, entry)
 }
 
-fn is_variable(draft: &ModelDraft, symbol: Meaning) -> bool
-    requires { IsDeclared (model_in draft.now) symbol }
-    ensures { result ≡ means_variable (model_in draft.now) symbol }
+fn is_variable(known: &Declarations, symbol: Meaning) -> bool
+    requires { IsDeclared (words_in known.now) symbol }
+    ensures { result ≡ means_variable (words_in known.now) symbol }
 {
     match symbol {
-        Meaning::Function(_) => draft.argument_sorts(symbol).is_empty(),
-        Meaning::Bound(_, _) | Meaning::Relation(_) | Meaning::Unknown => false,
+        Meaning::Function(_) => known.argument_sorts(symbol).is_empty(),
+        Meaning::Bound(_, _) | Meaning::Relation(_) | Meaning::Derived(_) | Meaning::Unknown =>
+            false,
     }
 }
 
-fn is_function_with_arguments(draft: &ModelDraft, symbol: Meaning) -> bool
-    requires { IsDeclared (model_in draft.now) symbol }
-    ensures { result ≡ means_function_with_arguments (model_in draft.now) symbol }
+fn is_function_with_arguments(known: &Declarations, symbol: Meaning) -> bool
+    requires { IsDeclared (words_in known.now) symbol }
+    ensures { result ≡ means_function_with_arguments (words_in known.now) symbol }
 {
     match symbol {
-        Meaning::Function(_) => !draft.argument_sorts(symbol).is_empty(),
-        Meaning::Bound(_, _) | Meaning::Relation(_) | Meaning::Unknown => false,
+        Meaning::Function(_) => !known.argument_sorts(symbol).is_empty(),
+        Meaning::Bound(_, _) | Meaning::Relation(_) | Meaning::Derived(_) | Meaning::Unknown =>
+            false,
+    }
+}
+
+// Whether what is meant may become anything.
+fn may_vary(known: &Declarations, format: Format, symbol: Meaning) -> bool
+    requires { IsDeclared (words_in known.now) symbol }
+    ensures { result ≡ may_become_anything (words_in known.now) format symbol }
+{
+    match format {
+        Format::One => is_variable(known, symbol),
+        Format::Two => is_variable(known, symbol) || is_relation(symbol),
     }
 }
 
 // Whether the name may stand at the left of `:=`; where there is no new value, any value is meant.
-fn is_assignable(draft: &ModelDraft, symbol: Meaning, value: &Option<Expr>) -> bool
-    requires { IsDeclared (model_in draft.now) symbol }
-    ensures { result ≡ (is_some (option_map expr_tree value.now) || means_variable (model_in draft.now) symbol) }
+fn is_assignable(
+    known: &Declarations,
+    format: Format,
+    symbol: Meaning,
+    value: &Option<Expr>,
+) -> bool
+    requires { IsDeclared (words_in known.now) symbol }
+    ensures { result ≡ (may_be_written (words_in known.now) symbol
+        && (is_some (option_map expr_tree value.now) || may_become_anything (words_in known.now) format symbol)) }
 {
+    if !known.is_writable(symbol) {
+        return false;
+    }
     match value {
         Some(_) => true,
-        None => is_variable(draft, symbol),
+        None => may_vary(known, format, symbol),
     }
 }
 
@@ -221,7 +246,8 @@ fn is_named(parameters: &[Name], sorts: &[Sort]) -> bool
 /// The first fault of `:=`: a name, its parameters, and its new value; where there is none, any value.
 pub fn assign_fault(
     text: &[u8],
-    draft: &ModelDraft,
+    known: &Declarations,
+    format: Format,
     name: Name,
     parameters: &[Name],
     value: &Option<Expr>,
@@ -230,30 +256,31 @@ pub fn assign_fault(
     requires name { NameWithin (length text.now) name }
     requires parameters { NamesWithin (length text.now) parameters.now }
     requires within { ValueWithin (length text.now) (option_map expr_tree value.now) }
-    requires sound { IsSound (model_in draft.now) }
+    requires sound { IsSorted (words_in known.now) }
     ensures { result ≡ first_fault
-        (assign_demands text.now (model_in draft.now) (symbol_of (model_in draft.now) (bytes_of text.now name))
+        (assign_demands text.now (words_in known.now) format
+        (symbol_of (words_in known.now) (bytes_of text.now name))
         name.start parameters.now (option_map expr_tree value.now)) }
 {
-    let symbol = draft.symbol(bytes(text, name));
+    let symbol = known.symbol(bytes(text, name));
     if !is_known(symbol) {
         return Some(fault_at(FaultCode::UnknownName, name));
     }
-    if !is_assignable(draft, symbol, value) {
+    if !is_assignable(known, format, symbol, value) {
         return Some(fault_at(FaultCode::BadTarget, name));
     }
-    let sorts = draft.argument_sorts(symbol);
+    let sorts = known.argument_sorts(symbol);
     if !is_named(parameters, sorts) {
         return Some(fault_at(FaultCode::WrongArgumentCount, name));
     }
     let outside = Scope::outside();
-    assigned_fault(text, draft, symbol, &outside, parameters, sorts, value)
+    assigned_fault(text, known, symbol, &outside, parameters, sorts, value)
 }
 
 // The parameters that are left, under those before them, and the value under them all.
 fn assigned_fault(
     text: &[u8],
-    draft: &ModelDraft,
+    known: &Declarations,
     symbol: Meaning,
     scope: &Scope,
     parameters: &[Name],
@@ -265,35 +292,35 @@ fn assigned_fault(
     requires parameters_within { NamesWithin (length text.now) parameters.now }
     requires nests { SideNests 100 (option_map expr_tree value.now) }
     requires within { ValueWithin (length text.now) (option_map expr_tree value.now) }
-    requires declared { IsDeclared (model_in draft.now) symbol }
-    requires sound { IsSound (model_in draft.now) }
+    requires declared { IsDeclared (words_in known.now) symbol }
+    requires sound { IsSorted (words_in known.now) }
     ensures { result ≡ first_fault
-        (parameter_demands text.now (model_in draft.now) (names_of (bound_names scope.now)) parameters.now
-        ++ side_demands text.now (model_in draft.now)
+        (parameter_demands text.now (words_in known.now) (names_of (bound_names scope.now)) parameters.now
+        ++ side_demands text.now (words_in known.now)
         (with_parameters text.now (bound_names scope.now) parameters.now (numbers sorts.now)) symbol
         (option_map expr_tree value.now)) }
 {
     let [parameter, others @ ..] = parameters else {
-        return side_fault(text, draft, symbol, scope, value);
+        return side_fault(text, known, symbol, scope, value);
     };
     let [sort, behind @ ..] = sorts else {
         unreachable!()
     };
     let name = bytes(text, *parameter);
-    if draft.is_symbol(name) {
+    if known.is_symbol(name) {
         return Some(fault_at(FaultCode::TakenName, *parameter));
     }
     if scope.has(name) {
         return Some(fault_at(FaultCode::DeclaredTwice, *parameter));
     }
     let inside = Scope::inside(name, sort.0, &*scope);
-    assigned_fault(text, draft, symbol, &inside, others, behind, value)
+    assigned_fault(text, known, symbol, &inside, others, behind, value)
 }
 
 // The new value under the parameters.
 fn side_fault(
     text: &[u8],
-    draft: &ModelDraft,
+    known: &Declarations,
     symbol: Meaning,
     scope: &Scope,
     value: &Option<Expr>,
@@ -301,26 +328,27 @@ fn side_fault(
     requires few { length (bound_names scope.now) ≤ 8 }
     requires nests { SideNests 100 (option_map expr_tree value.now) }
     requires within { ValueWithin (length text.now) (option_map expr_tree value.now) }
-    requires declared { IsDeclared (model_in draft.now) symbol }
-    requires sound { IsSound (model_in draft.now) }
+    requires declared { IsDeclared (words_in known.now) symbol }
+    requires sound { IsSorted (words_in known.now) }
     ensures { result ≡ first_fault
-        (side_demands text.now (model_in draft.now) (bound_names scope.now) symbol (option_map expr_tree value.now)) }
+        (side_demands text.now (words_in known.now) (bound_names scope.now) symbol (option_map expr_tree value.now)) }
 {
     match value {
-        Some(value) => shallow_fault(text, draft, scope, side_of(text, draft, symbol), value),
+        Some(value) => shallow_fault(text, known, scope, side_of(text, known, symbol), value),
         None => None,
     }
 }
 
 // What the right side of an assignment has to be.
-fn side_of(text: &[u8], draft: &ModelDraft, symbol: Meaning) -> Wanted
-    requires { IsDeclared (model_in draft.now) symbol }
-    ensures { result ≡ wanted_side text.now (model_in draft.now) symbol }
+fn side_of(text: &[u8], known: &Declarations, symbol: Meaning) -> Wanted
+    requires { IsDeclared (words_in known.now) symbol }
+    ensures { result ≡ wanted_side text.now (words_in known.now) symbol }
 {
     match symbol {
         Meaning::Relation(_) => Wanted::Formula,
-        Meaning::Bound(_, _) => Wanted::Term(draft.result_sort(symbol)),
-        Meaning::Function(_) => Wanted::Term(draft.result_sort(symbol)),
-        Meaning::Unknown => Wanted::Term(draft.result_sort(symbol)),
+        Meaning::Bound(_, _) => Wanted::Term(known.result_sort(symbol)),
+        Meaning::Derived(_) => Wanted::Term(known.result_sort(symbol)),
+        Meaning::Function(_) => Wanted::Term(known.result_sort(symbol)),
+        Meaning::Unknown => Wanted::Term(known.result_sort(symbol)),
     }
 }

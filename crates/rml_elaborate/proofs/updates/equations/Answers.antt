@@ -6,7 +6,7 @@ use Rattle.rml_terms.specs.Shape.{ExprsNest}
 use Rattle.rml_terms.specs.Within.{ExprsWithin}
 use Rattle.rml_elaborate.specs.Formulas.{term_of, terms_of}
 use Rattle.rml_elaborate.specs.Updates.{equations, term_count}
-use Rattle.rml_names.specs.Drafts.{model_in}
+use Rattle.rml_names.specs.Drafts.{words_in}
 use Rattle.rml_elaborate.proofs.Tuples.{terms_counted}
 use Rattle.rml_elaborate.proofs.Turns.{exprs-drop, forms_turn}
 use Rattle.rml_elaborate.proofs.updates.equations.Goals as goal
@@ -15,25 +15,26 @@ pub loop-e-preserved : goal.loop-e-preserved
 loop-e-preserved c =
     let h = c.loop-e.invariant in
     let text = c.args.text.now in
-    let m = model_in c.args.draft.now in
+    let v = words_in c.args.draft.now.declared in
+    let bodies = c.args.draft.now.bodies.items in
     let args = c.args.args.now in
     let rest = drop (c.loop-e.e-index + 1) args in
     let e = expr_tree c.e-item.result in
     let step = exprs-drop args c.loop-e.e-index c.e-item.result c.loop-e-test.true c.e-item.is in
     let left : c.loop-e.left - 1 ≡ length rest =
     omega (arith, h.left, c.loop-e-test.true, length-drop (c.loop-e.e-index + 1) args) in
-    let place : c.loop-e.left - 1 ≡ term_count (terms_of text m [] (exprs_of (expr_trees rest))) =
-    left ∙ sym (terms_counted text m [] rest) in
+    let place : c.loop-e.left - 1 ≡ term_count (terms_of text v bodies [] (exprs_of (expr_trees rest))) =
+    left ∙ sym (terms_counted text v bodies [] rest) in
     record {
       left = omega (arith, h.left, c.loop-e-test.true);
       nests = (subst (ExprsNest 100) step h.nests).1;
       within = (subst (ExprsWithin (length text)) step h.within).1;
       made = forms_turn c.lists.ensures.forms
-          (λ (es : List Expr). equations (terms_of text m [] (exprs_of (expr_trees es)))) args c.loop-e.e-index
+          (λ (es : List Expr). equations (terms_of text v bodies [] (exprs_of (expr_trees es)))) args c.loop-e.e-index
           c.e-item.result
-          (equal (bound (term_count (terms_of text m [] (exprs_of (expr_trees rest))))) (term_of text m [] e))
+          (equal (bound (term_count (terms_of text v bodies [] (exprs_of (expr_trees rest))))) (term_of text v bodies [] e))
           c.loop-e.all.items c.push.new.self.items c.equation.result _
           refl c.loop-e-test.true c.e-item.is c.in_ok-push.ensures.items
           (c.equation.ensures ∙ ap (equal (bound (c.loop-e.left - 1))) c.in_ok-t.ensures
-          ∙ ap (λ (k : ℕ). equal (bound k) (term_of text m [] e)) place) h.made;
+          ∙ ap (λ (k : ℕ). equal (bound k) (term_of text v bodies [] e)) place) h.made;
     }

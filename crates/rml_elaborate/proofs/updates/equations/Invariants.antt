@@ -6,7 +6,7 @@ use Rattle.rml_terms.specs.Shape.{ExprsNest}
 use Rattle.rml_terms.specs.Within.{ExprsWithin}
 use Rattle.rml_elaborate.specs.Formulas.{terms_of}
 use Rattle.rml_elaborate.specs.Updates.{equations}
-use Rattle.rml_names.specs.Drafts.{model_in}
+use Rattle.rml_names.specs.Drafts.{words_in}
 use Rattle.rml_elaborate.proofs.updates.equations.Given as goal
 
 abbrev pub invariant-loop-e : goal.invariant-loop-e
@@ -15,6 +15,6 @@ invariant-loop-e l = record {
   nests : ExprsNest 100 (exprs_of (expr_trees (drop l.e-index l.args)));
   within : ExprsWithin (length l.text) (exprs_of (expr_trees (drop l.e-index l.args)));
   made : forms_then (map form l.all.items)
-      (equations (terms_of l.text (model_in l.draft) [] (exprs_of (expr_trees (drop l.e-index l.args)))))
-      ≡ equations (terms_of l.text (model_in l.draft) [] (exprs_of (expr_trees l.args)));
+      (equations (terms_of l.text (words_in l.draft.declared) l.draft.bodies.items [] (exprs_of (expr_trees (drop l.e-index l.args)))))
+      ≡ equations (terms_of l.text (words_in l.draft.declared) l.draft.bodies.items [] (exprs_of (expr_trees l.args)));
 }

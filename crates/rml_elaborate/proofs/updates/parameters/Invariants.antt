@@ -1,7 +1,7 @@
 use Rattle.std.proofs.Common.{◌≡◌, map}
 use Rattle.fol_formula.specs.Syntax.{terms_then}
 use Rattle.fol_formula.specs.View.{term}
-use Rattle.rml_elaborate.specs.Updates.{parameters}
+use Rattle.rml_command.specs.Fresh.{parameters}
 use Rattle.rml_elaborate.proofs.updates.parameters.Given as goal
 
 abbrev pub invariant-loop-left : goal.invariant-loop-left
