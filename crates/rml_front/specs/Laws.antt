@@ -3,7 +3,7 @@ use Rattle.std.specs.Prelude.{◌≡◌, ◌≤◌, ◌⊎◌, ℕ, false, List}
 use Rattle.std.specs.List.{AllByRecursion}
 use Rattle.rml_lex.specs.declared.token.Fault.{Fault}
 use Rattle.rml_command.specs.Models.{ModelTree}
-use Rattle.rml_sorts.specs.Items.{no_items, items_demands}
+use Rattle.rml_items.specs.Items.{no_items, items_demands}
 use Rattle.rml_front.specs.Texts.{IsModelOf, IsNameFault, IsFaultOf}
 
 -- a text has one model or one fault, and never both
@@ -16,4 +16,5 @@ pub record AnswersAreUnique : Type 0 where
 -- the fault of names and sorts stands at the least place of what the text demands of them and does not meet
 abbrev pub NameFaultIsLeast : Type 0
 NameFaultIsLeast = (text : List ℕ) (f : Fault) (fault : IsNameFault text f)
-    → AllByRecursion (λ d. d.met ≡ false → f.at ≤ d.fault.at) (items_demands text no_items fault.tree)
+    → AllByRecursion (λ d. d.met ≡ false → f.at ≤ d.fault.at)
+    (items_demands text fault.tree.format no_items fault.tree.items)

@@ -16,5 +16,5 @@ pub fn name_fault_law()
     ensures { NameFaultIsLeast }
 {
     rml_syntax::places_ascend();
-    rml_sorts::order_law();
+    rml_items::order_law();
 }

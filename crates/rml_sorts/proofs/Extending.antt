@@ -1,5 +1,5 @@
 -- What fits some symbols fits more of them.
-use Rattle.std.proofs.Common.{◌≡◌, ◌<◌, ◌≤◌, ℕ, List, [], ◌∷◌, ◌++◌, length, reverse, length-append, sym, subst, ◌∙◌}
+use Rattle.std.proofs.Common.{◌≡◌, ◌<◌, ◌≤◌, ℕ, List, [], ◌∷◌, ◌++◌, length, reverse, length-append, refl, sym, subst, ◌∙◌}
 use Rattle.std.proofs.Common.{arith}
 use Rattle.std.proofs.lemmas.List.{get_or_append_left, append-nil}
 use Rattle.fol_sig.specs.Symbols.{Symbols}
@@ -10,7 +10,7 @@ use Rattle.fol_formula.specs.Fits.{FitsForm, FitsForms, FitsTerm, FitsTerms}
 use Rattle.rml_command.specs.Trees.{PrimitiveTree, assume, set_rel, set_fun, havoc, havoc_rel, abort, CommandTree}
 use Rattle.rml_command.specs.Trees.{CommandTrees}
 use Rattle.rml_command.specs.Trees.{prim, seq, choose, no_commands, command_then, EachPrimitive, EachPrimitiveOf}
-use Rattle.rml_command.specs.Models.{FitsStep, FitsBlock}
+use Rattle.rml_command.specs.Models.{FitsPrimitive, FitsCommand}
 
 -- the symbols are among the others
 pub record Extends (old new : Symbols) : Type 0 where
@@ -20,6 +20,26 @@ pub record Extends (old new : Symbols) : Type 0 where
   pub sorts_of : (r : ℕ) → r < old.relations → new.sorts_of r ≡ old.sorts_of r
   pub from_of : (f : ℕ) → f < old.functions → new.from_of f ≡ old.from_of f
   pub into_of : (f : ℕ) → f < old.functions → new.into_of f ≡ old.into_of f
+
+pub same_symbols : (sig : Symbols) → Extends sig sig
+same_symbols sig = record {
+  sorts = omega arith;
+  relations = omega arith;
+  functions = omega arith;
+  sorts_of = λ r h. refl;
+  from_of = λ f h. refl;
+  into_of = λ f h. refl;
+}
+
+pub further : (a b c : Symbols) → Extends a b → Extends b c → Extends a c
+further a b c x y = record {
+  sorts = omega (arith, x.sorts, y.sorts);
+  relations = omega (arith, x.relations, y.relations);
+  functions = omega (arith, x.functions, y.functions);
+  sorts_of = λ r h. y.sorts_of r (omega (arith, h, x.relations)) ∙ x.sorts_of r h;
+  from_of = λ f h. y.from_of f (omega (arith, h, x.functions)) ∙ x.from_of f h;
+  into_of = λ f h. y.into_of f (omega (arith, h, x.functions)) ∙ x.into_of f h;
+}
 
 module _ (old new : Symbols) (x : Extends old new) (more : List ℕ) where
   mutual
@@ -85,7 +105,7 @@ module _ (old new : Symbols) (x : Extends old new) where
   pub sentence_grows : (p : FormTree) → FitsForm old [] p → FitsForm new [] p
   sentence_grows p h = form_grows old new x [] [] p h
 
-  primitive_grows : (q : PrimitiveTree) → FitsStep old q → FitsStep new q
+  primitive_grows : (q : PrimitiveTree) → FitsPrimitive old q → FitsPrimitive new q
   primitive_grows (assume p) h = sentence_grows p h
   primitive_grows (set_rel r by) h =
       let e : new.sorts_of r ≡ old.sorts_of r = x.sorts_of r h.0 in (
@@ -108,8 +128,8 @@ module _ (old new : Symbols) (x : Extends old new) where
         ∙ h.1,
     subst (λ (k : ℕ). k < new.sorts) (sym (x.into_of v h.0)) (omega (arith, h.2, x.sorts)),
   )
-  primitive_grows (havoc_rel r) h = absurd h
+  primitive_grows (havoc_rel r) h = omega (arith, h, x.relations)
   primitive_grows abort h = tt
 
-  pub command_grows : (c : CommandTree) → FitsBlock old c → FitsBlock new c
-  command_grows c h = each_more (FitsStep old) (FitsStep new) primitive_grows c h
+  pub command_grows : (c : CommandTree) → FitsCommand old c → FitsCommand new c
+  command_grows c h = each_more (FitsPrimitive old) (FitsPrimitive new) primitive_grows c h

@@ -8,18 +8,22 @@ use Rattle.rml_terms.specs.Tree.{ExprTree, ExprTrees, True, False, Apply, Ite, E
 use Rattle.rml_terms.specs.Tree.{Quantified, no_expr, and_expr}
 use Rattle.rml_syntax.specs.Tree.{Block, Blocks, Skip, Abort, Assume, Assert, If, Choose}
 use Rattle.rml_syntax.specs.Tree.{Insert, Remove, Put, Assign, no_command, and_command, no_block, and_block, ItemTree}
-use Rattle.rml_syntax.specs.Tree.{Relation, Function, Variable, Axiom, Conjecture, Init, Action, Final, block_of}
-use Rattle.rml_terms.specs.Within.{NameWithin, ExprWithin, ExprsWithin}
+use Rattle.rml_syntax.specs.Tree.{Relation, Function, Variable, Axiom, Conjecture, Init, Action, Final, Define, block_of}
+use Rattle.rml_terms.specs.Within.{NameWithin, NamesWithin, ExprWithin, ExprsWithin}
 use Rattle.rml_syntax.specs.Within.{ValueWithin, CommandWithin, BlockWithin}
-use Rattle.rml_syntax.specs.Within.{BlocksWithin, CommandsWithin, ItemWithin, TreeWithin}
-use Rattle.rml_command.specs.Models.{ModelTree, ArePlacesWithin}
+use Rattle.rml_syntax.specs.Within.{BlocksWithin, CommandsWithin, ItemWithin}
+use Rattle.rml_command.specs.Models.{ArePlacesWithin}
+use Rattle.fol_formula.specs.Syntax.{FormTree}
+use Rattle.rml_names.specs.Vocabulary.{Vocabulary}
+use Rattle.rml_names.specs.Drafts.{DraftTree, empty_draft, model_of_draft}
+use Rattle.rml_terms.specs.Places.{name_places}
 use Rattle.rml_command.specs.declared.places.Condition.{Condition}
 use Rattle.rml_sorts.specs.Laws.{PlacesStandInText}
 use Rattle.rml_elaborate.specs.Quantifiers.{quantifiers_in, quantifiers_in_each}
 use Rattle.rml_sorts.specs.Commands.{conditions_of, conditions_of_block, conditions_of_blocks}
 use Rattle.rml_elaborate.specs.Quantifiers.{quantifiers_of_side, quantifiers_of, quantifiers_of_block}
 use Rattle.rml_elaborate.specs.Quantifiers.{quantifiers_of_blocks}
-use Rattle.rml_sorts.specs.Items.{Draft, no_items, model_with, with_item, with_items}
+use Rattle.rml_sorts.specs.Items.{draft_with, draft_of}
 
 module _ (n : ℕ) where
   abbrev In : ℕ → Type 0
@@ -93,17 +97,17 @@ module _ (n : ℕ) where
     blocks_stand (and_block b bs) h =
         both (quantifiers_of_block b) (quantifiers_of_blocks bs) (block_stands b h.0) (blocks_stand bs h.1)
 
-  module _ (text : List ℕ) (m : ModelTree) where
+  module _ (text : List ℕ) (v : Vocabulary) (bodies : List FormTree) where
     mutual
       conditions_stand : (c : syntax.CommandTree) → CommandWithin n c
-          → AllByRecursion ConditionIn (conditions_of text m c)
+          → AllByRecursion ConditionIn (conditions_of text v bodies c)
       conditions_stand (Skip at) h = tt
       conditions_stand (Abort at) h = tt
       conditions_stand (Assume at e) h = (h.0, tt)
       conditions_stand (Assert at e) h = (h.0, tt)
       conditions_stand (If at e a b) h = (
         h.0,
-        all_append ConditionIn (conditions_of_block text m a) (conditions_of_block text m b)
+        all_append ConditionIn (conditions_of_block text v bodies a) (conditions_of_block text v bodies b)
             (block_conditions_stand a h.2) (block_conditions_stand b h.3),
       )
       conditions_stand (Choose at bs) h = blocks_conditions_stand bs h.1
@@ -112,17 +116,17 @@ module _ (n : ℕ) where
       conditions_stand (Put at name args e) h = tt
       conditions_stand (Assign name ps value) h = tt
 
-      block_conditions_stand : (b : Block) → BlockWithin n b → AllByRecursion ConditionIn (conditions_of_block text m b)
+      block_conditions_stand : (b : Block) → BlockWithin n b → AllByRecursion ConditionIn (conditions_of_block text v bodies b)
       block_conditions_stand no_command h = tt
       block_conditions_stand (and_command c cs) h =
-          all_append ConditionIn (conditions_of text m c) (conditions_of_block text m cs) (conditions_stand c h.0)
+          all_append ConditionIn (conditions_of text v bodies c) (conditions_of_block text v bodies cs) (conditions_stand c h.0)
           (block_conditions_stand cs h.1)
 
       blocks_conditions_stand : (bs : Blocks) → BlocksWithin n bs
-          → AllByRecursion ConditionIn (conditions_of_blocks text m bs)
+          → AllByRecursion ConditionIn (conditions_of_blocks text v bodies bs)
       blocks_conditions_stand no_block h = tt
       blocks_conditions_stand (and_block b bs) h =
-          all_append ConditionIn (conditions_of_block text m b) (conditions_of_blocks text m bs)
+          all_append ConditionIn (conditions_of_block text v bodies b) (conditions_of_blocks text v bodies bs)
           (block_conditions_stand b h.0) (blocks_conditions_stand bs h.1)
 
   within_block : (cs : List syntax.CommandTree) → CommandsWithin n cs → BlockWithin n (block_of cs)
@@ -132,107 +136,184 @@ module _ (n : ℕ) where
   name_stands : (name : Name) → NameWithin n name → name.start ≤ n
   name_stands name h = omega (arith, h.0, h.1)
 
-  module _ (text : List ℕ) where
-    abbrev Stands : ModelTree → Type 0
-    Stands m = ArePlacesWithin n m.places
+  names_stand : (names : List Name) → NamesWithin n names → AllByRecursion In (name_places names)
+  names_stand [] h = tt
+  names_stand (name ∷ names) h = (name_stands name h.0, names_stand names h.1)
 
-    step : (m : ModelTree) (item : ItemTree) → Stands m → ItemWithin n item → Stands (model_with text m item)
-    step m (syntax.Sort name) s h = s
-    step m (Relation name sorts) s h = s
-    step m (Function name sorts sort) s h =
-        record {
-          functions = all_push In m.places.functions name.start s.functions (name_stands name h.0);
-          axioms = s.axioms;
-          conjectures = s.conjectures;
-          init = s.init;
-          actions = s.actions;
-          last = s.last;
-          conditions = s.conditions;
-          quantifiers = s.quantifiers;
-        }
-    step m (Variable name sort) s h =
-        record {
-          functions = all_push In m.places.functions name.start s.functions (name_stands name h.0);
-          axioms = s.axioms;
-          conjectures = s.conjectures;
-          init = s.init;
-          actions = s.actions;
-          last = s.last;
-          conditions = s.conditions;
-          quantifiers = s.quantifiers;
-        }
-    step m (Axiom name e) s h = record {
-      functions = s.functions;
-      axioms = all_push In m.places.axioms name.start s.axioms (name_stands name h.0);
+  -- the places of a draft, those of the axioms of listed sorts apart
+  record Stands (d : DraftTree) : Type 0 where
+    functions : AllByRecursion In d.places.functions
+    axioms : AllByRecursion In d.places.axioms
+    listed : AllByRecursion In d.listed.places
+    conjectures : AllByRecursion In d.places.conjectures
+    init : In d.places.init
+    actions : AllByRecursion In d.places.actions
+    last : In d.places.last
+    conditions : AllByRecursion ConditionIn d.places.conditions
+    quantifiers : AllByRecursion In d.places.quantifiers
+
+  module _ (text : List ℕ) where
+    step : (d : DraftTree) (item : ItemTree) → Stands d → ItemWithin n item → Stands (draft_with text d item)
+    step d (syntax.Sort name []) s h = record {
+      functions = all_append In d.places.functions [] s.functions tt;
+      axioms = s.axioms;
+      listed = s.listed;
       conjectures = s.conjectures;
       init = s.init;
       actions = s.actions;
       last = s.last;
       conditions = s.conditions;
-      quantifiers = both m.places.quantifiers (quantifiers_in false e) s.quantifiers (quantifiers_stand false e h.1);
+      quantifiers = s.quantifiers;
     }
-    step m (Conjecture name e) s h = record {
-      functions = s.functions;
+    step d (syntax.Sort name (one ∷ names)) s h = record {
+      functions = all_append In d.places.functions (name_places (one ∷ names)) s.functions (names_stand (one ∷ names) h.1);
       axioms = s.axioms;
-      conjectures = all_push In m.places.conjectures name.start s.conjectures (name_stands name h.0);
+      listed = all_push In d.listed.places name.start s.listed (name_stands name h.0);
+      conjectures = s.conjectures;
       init = s.init;
       actions = s.actions;
       last = s.last;
       conditions = s.conditions;
-      quantifiers = both m.places.quantifiers (quantifiers_in false e) s.quantifiers (quantifiers_stand false e h.1);
+      quantifiers = s.quantifiers;
     }
-    step m (Init at cs) s h = record {
+    step d (Relation name sorts) s h = record {
       functions = s.functions;
       axioms = s.axioms;
+      listed = s.listed;
+      conjectures = s.conjectures;
+      init = s.init;
+      actions = s.actions;
+      last = s.last;
+      conditions = s.conditions;
+      quantifiers = s.quantifiers;
+    }
+    step d (Function name sorts sort) s h = record {
+      functions = all_push In d.places.functions name.start s.functions (name_stands name h.0);
+      axioms = s.axioms;
+      listed = s.listed;
+      conjectures = s.conjectures;
+      init = s.init;
+      actions = s.actions;
+      last = s.last;
+      conditions = s.conditions;
+      quantifiers = s.quantifiers;
+    }
+    step d (Variable name sort) s h = record {
+      functions = all_push In d.places.functions name.start s.functions (name_stands name h.0);
+      axioms = s.axioms;
+      listed = s.listed;
+      conjectures = s.conjectures;
+      init = s.init;
+      actions = s.actions;
+      last = s.last;
+      conditions = s.conditions;
+      quantifiers = s.quantifiers;
+    }
+    step d (Axiom name e) s h = record {
+      functions = s.functions;
+      axioms = all_push In d.places.axioms name.start s.axioms (name_stands name h.0);
+      listed = s.listed;
+      conjectures = s.conjectures;
+      init = s.init;
+      actions = s.actions;
+      last = s.last;
+      conditions = s.conditions;
+      quantifiers = both d.places.quantifiers (quantifiers_in false e) s.quantifiers
+          (quantifiers_stand false e h.1);
+    }
+    step d (Conjecture name e) s h = record {
+      functions = s.functions;
+      axioms = s.axioms;
+      listed = s.listed;
+      conjectures = all_push In d.places.conjectures name.start s.conjectures (name_stands name h.0);
+      init = s.init;
+      actions = s.actions;
+      last = s.last;
+      conditions = s.conditions;
+      quantifiers = both d.places.quantifiers (quantifiers_in false e) s.quantifiers
+          (quantifiers_stand false e h.1);
+    }
+    step d (Init at cs) s h = record {
+      functions = s.functions;
+      axioms = s.axioms;
+      listed = s.listed;
       conjectures = s.conjectures;
       init = h.0;
       actions = s.actions;
       last = s.last;
-      conditions = all_append ConditionIn m.places.conditions (conditions_of_block text m (block_of cs)) s.conditions
-          (block_conditions_stand text m (block_of cs) (within_block cs h.1));
-      quantifiers = both m.places.quantifiers (quantifiers_of_block (block_of cs)) s.quantifiers
+      conditions = all_append ConditionIn d.places.conditions (conditions_of_block text d.vocabulary d.bodies (block_of cs))
+          s.conditions (block_conditions_stand text d.vocabulary d.bodies (block_of cs) (within_block cs h.1));
+      quantifiers = both d.places.quantifiers (quantifiers_of_block (block_of cs)) s.quantifiers
           (block_stands (block_of cs) (within_block cs h.1));
     }
-    step m (Action name cs) s h = record {
+    step d (Action name cs) s h = record {
       functions = s.functions;
       axioms = s.axioms;
+      listed = s.listed;
       conjectures = s.conjectures;
       init = s.init;
-      actions = all_push In m.places.actions name.start s.actions (name_stands name h.0);
+      actions = all_push In d.places.actions name.start s.actions (name_stands name h.0);
       last = s.last;
-      conditions = all_append ConditionIn m.places.conditions (conditions_of_block text m (block_of cs)) s.conditions
-          (block_conditions_stand text m (block_of cs) (within_block cs h.1));
-      quantifiers = both m.places.quantifiers (quantifiers_of_block (block_of cs)) s.quantifiers
+      conditions = all_append ConditionIn d.places.conditions (conditions_of_block text d.vocabulary d.bodies (block_of cs))
+          s.conditions (block_conditions_stand text d.vocabulary d.bodies (block_of cs) (within_block cs h.1));
+      quantifiers = both d.places.quantifiers (quantifiers_of_block (block_of cs)) s.quantifiers
           (block_stands (block_of cs) (within_block cs h.1));
     }
-    step m (Final at cs) s h = record {
+    step d (Final at cs) s h = record {
       functions = s.functions;
       axioms = s.axioms;
+      listed = s.listed;
       conjectures = s.conjectures;
       init = s.init;
       actions = s.actions;
       last = h.0;
-      conditions = all_append ConditionIn m.places.conditions (conditions_of_block text m (block_of cs)) s.conditions
-          (block_conditions_stand text m (block_of cs) (within_block cs h.1));
-      quantifiers = both m.places.quantifiers (quantifiers_of_block (block_of cs)) s.quantifiers
+      conditions = all_append ConditionIn d.places.conditions (conditions_of_block text d.vocabulary d.bodies (block_of cs))
+          s.conditions (block_conditions_stand text d.vocabulary d.bodies (block_of cs) (within_block cs h.1));
+      quantifiers = both d.places.quantifiers (quantifiers_of_block (block_of cs)) s.quantifiers
           (block_stands (block_of cs) (within_block cs h.1));
     }
+    step d (Define name bs e) s h = record {
+      functions = s.functions;
+      axioms = s.axioms;
+      listed = s.listed;
+      conjectures = s.conjectures;
+      init = s.init;
+      actions = s.actions;
+      last = s.last;
+      conditions = s.conditions;
+      quantifiers = both d.places.quantifiers (quantifiers_in true e) s.quantifiers
+          (quantifiers_stand true e h.2);
+    }
 
-    steps : (items : List ItemTree) (d : Draft) → Stands d.model → TreeWithin n items
-        → Stands (with_items text d items).model
+    steps : (items : List ItemTree) (d : DraftTree) → Stands d → AllByRecursion (ItemWithin n) items
+        → Stands (draft_of text d items)
     steps [] d s h = s
-    steps (item ∷ items) d s h = steps items (with_item text d item) (step d.model item s h.0) h.1
+    steps (item ∷ items) d s h = steps items (draft_with text d item) (step d item s h.0) h.1
+
+  whole : (d : DraftTree) → Stands d → ArePlacesWithin n (model_of_draft d).places
+  whole d s = record {
+    functions = s.functions;
+    axioms = both d.listed.places d.places.axioms s.listed s.axioms;
+    conjectures = s.conjectures;
+    init = s.init;
+    actions = s.actions;
+    last = s.last;
+    conditions = s.conditions;
+    quantifiers = s.quantifiers;
+  }
 
 pub places_stand_in_text : PlacesStandInText
-places_stand_in_text text n items h =
-    steps n text items no_items
+places_stand_in_text text n tree h =
+    whole n (draft_of text empty_draft tree.items)
+    (steps n text tree.items empty_draft
     (record {
       functions = tt;
       axioms = tt;
+      listed = tt;
       conjectures = tt;
       init = omega arith;
       actions = tt;
       last = omega arith;
       conditions = tt;
       quantifiers = tt;
-    }) h
+    }) h)

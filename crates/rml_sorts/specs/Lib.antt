@@ -1,5 +1,6 @@
-pub mod Answering
 pub mod Commands
+pub mod Listed
+pub mod Sizes
 pub mod Items
-pub mod Progress
+pub mod Sound
 pub mod Laws

@@ -1,5 +1,5 @@
-// Blocks: each command is judged, and made into one of primitives.
-ghost use Rattle.std.specs.Prelude.{◌≡◌, ◌++◌, [], length, OnOk};
+// Blocks: each command is made into one of primitives, unless a part of it is too large.
+ghost use Rattle.std.specs.Prelude.{◌≡◌, ◌++◌, [], None, length, OnOk};
 ghost use Rattle.rml_terms.specs.Tree.{expr_tree, exprs_of, expr_trees};
 ghost use Rattle.rml_syntax.specs.Tree.{command_tree, command_trees, block_of};
 ghost use Rattle.rml_syntax.specs.Tree.{block_trees, blocks_of, CommandTree};
@@ -11,12 +11,14 @@ ghost use Rattle.rml_terms.specs.Shape.{ExprNests, ExprsNest};
 ghost use Rattle.rml_syntax.specs.Shape.{SideNests, CommandNests, BlockNests, BlocksNest};
 ghost use Rattle.rml_command.specs.View.{command as command_view, commands as commands_view};
 ghost use Rattle.rml_command.specs.Trees.{seq, choose};
-ghost use Rattle.rml_sort_check.specs.Demands.{command_demands, block_demands, blocks_demands};
+ghost use Rattle.rml_sort_check.specs.declared.wanted.Wanted.TheVariants as wanted;
+ghost use Rattle.rml_sort_check.specs.Demands.{first_fault, demands, command_demands, block_demands};
 ghost use Rattle.rml_sorts.specs.Commands.{command_of, commands_of, branches_of, conditions_of, conditions_of_block};
 ghost use Rattle.rml_sorts.specs.Commands.{conditions_of_blocks};
-ghost use Rattle.rml_names.specs.Drafts.{model_in};
-ghost use Rattle.rml_names.specs.Sound.{IsSound};
-ghost use Rattle.rml_sorts.specs.Answering.{Answers};
+ghost use Rattle.rml_names.specs.Drafts.{draft_in};
+ghost use Rattle.rml_items.specs.Answering.{Answers};
+ghost use Rattle.rml_sorts.specs.Sizes.{command_sizes, block_sizes};
+ghost use Rattle.rml_sorts.specs.Sound.{IsSound};
 
 use crate::sentences::{assertion, branching, noted_sentence};
 use crate::update_commands::{assign_command, insert_command, put_command, remove_command};
@@ -25,6 +27,7 @@ use rml_command::{Command, Condition, Primitive, Word};
 use rml_lex::Fault;
 use rml_names::ModelDraft;
 use rml_syntax as syntax;
+use rml_syntax::Format;
 use rml_terms::Expr;
 use std::alloc::Global;
 
@@ -46,17 +49,21 @@ fn command(
     alloc: Global,
     text: &[u8],
     draft: &ModelDraft,
+    format: Format,
     c: &syntax::Command,
     conditions: &mut Vec<Condition>,
 ) -> Result<Command, Refused<Fault>>
     requires nests { CommandNests 100 (command_tree c.now) }
     requires within { CommandWithin (length text.now) (command_tree c.now) }
-    requires sound { IsSound (model_in draft.now) }
-    ensures command { Answers command_view result (command_demands text.now (model_in draft.now) (command_tree c.now))
-        (command_of text.now (model_in draft.now) (command_tree c.now)) }
+    requires sound { IsSound (draft_in draft.now) }
+    requires met { first_fault
+        (command_demands text.now (draft_in draft.now).vocabulary format (command_tree c.now)) ≡ None }
+    ensures command { Answers command_view result
+        (command_sizes text.now (draft_in draft.now).vocabulary (draft_in draft.now).bodies (command_tree c.now))
+        (command_of text.now (draft_in draft.now).vocabulary (draft_in draft.now).bodies (command_tree c.now)) }
     ensures conditions { OnOk result
         (conditions.new.items ≡ conditions.old.items
-        ++ conditions_of text.now (model_in draft.now) (command_tree c.now)) }
+        ++ conditions_of text.now (draft_in draft.now).vocabulary (draft_in draft.now).bodies (command_tree c.now)) }
 {
     match c {
         syntax::Command::Skip(_) => Ok(Command::Seq(Vec::new(alloc))),
@@ -65,16 +72,15 @@ fn command(
         syntax::Command::Assert(at, e) => asserted(alloc, text, draft, *at, e, conditions),
         syntax::Command::If(at, e, a, b) => {
             let sentence = noted_sentence(alloc, text, draft, Word::If, *at, e, conditions)?;
-            let first = block(alloc, text, draft, a, conditions)?;
-            let second = block(alloc, text, draft, b, conditions)?;
+            let first = block(alloc, text, draft, format, a, conditions)?;
+            let second = block(alloc, text, draft, format, b, conditions)?;
             let command = branching(alloc, sentence, first, second)?;
             Ok(command)
         }
-        #[tactic(auto, using(crate::proofs::BlockLists::choice_tree, crate::proofs::BlockLists::branches_nest))]
         syntax::Command::Choose(_, all) => {
             let mut branches = Vec::new(alloc);
             for b in all {
-                let commands = block(alloc, text, draft, b, conditions)?;
+                let commands = block(alloc, text, draft, format, b, conditions)?;
                 branches.push(sequence(commands))?;
             }
             Ok(choice_between(branches))
@@ -83,7 +89,7 @@ fn command(
         syntax::Command::Remove(_, name, args) => remove_command(alloc, text, draft, *name, args),
         syntax::Command::Put(_, name, args, e) => put_command(alloc, text, draft, *name, args, e),
         syntax::Command::Assign(name, parameters, value) => {
-            assign_command(alloc, text, draft, *name, parameters, value)
+            assign_command(alloc, text, draft, format, *name, parameters, value)
         }
     }
 }
@@ -98,13 +104,18 @@ fn assumed(
 ) -> Result<Command, Refused<Fault>>
     requires nests { ExprNests 100 (expr_tree e.now) }
     requires within { ExprWithin (length text.now) (expr_tree e.now) }
-    requires sound { IsSound (model_in draft.now) }
+    requires sound { IsSound (draft_in draft.now) }
+    requires met { first_fault (demands text.now (draft_in draft.now).vocabulary [] wanted.Formula (expr_tree e.now))
+        ≡ None }
     ensures command { Answers command_view result
-        (command_demands text.now (model_in draft.now) (syntax.Assume at (expr_tree e.now)))
-        (command_of text.now (model_in draft.now) (syntax.Assume at (expr_tree e.now))) }
+        (command_sizes text.now (draft_in draft.now).vocabulary (draft_in draft.now).bodies
+        (syntax.Assume at (expr_tree e.now)))
+        (command_of text.now (draft_in draft.now).vocabulary (draft_in draft.now).bodies
+        (syntax.Assume at (expr_tree e.now))) }
     ensures conditions { OnOk result
         (conditions.new.items ≡ conditions.old.items
-        ++ conditions_of text.now (model_in draft.now) (syntax.Assume at (expr_tree e.now))) }
+        ++ conditions_of text.now (draft_in draft.now).vocabulary (draft_in draft.now).bodies
+        (syntax.Assume at (expr_tree e.now))) }
 {
     let sentence = noted_sentence(alloc, text, draft, Word::Assume, at, e, conditions)?;
     Ok(Command::Prim(Primitive::Assume(sentence)))
@@ -120,13 +131,18 @@ fn asserted(
 ) -> Result<Command, Refused<Fault>>
     requires nests { ExprNests 100 (expr_tree e.now) }
     requires within { ExprWithin (length text.now) (expr_tree e.now) }
-    requires sound { IsSound (model_in draft.now) }
+    requires sound { IsSound (draft_in draft.now) }
+    requires met { first_fault (demands text.now (draft_in draft.now).vocabulary [] wanted.Formula (expr_tree e.now))
+        ≡ None }
     ensures command { Answers command_view result
-        (command_demands text.now (model_in draft.now) (syntax.Assert at (expr_tree e.now)))
-        (command_of text.now (model_in draft.now) (syntax.Assert at (expr_tree e.now))) }
+        (command_sizes text.now (draft_in draft.now).vocabulary (draft_in draft.now).bodies
+        (syntax.Assert at (expr_tree e.now)))
+        (command_of text.now (draft_in draft.now).vocabulary (draft_in draft.now).bodies
+        (syntax.Assert at (expr_tree e.now))) }
     ensures conditions { OnOk result
         (conditions.new.items ≡ conditions.old.items
-        ++ conditions_of text.now (model_in draft.now) (syntax.Assert at (expr_tree e.now))) }
+        ++ conditions_of text.now (draft_in draft.now).vocabulary (draft_in draft.now).bodies
+        (syntax.Assert at (expr_tree e.now))) }
 {
     let sentence = noted_sentence(alloc, text, draft, Word::Assert, at, e, conditions)?;
     let command = assertion(alloc, sentence)?;
@@ -138,22 +154,29 @@ pub fn block(
     alloc: Global,
     text: &[u8],
     draft: &ModelDraft,
+    format: Format,
     commands: &[syntax::Command],
     conditions: &mut Vec<Condition>,
 ) -> Result<Vec<Command>, Refused<Fault>>
     requires nests { BlockNests 100 (block_of (command_trees commands.now)) }
     requires within { BlockWithin (length text.now) (block_of (command_trees commands.now)) }
-    requires sound { IsSound (model_in draft.now) }
+    requires sound { IsSound (draft_in draft.now) }
+    requires met { first_fault
+        (block_demands text.now (draft_in draft.now).vocabulary format (block_of (command_trees commands.now)))
+        ≡ None }
     ensures command { Answers (λ r. commands_view r.items) result
-        (block_demands text.now (model_in draft.now) (block_of (command_trees commands.now)))
-        (commands_of text.now (model_in draft.now) (block_of (command_trees commands.now))) }
+        (block_sizes text.now (draft_in draft.now).vocabulary (draft_in draft.now).bodies
+        (block_of (command_trees commands.now)))
+        (commands_of text.now (draft_in draft.now).vocabulary (draft_in draft.now).bodies
+        (block_of (command_trees commands.now))) }
     ensures conditions { OnOk result
         (conditions.new.items ≡ conditions.old.items
-        ++ conditions_of_block text.now (model_in draft.now) (block_of (command_trees commands.now))) }
+        ++ conditions_of_block text.now (draft_in draft.now).vocabulary (draft_in draft.now).bodies
+        (block_of (command_trees commands.now))) }
 {
     let mut all = Vec::new(alloc);
     for c in commands {
-        all.push(command(alloc, text, draft, c, conditions)?)?;
+        all.push(command(alloc, text, draft, format, c, conditions)?)?;
     }
     Ok(all)
 }

@@ -1,298 +1,104 @@
-// Items: each is judged in the model of those before it, and added to the draft.
-ghost use Rattle.std.specs.Prelude.{◌≡◌, ℕ, List, ◌++◌, ◌∷◌, ◌<◌, [], None, length, map, IfOk};
-ghost use Rattle.fol_sig.specs.Tables.{AreSorts};
+// Items: what each adds to the draft, unless a sentence or right side of it is too large. Their names and sorts were
+// judged before.
+ghost use Rattle.std.specs.Prelude.{◌≡◌, ◌<◌, ◌≤◌, ◌-◌, ◌++◌, [], None, length, IfOk, OnOk};
 ghost use Rattle.rml_terms.specs.Tree.{expr_tree};
+ghost use Rattle.rml_terms.specs.Shape.{ExprNests};
+ghost use Rattle.rml_terms.specs.Within.{NameWithin, NamesWithin, ExprWithin};
+ghost use Rattle.rml_terms.specs.Places.{name_places};
 ghost use Rattle.rml_syntax.specs.Tree.{command_trees, item_tree, block_of};
 ghost use Rattle.rml_syntax.specs.Tree as syntax;
-ghost use Rattle.rml_terms.specs.Within.{NameWithin, NamesWithin, ExprWithin};
-ghost use Rattle.rml_syntax.specs.Within.{CommandsWithin, ItemWithin};
-ghost use Rattle.rml_terms.specs.Shape.{ExprNests};
+ghost use Rattle.rml_syntax.specs.Within.{BindersWithin, CommandsWithin, ItemWithin};
 ghost use Rattle.rml_syntax.specs.Shape.{CommandsNest, ItemNests};
-ghost use Rattle.rml_sort_check.specs.declared.wanted.Wanted.TheVariants as wanted;
-ghost use Rattle.rml_names.specs.Meanings.{bytes_of, is_among, sort_number};
-ghost use Rattle.rml_sort_check.specs.Demands.{first_fault, demands, block_demands};
-ghost use Rattle.rml_sorts.specs.Items.{declares, declares_symbol, stands_once, sort_demands, sort_known, is_sentence};
-ghost use Rattle.rml_sorts.specs.Items.{block_command, model_with, item_demands, with_item};
-ghost use Rattle.rml_sorts.specs.Commands.{conditions_of_block};
-ghost use Rattle.rml_elaborate.specs.Quantifiers.{quantifiers_of_block};
 ghost use Rattle.rml_command.specs.View.{command as command_view};
-ghost use Rattle.rml_names.specs.Drafts.{model_in};
-ghost use Rattle.rml_sorts.specs.Progress.{draft_of};
-ghost use Rattle.rml_names.specs.Sound.{IsSound};
-ghost use Rattle.rml_sorts.specs.Answering.{Answers};
+ghost use Rattle.rml_names.specs.Drafts.{draft_in};
+ghost use Rattle.rml_sort_check.specs.declared.wanted.Wanted.TheVariants as wanted;
+ghost use Rattle.rml_sort_check.specs.Demands.{first_fault, demands, block_demands, definition_demands};
+ghost use Rattle.rml_elaborate.specs.Quantifiers.{quantifiers_of_block};
+ghost use Rattle.rml_elaborate.specs.Sizes.{large_use_in_formula, large_use_in_definition as use_in_definition};
+ghost use Rattle.rml_items.specs.Answering.{Answers};
+ghost use Rattle.rml_items.specs.Items.{head_demands, body_demands};
+ghost use Rattle.rml_sorts.specs.Commands.{conditions_of_block};
+ghost use Rattle.base.specs.Lists.{count_from};
+ghost use Rattle.rml_sorts.specs.Items.{block_command, draft_with, with_listed_axiom};
+ghost use Rattle.rml_sorts.specs.Listed.{listed_axiom as axiom_of};
+ghost use Rattle.rml_sorts.specs.Sizes.{no_large_use, block_sizes, item_sizes};
+ghost use Rattle.rml_sorts.specs.Sound.{IsSound, AreElements};
 
 use crate::blocks::{block, sequence};
-use crate::sentences::judged_sentence;
-use base::Refused;
-use fol_sig::{Sort, Sorts};
+use crate::listed::listed_axiom;
+use crate::sentences::{sentence, too_large};
+use base::{Mem, Refused, Row};
+use fol_formula::Sentence;
+use fol_sig::Sort;
+use fol_subst::Template;
 use rml_command::{Command, Condition};
-use rml_elaborate::{add_block_quantifiers, add_quantifiers};
-use rml_lex::{Fault, FaultCode};
-use rml_names::{MAX_NAMES, ModelDraft, bytes};
+use rml_elaborate::{add_block_quantifiers, add_quantifiers, definition, large_use_in_definition};
+use rml_items::{
+    add_action, add_axiom, add_conjecture, add_definition, add_function, add_relation, add_sort,
+    add_variable, sorted_law,
+};
+use rml_lex::Fault;
+use rml_names::{ModelDraft, bytes};
 use rml_syntax as syntax;
-use rml_syntax::Item;
-use rml_terms::{Expr, Name};
+use rml_syntax::{Format, Item};
+use rml_terms::{Binder, Expr, Name};
 use std::alloc::Global;
 
-// How many arguments a symbol may have.
-const MAX_ARGUMENTS: usize = 8;
-
-// A draft, and which of the blocks that may stand once it has.
-#[derive(Drop)]
-pub struct Progress {
-    pub draft: ModelDraft,
-    pub has_init: bool,
-    pub has_last: bool,
-}
-
-// A declared name: it is new, and there is room for it.
-fn declaration_fault(draft: &ModelDraft, taken: bool, name: Name) -> Option<Fault>
-    requires { IsSound (model_in draft.now) }
-    ensures { result ≡ first_fault (declares (model_in draft.now) taken name) }
-{
-    if taken {
-        return Some(Fault {
-            code: FaultCode::DeclaredTwice,
-            at: name.start,
-        });
-    }
-    if draft.name_count() >= MAX_NAMES {
-        return Some(Fault {
-            code: FaultCode::TooManyNames,
-            at: name.start,
-        });
-    }
-    None
-}
-
-fn symbol_fault(text: &[u8], draft: &ModelDraft, name: Name) -> Option<Fault>
-    requires within { NameWithin (length text.now) name }
-    requires sound { IsSound (model_in draft.now) }
-    ensures { result ≡ first_fault (declares_symbol text.now (model_in draft.now) name) }
-{
-    declaration_fault(draft, draft.is_symbol(bytes(text, name)), name)
-}
-
-fn sentence_name_fault(text: &[u8], draft: &ModelDraft, name: Name) -> Option<Fault>
-    requires within { NameWithin (length text.now) name }
-    requires sound { IsSound (model_in draft.now) }
-    ensures { result ≡ first_fault
-        (declares (model_in draft.now) (is_sentence text.now (model_in draft.now) (bytes_of text.now name)) name) }
-{
-    let bytes = bytes(text, name);
-    let taken = draft.names.axioms.contains(bytes) || draft.names.conjectures.contains(bytes);
-    declaration_fault(draft, taken, name)
-}
-
-fn known_sort(text: &[u8], draft: &ModelDraft, name: Name) -> Result<Sort, Refused<Fault>>
-    requires within { NameWithin (length text.now) name }
-    requires sound { IsSound (model_in draft.now) }
-    ensures sort { Answers (λ k. k.0) result (sort_known text.now (model_in draft.now) name ∷ [])
-        (sort_number text.now (model_in draft.now) name) }
-    ensures known { IfOk result (λ k. k.0 < (model_in draft.now).signature.sorts) }
-{
-    match draft.sort(bytes(text, name)) {
-        Some(place) => Ok(Sort(place)),
-        None => Err(Refused::For(Fault {
-            code: FaultCode::UnknownName,
-            at: name.start,
-        })),
-    }
-}
-
-fn argument_sorts(
-    alloc: Global,
-    text: &[u8],
-    draft: &ModelDraft,
-    names: &[Name],
-) -> Result<Sorts, Refused<Fault>>
-    requires within { NamesWithin (length text.now) names.now }
-    requires sound { IsSound (model_in draft.now) }
-    ensures sorts { Answers (λ ks. ks) result (sort_demands text.now (model_in draft.now) 0 names.now)
-        (map (sort_number text.now (model_in draft.now)) names.now) }
-    ensures known { IfOk result (AreSorts (model_in draft.now).signature.sorts) }
-{
-    let mut sorts = Sorts::new(alloc);
-    for name in names {
-        let sort = known_sort(text, draft, *name)?;
-        if sorts.as_slice().len() >= MAX_ARGUMENTS {
-            return Err(Refused::For(Fault {
-                code: FaultCode::WrongArgumentCount,
-                at: name.start,
-            }));
-        }
-        sorts.push(sort);
-    }
-    Ok(sorts)
-}
-
-// `sort`
-fn add_sort(
-    alloc: Global,
-    text: &[u8],
-    draft: &mut ModelDraft,
-    name: Name,
-) -> Result<(), Refused<Fault>>
-    requires within { NameWithin (length text.now) name }
-    requires sound { IsSound (model_in draft.old) }
-    ensures { Answers (λ _. model_in draft.new) result
-        (declares (model_in draft.old) (is_among (model_in draft.old).names.sorts (bytes_of text.now name)) name)
-        (model_with text.now (model_in draft.old) (syntax.Sort name)) }
-{
-    let taken = draft.names.sorts.contains(bytes(text, name));
-    if let Some(fault) = declaration_fault(draft, taken, name) {
-        return Err(Refused::For(fault));
-    }
-    draft.add_sort(alloc, text, name)?;
-    Ok(())
-}
-
-// `relation`
-fn add_relation(
-    alloc: Global,
-    text: &[u8],
-    draft: &mut ModelDraft,
-    name: Name,
-    sorts: &[Name],
-) -> Result<(), Refused<Fault>>
-    requires within { NameWithin (length text.now) name }
-    requires sorts { NamesWithin (length text.now) sorts.now }
-    requires sound { IsSound (model_in draft.old) }
-    ensures { Answers (λ _. model_in draft.new) result
-        (declares_symbol text.now (model_in draft.old) name ++ sort_demands text.now (model_in draft.old) 0 sorts.now)
-        (model_with text.now (model_in draft.old) (syntax.Relation name sorts.now)) }
-{
-    if let Some(fault) = symbol_fault(text, draft, name) {
-        return Err(Refused::For(fault));
-    }
-    let sorts = argument_sorts(alloc, text, draft, sorts)?;
-    draft.add_relation(alloc, text, name, sorts)?;
-    Ok(())
-}
-
-// The sorts of a function's arguments, and that of its values.
-fn function_sorts(
-    alloc: Global,
-    text: &[u8],
-    draft: &ModelDraft,
-    sorts: &[Name],
-    sort: Name,
-) -> Result<(Sorts, Sort), Refused<Fault>>
-    requires sorts { NamesWithin (length text.now) sorts.now }
-    requires sort { NameWithin (length text.now) sort }
-    requires sound { IsSound (model_in draft.now) }
-    ensures sorts { Answers {V = List ℕ × ℕ} (λ p. (p.0, p.1.0)) result
-        (sort_demands text.now (model_in draft.now) 0 sorts.now ++ (sort_known text.now (model_in draft.now) sort ∷ []))
-        (map (sort_number text.now (model_in draft.now)) sorts.now, sort_number text.now (model_in draft.now) sort) }
-    ensures from_known { IfOk result (λ p. AreSorts (model_in draft.now).signature.sorts p.0) }
-    ensures into_known { IfOk result (λ p. p.1.0 < (model_in draft.now).signature.sorts) }
-{
-    let from = argument_sorts(alloc, text, draft, sorts)?;
-    let into = known_sort(text, draft, sort)?;
-    Ok((from, into))
-}
-
-// `function`
-fn add_function(
-    alloc: Global,
-    text: &[u8],
-    draft: &mut ModelDraft,
-    name: Name,
-    sorts: &[Name],
-    sort: Name,
-) -> Result<(), Refused<Fault>>
-    requires within { NameWithin (length text.now) name }
-    requires sorts { NamesWithin (length text.now) sorts.now }
-    requires sort { NameWithin (length text.now) sort }
-    requires sound { IsSound (model_in draft.old) }
-    ensures { Answers (λ _. model_in draft.new) result
-        (declares_symbol text.now (model_in draft.old) name
-        ++ (sort_demands text.now (model_in draft.old) 0 sorts.now
-        ++ (sort_known text.now (model_in draft.old) sort ∷ [])))
-        (model_with text.now (model_in draft.old) (syntax.Function name sorts.now sort)) }
-{
-    if let Some(fault) = symbol_fault(text, draft, name) {
-        return Err(Refused::For(fault));
-    }
-    let (from, into) = function_sorts(alloc, text, draft, sorts, sort)?;
-    draft.add_function(alloc, text, name, from, into)?;
-    Ok(())
-}
-
-// `variable`
-fn add_variable(
-    alloc: Global,
-    text: &[u8],
-    draft: &mut ModelDraft,
-    name: Name,
-    sort: Name,
-) -> Result<(), Refused<Fault>>
-    requires within { NameWithin (length text.now) name }
-    requires sort { NameWithin (length text.now) sort }
-    requires sound { IsSound (model_in draft.old) }
-    ensures { Answers (λ _. model_in draft.new) result
-        (declares_symbol text.now (model_in draft.old) name ++ (sort_known text.now (model_in draft.old) sort ∷ []))
-        (model_with text.now (model_in draft.old) (syntax.Variable name sort)) }
-{
-    if let Some(fault) = symbol_fault(text, draft, name) {
-        return Err(Refused::For(fault));
-    }
-    let into = known_sort(text, draft, sort)?;
-    draft.add_function(alloc, text, name, Sorts::new(alloc), into)?;
-    Ok(())
-}
-
 // `axiom`
-fn add_axiom(
+fn build_axiom(
     alloc: Global,
     text: &[u8],
     draft: &mut ModelDraft,
     name: Name,
     e: &Expr,
 ) -> Result<(), Refused<Fault>>
-    requires within { NameWithin (length text.now) name }
+    requires name { NameWithin (length text.now) name }
     requires nests { ExprNests 100 (expr_tree e.now) }
-    requires sentence { ExprWithin (length text.now) (expr_tree e.now) }
-    requires sound { IsSound (model_in draft.old) }
-    ensures { Answers (λ _. model_in draft.new) result
-        (declares (model_in draft.old) (is_sentence text.now (model_in draft.old) (bytes_of text.now name)) name
-        ++ demands text.now (model_in draft.old) [] wanted.Formula (expr_tree e.now))
-        (model_with text.now (model_in draft.old) (syntax.Axiom name (expr_tree e.now))) }
+    requires within { ExprWithin (length text.now) (expr_tree e.now) }
+    requires sound { IsSound (draft_in draft.old) }
+    requires head { first_fault
+        (head_demands text.now (draft_in draft.old).vocabulary (syntax.Axiom name (expr_tree e.now))) ≡ None }
+    requires met { first_fault (demands text.now (draft_in draft.old).vocabulary [] wanted.Formula (expr_tree e.now))
+        ≡ None }
+    ensures { Answers (λ _. draft_in draft.new) result
+        (no_large_use (large_use_in_formula text.now (draft_in draft.old).vocabulary (draft_in draft.old).bodies []
+        (expr_tree e.now)))
+        (draft_with text.now (draft_in draft.old) (syntax.Axiom name (expr_tree e.now))) }
 {
-    if let Some(fault) = sentence_name_fault(text, draft, name) {
-        return Err(Refused::For(fault));
-    }
-    let sentence = judged_sentence(alloc, text, draft, e)?;
+    let sentence = sentence(alloc, text, draft, e)?;
     let mut quantifiers = Vec::new(alloc);
     add_quantifiers(false, e, &mut quantifiers)?;
-    draft.add_axiom(alloc, text, name, sentence, quantifiers)?;
+    add_axiom(alloc, text, &mut draft.declared, name)?;
+    draft.push_axiom(sentence, name.start, quantifiers)?;
     Ok(())
 }
 
 // `conjecture`
-fn add_conjecture(
+fn build_conjecture(
     alloc: Global,
     text: &[u8],
     draft: &mut ModelDraft,
     name: Name,
     e: &Expr,
 ) -> Result<(), Refused<Fault>>
-    requires within { NameWithin (length text.now) name }
+    requires name { NameWithin (length text.now) name }
     requires nests { ExprNests 100 (expr_tree e.now) }
-    requires sentence { ExprWithin (length text.now) (expr_tree e.now) }
-    requires sound { IsSound (model_in draft.old) }
-    ensures { Answers (λ _. model_in draft.new) result
-        (declares (model_in draft.old) (is_sentence text.now (model_in draft.old) (bytes_of text.now name)) name
-        ++ demands text.now (model_in draft.old) [] wanted.Formula (expr_tree e.now))
-        (model_with text.now (model_in draft.old) (syntax.Conjecture name (expr_tree e.now))) }
+    requires within { ExprWithin (length text.now) (expr_tree e.now) }
+    requires sound { IsSound (draft_in draft.old) }
+    requires head { first_fault
+        (head_demands text.now (draft_in draft.old).vocabulary (syntax.Conjecture name (expr_tree e.now))) ≡ None }
+    requires met { first_fault (demands text.now (draft_in draft.old).vocabulary [] wanted.Formula (expr_tree e.now))
+        ≡ None }
+    ensures { Answers (λ _. draft_in draft.new) result
+        (no_large_use (large_use_in_formula text.now (draft_in draft.old).vocabulary (draft_in draft.old).bodies []
+        (expr_tree e.now)))
+        (draft_with text.now (draft_in draft.old) (syntax.Conjecture name (expr_tree e.now))) }
 {
-    if let Some(fault) = sentence_name_fault(text, draft, name) {
-        return Err(Refused::For(fault));
-    }
-    let sentence = judged_sentence(alloc, text, draft, e)?;
+    let sentence = sentence(alloc, text, draft, e)?;
     let mut quantifiers = Vec::new(alloc);
     add_quantifiers(false, e, &mut quantifiers)?;
-    draft.add_conjecture(alloc, text, name, sentence, quantifiers)?;
+    add_conjecture(alloc, text, &mut draft.declared, name)?;
+    draft.push_conjecture(sentence, name.start, quantifiers)?;
     Ok(())
 }
 
@@ -304,27 +110,33 @@ struct Block {
     quantifiers: Vec<u64>,
 }
 
-#[tactic(auto, using(crate::proofs::BlockLists::block_nests, crate::proofs::BlockLists::block_within))]
-fn judged_block(
+#[tactic(auto, using(rml_items::specs::Walking::block_nests, rml_items::specs::Walking::block_within))]
+fn built_block(
     alloc: Global,
     text: &[u8],
     draft: &ModelDraft,
+    format: Format,
     commands: &[syntax::Command],
 ) -> Result<Block, Refused<Fault>>
     requires nests { CommandsNest 100 (command_trees commands.now) }
     requires within { CommandsWithin (length text.now) (command_trees commands.now) }
-    requires sound { IsSound (model_in draft.now) }
+    requires sound { IsSound (draft_in draft.now) }
+    requires met { first_fault
+        (block_demands text.now (draft_in draft.now).vocabulary format (block_of (command_trees commands.now)))
+        ≡ None }
     ensures command { Answers (λ b. command_view b.command) result
-        (block_demands text.now (model_in draft.now) (block_of (command_trees commands.now)))
-        (block_command text.now (model_in draft.now) (command_trees commands.now)) }
+        (block_sizes text.now (draft_in draft.now).vocabulary (draft_in draft.now).bodies
+        (block_of (command_trees commands.now)))
+        (block_command text.now (draft_in draft.now) (command_trees commands.now)) }
     ensures conditions { IfOk result
         (λ b. b.conditions.items
-        ≡ conditions_of_block text.now (model_in draft.now) (block_of (command_trees commands.now))) }
+        ≡ conditions_of_block text.now (draft_in draft.now).vocabulary (draft_in draft.now).bodies
+        (block_of (command_trees commands.now))) }
     ensures quantifiers { IfOk result
         (λ b. b.quantifiers.items ≡ quantifiers_of_block (block_of (command_trees commands.now))) }
 {
     let mut conditions = Vec::new(alloc);
-    let commands_built = block(alloc, text, draft, commands, &mut conditions)?;
+    let commands_built = block(alloc, text, draft, format, commands, &mut conditions)?;
     let mut quantifiers = Vec::new(alloc);
     add_block_quantifiers(commands, &mut quantifiers)?;
     Ok(Block {
@@ -334,134 +146,233 @@ fn judged_block(
     })
 }
 
-fn add_action(
+// `action`
+fn build_action(
+    alloc: Global,
+    text: &[u8],
+    draft: &mut ModelDraft,
+    format: Format,
+    name: Name,
+    commands: &[syntax::Command],
+) -> Result<(), Refused<Fault>>
+    requires name { NameWithin (length text.now) name }
+    requires nests { CommandsNest 100 (command_trees commands.now) }
+    requires within { CommandsWithin (length text.now) (command_trees commands.now) }
+    requires sound { IsSound (draft_in draft.old) }
+    requires head { first_fault
+        (head_demands text.now (draft_in draft.old).vocabulary (syntax.Action name (command_trees commands.now)))
+        ≡ None }
+    requires met { first_fault
+        (block_demands text.now (draft_in draft.old).vocabulary format (block_of (command_trees commands.now)))
+        ≡ None }
+    ensures { Answers (λ _. draft_in draft.new) result
+        (block_sizes text.now (draft_in draft.old).vocabulary (draft_in draft.old).bodies
+        (block_of (command_trees commands.now)))
+        (draft_with text.now (draft_in draft.old) (syntax.Action name (command_trees commands.now))) }
+{
+    let block = built_block(alloc, text, draft, format, commands)?;
+    add_action(alloc, text, &mut draft.declared, name)?;
+    draft.push_action(block.command, name.start)?;
+    draft.push_places(block.conditions, block.quantifiers)?;
+    Ok(())
+}
+
+// `init`
+fn build_init(
+    alloc: Global,
+    text: &[u8],
+    draft: &mut ModelDraft,
+    format: Format,
+    at: u64,
+    commands: &[syntax::Command],
+) -> Result<(), Refused<Fault>>
+    requires nests { CommandsNest 100 (command_trees commands.now) }
+    requires within { CommandsWithin (length text.now) (command_trees commands.now) }
+    requires sound { IsSound (draft_in draft.old) }
+    requires met { first_fault
+        (block_demands text.now (draft_in draft.old).vocabulary format (block_of (command_trees commands.now)))
+        ≡ None }
+    ensures { Answers (λ _. draft_in draft.new) result
+        (block_sizes text.now (draft_in draft.old).vocabulary (draft_in draft.old).bodies
+        (block_of (command_trees commands.now)))
+        (draft_with text.now (draft_in draft.old) (syntax.Init at (command_trees commands.now))) }
+{
+    let block = built_block(alloc, text, draft, format, commands)?;
+    draft.init = block.command;
+    draft.places.init = at;
+    draft.push_places(block.conditions, block.quantifiers)?;
+    Ok(())
+}
+
+// `final`
+fn build_last(
+    alloc: Global,
+    text: &[u8],
+    draft: &mut ModelDraft,
+    format: Format,
+    at: u64,
+    commands: &[syntax::Command],
+) -> Result<(), Refused<Fault>>
+    requires nests { CommandsNest 100 (command_trees commands.now) }
+    requires within { CommandsWithin (length text.now) (command_trees commands.now) }
+    requires sound { IsSound (draft_in draft.old) }
+    requires met { first_fault
+        (block_demands text.now (draft_in draft.old).vocabulary format (block_of (command_trees commands.now)))
+        ≡ None }
+    ensures { Answers (λ _. draft_in draft.new) result
+        (block_sizes text.now (draft_in draft.old).vocabulary (draft_in draft.old).bodies
+        (block_of (command_trees commands.now)))
+        (draft_with text.now (draft_in draft.old) (syntax.Final at (command_trees commands.now))) }
+{
+    let block = built_block(alloc, text, draft, format, commands)?;
+    draft.last = block.command;
+    draft.places.last = at;
+    draft.push_places(block.conditions, block.quantifiers)?;
+    Ok(())
+}
+
+// `define`
+fn build_definition(
     alloc: Global,
     text: &[u8],
     draft: &mut ModelDraft,
     name: Name,
-    commands: &[syntax::Command],
+    parameters: &[Binder],
+    value: &Expr,
 ) -> Result<(), Refused<Fault>>
-    requires within { NameWithin (length text.now) name }
-    requires nests { CommandsNest 100 (command_trees commands.now) }
-    requires block { CommandsWithin (length text.now) (command_trees commands.now) }
-    requires sound { IsSound (model_in draft.old) }
-    ensures { Answers (λ _. model_in draft.new) result
-        (declares (model_in draft.old) (is_among (model_in draft.old).names.actions (bytes_of text.now name)) name
-        ++ block_demands text.now (model_in draft.old) (block_of (command_trees commands.now)))
-        (model_with text.now (model_in draft.old) (syntax.Action name (command_trees commands.now))) }
+    requires name { NameWithin (length text.now) name }
+    requires parameters { BindersWithin (length text.now) parameters.now }
+    requires nests { ExprNests 100 (expr_tree value.now) }
+    requires within { ExprWithin (length text.now) (expr_tree value.now) }
+    requires sound { IsSound (draft_in draft.old) }
+    requires head { first_fault (head_demands text.now (draft_in draft.old).vocabulary
+        (syntax.Define name parameters.now (expr_tree value.now))) ≡ None }
+    requires met { first_fault
+        (definition_demands text.now (draft_in draft.old).vocabulary parameters.now (expr_tree value.now)) ≡ None }
+    ensures { Answers (λ _. draft_in draft.new) result
+        (no_large_use (use_in_definition text.now (draft_in draft.old).vocabulary (draft_in draft.old).bodies
+        parameters.now (expr_tree value.now)))
+        (draft_with text.now (draft_in draft.old) (syntax.Define name parameters.now (expr_tree value.now))) }
 {
-    let taken = draft.names.actions.contains(bytes(text, name));
-    if let Some(fault) = declaration_fault(draft, taken, name) {
-        return Err(Refused::For(fault));
+    sorted_law();
+    if let Some(at) = large_use_in_definition(text, draft, parameters, value) {
+        return Err(too_large(at));
     }
-    let block = judged_block(alloc, text, draft, commands)?;
-    draft.add_action(alloc, text, name, block.command)?;
-    draft.add_places(block.conditions, block.quantifiers)?;
+    let body = definition(alloc, text, draft, parameters, value)?;
+    let mut quantifiers = Vec::new(alloc);
+    add_quantifiers(true, value, &mut quantifiers)?;
+    add_definition(alloc, text, &mut draft.declared, name, parameters)?;
+    draft.push_body(Template::of(body), quantifiers)?;
     Ok(())
 }
 
-// `init` or `final`: it may stand once.
-fn stand(taken: bool, at: u64) -> Option<Fault>
-    ensures { result ≡ first_fault (stands_once at taken) }
+// The places of the names of a sort's elements.
+fn push_elements(draft: &mut ModelDraft, names: &[Name]) -> Mem<()>
+    ensures { OnOk result (draft_in draft.new ≡ record (draft_in draft.old) {
+      places = record (draft_in draft.old).places
+          { functions = (draft_in draft.old).places.functions ++ name_places names.now };
+    }) }
 {
-    if taken {
-        Some(Fault {
-            code: FaultCode::DeclaredTwice,
-            at,
-        })
-    } else {
-        None
+    for name in names {
+        draft.push_function(name.start)?;
     }
+    Ok(())
 }
 
-fn add_init(
+// The axiom of a sort whose elements are the functions from `first` on, behind the names of elements.
+fn push_listed_axiom(
     alloc: Global,
     text: &[u8],
     draft: &mut ModelDraft,
-    taken: bool,
-    at: u64,
-    commands: &[syntax::Command],
-) -> Result<(), Refused<Fault>>
-    requires nests { CommandsNest 100 (command_trees commands.now) }
-    requires block { CommandsWithin (length text.now) (command_trees commands.now) }
-    requires sound { IsSound (model_in draft.old) }
-    ensures { Answers (λ _. model_in draft.new) result
-        (stands_once at taken ++ block_demands text.now (model_in draft.old) (block_of (command_trees commands.now)))
-        (model_with text.now (model_in draft.old) (syntax.Init at (command_trees commands.now))) }
+    sort: Sort,
+    first: u32,
+    name: Name,
+) -> Mem<()>
+    requires name { NameWithin (length text.now) name }
+    requires first { first ≤ length (draft_in draft.old).vocabulary.signature.functions }
+    requires sort { sort.0 < (draft_in draft.old).vocabulary.signature.sorts }
+    requires are { AreElements (draft_in draft.old).vocabulary.signature sort.0 first }
+    ensures { OnOk result (draft_in draft.new ≡ record (draft_in draft.old) {
+      listed = with_listed_axiom text.now (draft_in draft.old).listed name
+          (axiom_of sort.0 (count_from first (length (draft_in draft.old).vocabulary.signature.functions - first)));
+    }) }
 {
-    if let Some(fault) = stand(taken, at) {
-        return Err(Refused::For(fault));
-    }
-    let block = judged_block(alloc, text, draft, commands)?;
-    draft.init = block.command;
-    draft.places.init = at;
-    draft.add_places(block.conditions, block.quantifiers)?;
+    fol_formula::indices();
+    let end = draft.declared.signature.function_count();
+    let axiom = listed_axiom(alloc, sort, first, end)?;
+    let mut spelled = Vec::new(alloc);
+    spelled.extend_from_slice(bytes(text, name))?;
+    draft.push_listed(Row::from_vec(spelled), Sentence::of(axiom), name.start)?;
     Ok(())
 }
 
-fn add_last(
+// `sort`
+fn build_sort(
     alloc: Global,
     text: &[u8],
     draft: &mut ModelDraft,
-    taken: bool,
-    at: u64,
-    commands: &[syntax::Command],
+    name: Name,
+    names: &[Name],
 ) -> Result<(), Refused<Fault>>
-    requires nests { CommandsNest 100 (command_trees commands.now) }
-    requires block { CommandsWithin (length text.now) (command_trees commands.now) }
-    requires sound { IsSound (model_in draft.old) }
-    ensures { Answers (λ _. model_in draft.new) result
-        (stands_once at taken ++ block_demands text.now (model_in draft.old) (block_of (command_trees commands.now)))
-        (model_with text.now (model_in draft.old) (syntax.Final at (command_trees commands.now))) }
+    requires name { NameWithin (length text.now) name }
+    requires names { NamesWithin (length text.now) names.now }
+    requires sound { IsSound (draft_in draft.old) }
+    requires head { first_fault
+        (head_demands text.now (draft_in draft.old).vocabulary (syntax.Sort name names.now)) ≡ None }
+    ensures { Answers (λ _. draft_in draft.new) result []
+        (draft_with text.now (draft_in draft.old) (syntax.Sort name names.now)) }
 {
-    if let Some(fault) = stand(taken, at) {
-        return Err(Refused::For(fault));
+    let sort = Sort(draft.declared.signature.sorts());
+    let first = draft.declared.signature.function_count();
+    add_sort(alloc, text, &mut draft.declared, name, names)?;
+    push_elements(draft, names)?;
+    if !names.is_empty() {
+        push_listed_axiom(alloc, text, draft, sort, first, name)?;
     }
-    let block = judged_block(alloc, text, draft, commands)?;
-    draft.last = block.command;
-    draft.places.last = at;
-    draft.add_places(block.conditions, block.quantifiers)?;
     Ok(())
 }
 
-// An item, behind those that were read.
-pub fn add_item(
+/// An item, behind those that were built.
+pub fn build_item(
     alloc: Global,
     text: &[u8],
-    progress: &mut Progress,
+    format: Format,
+    draft: &mut ModelDraft,
     item: &Item,
 ) -> Result<(), Refused<Fault>>
     requires nests { ItemNests 100 (item_tree item.now) }
     requires within { ItemWithin (length text.now) (item_tree item.now) }
-    requires sound { IsSound (draft_of progress.old).model }
-    ensures { Answers (λ _. draft_of progress.new) result
-        (item_demands text.now (draft_of progress.old) (item_tree item.now))
-        (with_item text.now (draft_of progress.old) (item_tree item.now)) }
+    requires sound { IsSound (draft_in draft.old) }
+    requires head { first_fault (head_demands text.now (draft_in draft.old).vocabulary (item_tree item.now)) ≡ None }
+    requires met { first_fault (body_demands text.now format (draft_in draft.old).vocabulary (item_tree item.now))
+        ≡ None }
+    ensures { Answers (λ _. draft_in draft.new) result
+        (item_sizes text.now (draft_in draft.old).vocabulary (draft_in draft.old).bodies (item_tree item.now))
+        (draft_with text.now (draft_in draft.old) (item_tree item.now)) }
 {
-    let Progress {
-        draft,
-        has_init,
-        has_last,
-    } = progress;
     match item {
-        Item::Sort(name) => add_sort(alloc, text, draft, *name),
-        Item::Relation(name, sorts) => add_relation(alloc, text, draft, *name, sorts),
+        Item::Sort(name, names) => build_sort(alloc, text, draft, *name, names),
+        Item::Relation(name, sorts) => {
+            add_relation(alloc, text, &mut draft.declared, *name, sorts)?;
+            Ok(())
+        }
         Item::Function(name, sorts, sort) => {
-            add_function(alloc, text, draft, *name, sorts, *sort)
+            add_function(alloc, text, &mut draft.declared, *name, sorts, *sort)?;
+            draft.push_function(name.start)?;
+            Ok(())
         }
-        Item::Variable(name, sort) => add_variable(alloc, text, draft, *name, *sort),
-        Item::Axiom(name, e) => add_axiom(alloc, text, draft, *name, e),
-        Item::Conjecture(name, e) => add_conjecture(alloc, text, draft, *name, e),
-        Item::Action(name, block) => add_action(alloc, text, draft, *name, block),
-        Item::Init(at, block) => {
-            let had = *has_init;
-            *has_init = true;
-            add_init(alloc, text, draft, had, *at, block)
+        Item::Variable(name, sort) => {
+            add_variable(alloc, text, &mut draft.declared, *name, *sort)?;
+            draft.push_function(name.start)?;
+            Ok(())
         }
-        Item::Final(at, block) => {
-            let had = *has_last;
-            *has_last = true;
-            add_last(alloc, text, draft, had, *at, block)
+        Item::Axiom(name, e) => build_axiom(alloc, text, draft, *name, e),
+        Item::Conjecture(name, e) => build_conjecture(alloc, text, draft, *name, e),
+        Item::Action(name, block) => build_action(alloc, text, draft, format, *name, block),
+        Item::Init(at, block) => build_init(alloc, text, draft, format, *at, block),
+        Item::Final(at, block) => build_last(alloc, text, draft, format, *at, block),
+        Item::Define(name, parameters, value) => {
+            build_definition(alloc, text, draft, *name, parameters, value)
         }
     }
 }

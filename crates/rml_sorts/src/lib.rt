@@ -1,12 +1,13 @@
-//! Names and sorts: the model of a text's tree, or its first fault of this phase, and what holds of them.
+//! The model of a text's tree whose names and sorts are right, and the fault of what is too large to be written out.
 #![tactic(auto)]
 
 mod blocks;
 mod items;
 mod laws;
+mod listed;
 mod sentences;
 mod update_commands;
 mod whole_tree;
 
-pub use laws::{fault_law, model_law, order_law, place_law};
-pub use whole_tree::resolve;
+pub use laws::{draft_law, model_law, place_law, size_fault_law};
+pub use whole_tree::{draft_model, resolve};

@@ -10,36 +10,51 @@ ghost use Rattle.rml_sort_check.specs.declared.wanted.Wanted.TheVariants as want
 ghost use Rattle.rml_sort_check.specs.Demands.{demands, first_fault};
 ghost use Rattle.rml_elaborate.specs.Formulas.{formula_of};
 ghost use Rattle.rml_sorts.specs.Commands.{assertion as assertion_of, branching as branching_of};
-ghost use Rattle.rml_names.specs.Drafts.{model_in};
-ghost use Rattle.rml_names.specs.Sound.{IsSound};
-ghost use Rattle.rml_sorts.specs.Answering.{Answers};
+ghost use Rattle.rml_names.specs.Drafts.{draft_in};
+ghost use Rattle.rml_elaborate.specs.Sizes.{large_use_in_formula as large_use_of};
+ghost use Rattle.rml_lex.specs.declared.fault_code.FaultCode.TheVariants as fault_code;
+ghost use Rattle.rml_items.specs.Answering.{Answers};
+ghost use Rattle.rml_sorts.specs.Sizes.{no_large_use};
+ghost use Rattle.rml_sorts.specs.Sound.{IsSound};
 
 use base::{Mem, Refused};
 use fol_formula::{Formula, Sentence};
 use rml_command::{Command, Condition, Primitive, Word};
-use rml_elaborate::formula_outside;
-use rml_lex::Fault;
+use rml_elaborate::{formula_outside, large_use_in_formula};
+use rml_lex::{Fault, FaultCode};
 use rml_names::ModelDraft;
-use rml_sort_check::sentence_fault;
 use rml_terms::Expr;
 use std::alloc::Global;
 
-// The sentence of an expression whose names and sorts have no fault.
-fn sentence(alloc: Global, text: &[u8], draft: &ModelDraft, e: &Expr) -> Mem<Sentence>
+// The fault at a use in what is too large.
+pub fn too_large(at: u64) -> Refused<Fault>
+    ensures { result ≡ Refused.For (record { code = fault_code.LargeDefinition; at = at }) }
+{
+    Refused::For(Fault {
+        code: FaultCode::LargeDefinition,
+        at,
+    })
+}
+
+// The sentence of an expression that is not too large.
+fn written_sentence(alloc: Global, text: &[u8], draft: &ModelDraft, e: &Expr) -> Mem<Sentence>
     requires nests { ExprNests 100 (expr_tree e.now) }
     requires within { ExprWithin (length text.now) (expr_tree e.now) }
-    requires sound { IsSound (model_in draft.now) }
-    requires faultless { first_fault (demands text.now (model_in draft.now) [] wanted.Formula (expr_tree e.now))
+    requires sound { IsSound (draft_in draft.now) }
+    requires met { first_fault (demands text.now (draft_in draft.now).vocabulary [] wanted.Formula (expr_tree e.now))
         ≡ None }
-    ensures { IfOk result (λ p. p ≡ formula_of text.now (model_in draft.now) [] (expr_tree e.now)) }
+    ensures { IfOk result
+        (λ p. p ≡ formula_of text.now (draft_in draft.now).vocabulary (draft_in draft.now).bodies []
+        (expr_tree e.now)) }
 {
+    fol_subst::instance_laws();
     fol_formula::indices();
     let p = formula_outside(alloc, text, draft, e)?;
     Ok(Sentence::of(p))
 }
 
-// The sentence that an expression stands for, or its fault.
-pub fn judged_sentence(
+// The sentence that an expression stands for, unless it is too large.
+pub fn sentence(
     alloc: Global,
     text: &[u8],
     draft: &ModelDraft,
@@ -47,17 +62,19 @@ pub fn judged_sentence(
 ) -> Result<Sentence, Refused<Fault>>
     requires nests { ExprNests 100 (expr_tree e.now) }
     requires within { ExprWithin (length text.now) (expr_tree e.now) }
-    requires sound { IsSound (model_in draft.now) }
-    ensures { Answers (λ p. p) result (demands text.now (model_in draft.now) [] wanted.Formula (expr_tree e.now))
-        (formula_of text.now (model_in draft.now) [] (expr_tree e.now)) }
+    requires sound { IsSound (draft_in draft.now) }
+    requires met { first_fault (demands text.now (draft_in draft.now).vocabulary [] wanted.Formula (expr_tree e.now))
+        ≡ None }
+    ensures { Answers (λ p. p) result
+        (no_large_use (large_use_of text.now (draft_in draft.now).vocabulary (draft_in draft.now).bodies []
+        (expr_tree e.now)))
+        (formula_of text.now (draft_in draft.now).vocabulary (draft_in draft.now).bodies [] (expr_tree e.now)) }
 {
-    match sentence_fault(text, draft, e) {
-        Some(fault) => Err(Refused::For(fault)),
-        None => {
-            let sentence = sentence(alloc, text, draft, e)?;
-            Ok(sentence)
-        }
+    if let Some(at) = large_use_in_formula(text, draft, e) {
+        return Err(too_large(at));
     }
+    let sentence = written_sentence(alloc, text, draft, e)?;
+    Ok(sentence)
 }
 
 // The sentence behind a word, which is noted as a condition.
@@ -72,15 +89,22 @@ pub fn noted_sentence(
 ) -> Result<Sentence, Refused<Fault>>
     requires nests { ExprNests 100 (expr_tree e.now) }
     requires within { ExprWithin (length text.now) (expr_tree e.now) }
-    requires sound { IsSound (model_in draft.now) }
+    requires sound { IsSound (draft_in draft.now) }
+    requires met { first_fault (demands text.now (draft_in draft.now).vocabulary [] wanted.Formula (expr_tree e.now))
+        ≡ None }
     ensures sentence { Answers (λ p. p) result
-        (demands text.now (model_in draft.now) [] wanted.Formula (expr_tree e.now))
-        (formula_of text.now (model_in draft.now) [] (expr_tree e.now)) }
+        (no_large_use (large_use_of text.now (draft_in draft.now).vocabulary (draft_in draft.now).bodies []
+        (expr_tree e.now)))
+        (formula_of text.now (draft_in draft.now).vocabulary (draft_in draft.now).bodies [] (expr_tree e.now)) }
     ensures noted { OnOk result (conditions.new.items ≡ conditions.old.items
-        ++ record { word = word; at = at; sentence = formula_of text.now (model_in draft.now) [] (expr_tree e.now) }
-        ∷ []) }
+        ++ record {
+          word = word;
+          at = at;
+          sentence = formula_of text.now (draft_in draft.now).vocabulary
+              (draft_in draft.now).bodies [] (expr_tree e.now);
+        } ∷ []) }
 {
-    let sentence = judged_sentence(alloc, text, draft, e)?;
+    let sentence = sentence(alloc, text, draft, e)?;
     add_condition(alloc, word, at, &sentence, conditions)?;
     Ok(sentence)
 }

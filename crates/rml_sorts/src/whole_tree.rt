@@ -1,90 +1,88 @@
-// A whole tree: its items are read from the first to the last, each in the model of those before it, and the first
-// fault ends the reading. So a name is known behind its declaration alone.
-ghost use Rattle.std.specs.Prelude.{◌≡◌, length, None, Some, IfOk, OnOk, IfErr};
+// A whole tree: its names and sorts are judged first, and then its items are built from the first to the last. So
+// nothing is built of a text that has a fault, and what is too large is found before it is written out.
+ghost use Rattle.std.specs.Prelude.{◌≡◌, length, None, IfOk, OnOk, IfErr};
+ghost use Rattle.std.specs.List.{AllByRecursion};
 ghost use Rattle.base.specs.Because.{Because};
 ghost use Rattle.rml_lex.specs.Tokens.{StandsBy};
 ghost use Rattle.rml_syntax.specs.Tree.{file_tree, item_trees};
-ghost use Rattle.rml_syntax.specs.Within.{TreeWithin};
-ghost use Rattle.rml_syntax.specs.Shape.{IsShaped};
-ghost use Rattle.rml_sorts.specs.Items.{no_items, with_items, items_demands, model_of, fault_of};
-ghost use Rattle.rml_names.specs.Drafts.{model_in};
-ghost use Rattle.rml_sorts.specs.Progress.{draft_of};
-ghost use Rattle.rml_names.specs.Sound.{IsSound};
-ghost use Rattle.rml_sorts.specs.Answering.{Answers};
+ghost use Rattle.rml_syntax.specs.Within.{TreeWithin, ItemWithin};
+ghost use Rattle.rml_syntax.specs.Shape.{IsShaped, ItemNests};
+ghost use Rattle.rml_names.specs.Drafts.{draft_in, empty_draft};
+ghost use Rattle.rml_items.specs.Answering.{Answers};
+ghost use Rattle.rml_items.specs.Items.{fault_of};
+ghost use Rattle.rml_sorts.specs.Items.{draft_of, items_sizes, model_of, size_fault_of, IsRefusal};
+ghost use Rattle.rml_items.specs.Laws.{HaveMet};
+ghost use Rattle.rml_sorts.specs.Sound.{IsSound};
 
-use crate::items::{Progress, add_item};
-use crate::laws::fault_law;
+use crate::items::build_item;
+use crate::laws::{model_law, size_fault_law};
 use base::Refused;
 use rml_command::Model;
 use rml_lex::Fault;
 use rml_names::ModelDraft;
-use rml_syntax::{Item, Tree};
+use rml_syntax::{Format, Item, Tree};
 use std::alloc::Global;
 
-impl Progress {
-    // Before the first item.
-    fn new(alloc: Global) -> Self
-        ensures { draft_of result ≡ no_items }
-    {
-        Progress {
-            draft: ModelDraft::new(alloc),
-            has_init: false,
-            has_last: false,
-        }
-    }
-}
-
-// The items, from the first to the last, behind those that were read.
-fn add_items(
+// The items, from the first to the last, behind those that were built.
+fn build_items(
     alloc: Global,
     text: &[u8],
-    progress: &mut Progress,
+    format: Format,
+    draft: &mut ModelDraft,
     items: &[Item],
 ) -> Result<(), Refused<Fault>>
-    requires within { TreeWithin (length text.now) (item_trees items.now) }
-    requires shape { IsShaped (item_trees items.now) }
-    requires sound { IsSound (draft_of progress.old).model }
-    ensures draft { Answers (λ _. draft_of progress.new) result
-        (items_demands text.now (draft_of progress.old) (item_trees items.now))
-        (with_items text.now (draft_of progress.old) (item_trees items.now)) }
-    ensures sound { OnOk result (IsSound (draft_of progress.new).model) }
+    requires within { AllByRecursion (ItemWithin (length text.now)) (item_trees items.now) }
+    requires shape { AllByRecursion (ItemNests 100) (item_trees items.now) }
+    requires sound { IsSound (draft_in draft.old) }
+    requires met { HaveMet text.now format (draft_in draft.old).vocabulary (item_trees items.now) }
+    ensures { Answers (λ _. draft_in draft.new) result
+        (items_sizes text.now (draft_in draft.old) (item_trees items.now))
+        (draft_of text.now (draft_in draft.old) (item_trees items.now)) }
 {
+    fol_subst::instance_laws();
+    rml_items::sorted_law();
+    rml_items::met_law();
     for item in items {
-        add_item(alloc, text, progress, item)?;
+        build_item(alloc, text, format, draft, item)?;
     }
     Ok(())
 }
 
-// The draft of all items.
-fn read_items(alloc: Global, text: &[u8], items: &[Item]) -> Result<ModelDraft, Refused<Fault>>
-    requires within { TreeWithin (length text.now) (item_trees items.now) }
-    requires shape { IsShaped (item_trees items.now) }
-    ensures draft { Answers model_in result (items_demands text.now no_items (item_trees items.now))
-        (model_of text.now (item_trees items.now)) }
-    ensures sound { IfOk result (λ d. IsSound (model_in d)) }
+/// What is built of a tree whose names and sorts are right: its model, and the right sides of its derived relations,
+/// which no model has; or the fault of what is too large.
+pub fn draft_model(alloc: Global, text: &[u8], tree: &Tree) -> Result<ModelDraft, Refused<Fault>>
+    requires within { TreeWithin (length text.now) (file_tree tree.now) }
+    requires shape { IsShaped (file_tree tree.now) }
+    requires met { fault_of text.now (file_tree tree.now) ≡ None }
+    ensures { Answers draft_in result (items_sizes text.now empty_draft (file_tree tree.now).items)
+        (draft_of text.now empty_draft (file_tree tree.now).items) }
 {
-    let mut progress = Progress::new(alloc);
-    match add_items(alloc, text, &mut progress, items) {
-        Ok(()) => Ok(progress.draft),
+    rml_items::met_law();
+    let mut draft = ModelDraft::new(alloc);
+    match build_items(alloc, text, tree.format, &mut draft, &tree.items) {
+        Ok(()) => Ok(draft),
         Err(refused) => {
-            drop(progress);
+            drop(draft);
             Err(refused)
         }
     }
 }
 
-/// The model of a tree, or the fault of its names and sorts: of the demands that are not met, the first in the order of
-/// reading.
+/// The model of a tree, or its fault: of its names and sorts the first in the order of reading, or else the first use
+/// of a derived relation in what is too large once all uses are written out.
 pub fn resolve(alloc: Global, text: &[u8], tree: &Tree) -> Result<Model, Refused<Fault>>
     requires within { TreeWithin (length text.now) (file_tree tree.now) }
     requires shape { IsShaped (file_tree tree.now) }
     ensures model { IfOk result (λ m. m ≡ model_of text.now (file_tree tree.now)) }
-    ensures accepted { OnOk result (fault_of text.now (file_tree tree.now) ≡ None) }
-    ensures fault { IfErr result (Because (λ f. fault_of text.now (file_tree tree.now) ≡ Some f)) }
+    ensures names { OnOk result (fault_of text.now (file_tree tree.now) ≡ None) }
+    ensures sizes { OnOk result (size_fault_of text.now (file_tree tree.now) ≡ None) }
+    ensures fault { IfErr result (Because (IsRefusal text.now (file_tree tree.now))) }
     ensures place { IfErr result (Because (StandsBy (length text.now))) }
 {
-    fault_law();
-    let draft = read_items(alloc, text, &tree.items)?;
+    size_fault_law();
+    rml_items::judge(alloc, text, tree)?;
+    let draft = draft_model(alloc, text, tree)?;
+    model_law();
     let model = draft.into_model(alloc)?;
     Ok(model)
 }
