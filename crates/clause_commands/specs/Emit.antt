@@ -11,6 +11,7 @@ use Rattle.rml_command.specs.Models.{ModelTree}
 use Rattle.rml_command.specs.Goals.{goals_of, HasNone}
 use Rattle.rml_command.specs.declared.goal.Goal.{Goal}
 use Rattle.rml_exec.specs.declared.trace.Counterexample.{Counterexample}
+use Rattle.rml_wp.specs.Preconditions.{answered}
 use Rattle.rml_report.specs.Words.{cause_text}
 use Rattle.rml_report.specs.declared.cause.Cause.{Cause}
 use Rattle.ea_decide.specs.GroundForm.{IsClauseForm}
@@ -45,7 +46,7 @@ pub record IsRefutationOfGoal (limits : Ceilings) (m : ModelTree) (goal : Goal) 
     0 where
   pub within : PassesFirst limits m goal None
   pub safe : HasNone m goal
-  pub clauses : IsClauseForm m.signature (refuting_sentence m goal) f
+  pub clauses : IsClauseForm (answered m goal) (refuting_sentence m goal) f
   pub accepted : IsAccepted f lines
   pub refutes : adds_empty lines ≡ true
   pub range : IsLogOver f.variables (length f.clauses) lines

@@ -8,6 +8,7 @@ use Rattle.rml_command.specs.declared.goal.Goal.{Goal}
 use Rattle.ea_decide.specs.GroundForm.{IsClauseForm}
 use Rattle.ea_decide.specs.Laws.{IsSatisfiable}
 use Rattle.ea_decide.specs.Passing.{Ceilings}
+use Rattle.rml_wp.specs.Preconditions.{answered}
 use Rattle.obligation_decide.specs.GoalPassing.{PassesFirst, refuting_sentence}
 use Rattle.goal_clauses.specs.Laws.{HasCounterexample}
 use Rattle.goal_clauses.specs.declared.GoalClauses.{GoalClauses}
@@ -16,7 +17,7 @@ use Rattle.goal_clauses.specs.declared.GoalClauses.TheVariants.{Written, Over}
 -- The clauses of the goal's refuting sentence. Truth values satisfy them exactly where the goal has a counterexample;
 -- that none do, whoever shows it, is that the goal has none.
 pub record AreClausesOf (m : ModelTree) (goal : Goal) (f : Formula) : Type 0 where
-  pub form : IsClauseForm m.signature (refuting_sentence m goal) f
+  pub form : IsClauseForm (answered m goal) (refuting_sentence m goal) f
   pub exact : IsSatisfiable f ↔ HasCounterexample m goal
   pub refute : IsUnsatisfiable f ↔ HasNone m goal
 

@@ -7,6 +7,7 @@ pub fn counterexample_law()
 {
     rml_wp::sentence_law();
     rml_wp::refuting_law();
+    rml_wp::answered_law();
     ea_decide::clauses_law();
 }
 
@@ -16,5 +17,6 @@ pub fn exactness_law()
 {
     rml_wp::sentence_law();
     rml_wp::refuting_law();
+    rml_wp::answered_law();
     ea_decide::exactness_law();
 }

@@ -7,7 +7,7 @@
 ghost use Rattle.std.specs.Prelude.{◌≡◌, false, IfOk};
 ghost use Rattle.rml_command.specs.Goals.{IsGoal};
 ghost use Rattle.ea_decide.specs.Passing.{ceilings};
-ghost use Rattle.rml_wp.specs.Preconditions.{goal_passes_limit};
+ghost use Rattle.rml_wp.specs.Preconditions.{answered as answered_of, goal_passes_limit};
 ghost use Rattle.obligation_decide.specs.GoalPassing.{cause_of as named_cause, refuting_sentence};
 ghost use Rattle.obligation_decide.specs.GoalDecisions.{IsDecision};
 ghost use Rattle.goal_clauses.specs.GoalClauses.{AreGoalClauses};
@@ -18,6 +18,7 @@ use base::{Mem, Refused};
 use cnf_base::Cnf;
 use ea_decide::{Clauses, Passed};
 use fol_formula::Ea;
+use fol_sig::Signature;
 pub use laws::{counterexample_law, exactness_law};
 use lrat_log::Limits;
 use obligation_decide::Decision;
@@ -57,7 +58,10 @@ pub fn clauses_of_goal(
     ensures { IfOk result (AreGoalClauses (ceilings limits.now) checked.now goal.now) }
 {
     match refuting(alloc, checked, goal) {
-        Ok(sentence) => clauses_of_sentence(alloc, checked, goal, &sentence, limits),
+        Ok((answered, sentence)) => {
+            let clauses = clauses_of_sentence(alloc, checked, goal, &answered, &sentence, limits)?;
+            Ok(clauses)
+        }
         Err(Refused::NoMemory) => Err(AllocError),
         Err(Refused::For(_)) => Ok(GoalClauses::Over(Cause::Formula)),
     }
@@ -68,10 +72,12 @@ fn clauses_of_sentence(
     alloc: Global,
     checked: &Checked,
     goal: &Goal,
+    answered: &Signature,
     sentence: &Ea,
     limits: &Limits,
 ) -> Mem<GoalClauses>
     requires goal { IsGoal checked.now goal.now }
+    requires answered { answered.now ≡ answered_of checked.now goal.now }
     requires sentence { sentence.now ≡ refuting_sentence checked.now goal.now }
     requires within { goal_passes_limit checked.now goal.now ≡ false }
     ensures { IfOk result (AreGoalClauses (ceilings limits.now) checked.now goal.now) }
@@ -79,10 +85,11 @@ fn clauses_of_sentence(
     rml_wp::sentence_law();
     counterexample_law();
     exactness_law();
+    rml_wp::answered_goal(checked, goal);
     let signature = checked.model().signature();
     let _sorts = signature.sorts();
     let strata = checked.strata();
-    match ea_decide::clauses_of(alloc, signature, strata, sentence, limits)? {
+    match ea_decide::clauses_of(alloc, answered, strata, sentence, limits)? {
         Clauses::Written(cnf) => {
             let _variables = cnf.variables();
             Ok(GoalClauses::Written(cnf))

@@ -22,7 +22,7 @@ use Rattle.lean_decide.proofs.Answered.{same_fits, same_answer}
 pub and_fits : (m : ModelTree) → JudgesAxioms m → (given : Declared) (p : FormTree) → given ≡ m.signature
     → p ≡ all_of m.axioms → FitsForm (symbols given) [] p
 and_fits m law given p same is =
-    same_fits given m p same (subst (λ (q : FormTree). FitsForm (symbols m.signature) [] q) (sym is) law.fits)
+    same_fits given m.signature p same (subst (λ (q : FormTree). FitsForm (symbols m.signature) [] q) (sym is) law.fits)
 
 pub passes_by : (limits : Ceilings) (m : ModelTree) (given : Declared) (p : FormTree) (d : Measured) (size : ℕ)
     → given ≡ m.signature → p ≡ all_of m.axioms → d ≡ Within size → IsMeasured limits given p d

@@ -9,7 +9,7 @@ use Rattle.rml_exec.specs.declared.trace.Counterexample.{Counterexample}
 use Rattle.rml_report.specs.declared.cause.Cause.{Cause}
 use Rattle.rml_report.specs.declared.cause.Cause.TheVariants as cause
 use Rattle.rml_wp.specs.declared.premises.Premises.TheVariants.{Affected}
-use Rattle.rml_wp.specs.Preconditions.{goal_passes_limit_by}
+use Rattle.rml_wp.specs.Preconditions.{answered, goal_passes_limit_by}
 use Rattle.ea_decide.specs.declared.decided.Passed.{Passed}
 use Rattle.ea_decide.specs.declared.decided.Passed.TheVariants as passed
 use Rattle.ea_decide.specs.Passing.{Ceilings, Passes}
@@ -27,8 +27,8 @@ use Rattle.lean_decide.proofs.SameLimits.{never_conflicts}
 module _ (limits : Ceilings) (m : ModelTree) (goal : Goal) where
   abbrev LeanPasses : Option Passed → Type 0
   LeanPasses p =
-      Passes limits (lean_signature m.signature (affected_refuting m goal))
-      (lean_sentence m.signature (affected_refuting m goal)) p
+      Passes limits (lean_signature (answered m goal) (affected_refuting m goal))
+      (lean_sentence (answered m goal) (affected_refuting m goal)) p
 
   abbrev BySize : Option Cause → Bool → Type 0
   BySize first b =
@@ -43,8 +43,8 @@ module _ (limits : Ceilings) (m : ModelTree) (goal : Goal) where
   by_formula passes = subst (λ (b : Bool). BySize (Some cause.Formula) b) (sym passes) refl
 
   by_passed : (p : Passed) → goal_passes_limit_by Affected m goal ≡ false
-      → IsOver limits (lean_signature m.signature (affected_refuting m goal))
-      (lean_sentence m.signature (affected_refuting m goal)) p
+      → IsOver limits (lean_signature (answered m goal) (affected_refuting m goal))
+      (lean_sentence (answered m goal) (affected_refuting m goal)) p
       → IsLeanLeftOpen limits m goal (cause_of p)
   by_passed (passed.Conflicts n) within h = (by_count None within h.0, h.1, h.2)
   by_passed (passed.Terms n) within h = by_count (Some (passed.Terms n)) within h
@@ -54,18 +54,18 @@ module _ (limits : Ceilings) (m : ModelTree) (goal : Goal) where
   passed_first : (p : Passed) → goal_passes_limit_by Affected m goal ≡ false → LeanPasses (Some p)
       → IsLeanLeftOpen limits m goal (cause_of p)
   passed_first (passed.Conflicts n) within h =
-      absurd (never_conflicts limits (lean_signature m.signature (affected_refuting m goal))
-      (lean_sentence m.signature (affected_refuting m goal)) n h)
+      absurd (never_conflicts limits (lean_signature (answered m goal) (affected_refuting m goal))
+      (lean_sentence (answered m goal) (affected_refuting m goal)) n h)
   passed_first (passed.Terms n) within h = by_count (Some (passed.Terms n)) within h
   passed_first (passed.GroundSize n) within h = by_count (Some (passed.GroundSize n)) within h
 
   pub lean_within : (size : ℕ) → goal_passes_limit_by Affected m goal ≡ false
-      → IsMeasuredSmall limits m.signature (affected_refuting m goal) (Within size)
+      → IsMeasuredSmall limits (answered m goal) (affected_refuting m goal) (Within size)
       → LeanPassesFirst limits m goal None
   lean_within size within h = by_count None within h.0
 
   pub lean_over : (p : Passed) (c : Cause) → c ≡ cause_of p → goal_passes_limit_by Affected m goal ≡ false
-      → IsMeasuredSmall limits m.signature (affected_refuting m goal) (Over p)
+      → IsMeasuredSmall limits (answered m goal) (affected_refuting m goal) (Over p)
       → LeanPassesFirst limits m goal (Some c) × IsLeanLeftOpen limits m goal c
   lean_over p c is within h =
       subst (λ (x : Cause). LeanPassesFirst limits m goal (Some x) × IsLeanLeftOpen limits m goal x) (sym is)

@@ -4,7 +4,7 @@ use Rattle.std.proofs.Common.{refl, arith}
 use Rattle.std.specs.Prelude.{slice_index_or, ◌&&◌}
 use Rattle.std.specs.List.{AllByRecursion}
 use Rattle.std.proofs.lemmas.Bool.{and_parts, and_from}
-use Rattle.fol_sig.specs.Tables.{Tables, Reading, reading}
+use Rattle.fol_sig.specs.Tables.{Tables, IsSignature, Reading, reading}
 use Rattle.fol_sig.specs.Symbols.{symbols, Symbols}
 use Rattle.fol_formula.specs.Syntax.{FormTree, top, negation, forms_of}
 use Rattle.fol_formula.specs.Truth.{truth, all_true}
@@ -20,8 +20,9 @@ use Rattle.rml_command.specs.declared.goal.About.{About}
 use Rattle.rml_command.specs.declared.goal.About.TheVariants.{Conjecture}
 use Rattle.rml_wp.specs.declared.premises.Premises.TheVariants.{Affected}
 use Rattle.rml_wp.specs.Added.{AreAdded, RefutingSentencesFit}
-use Rattle.rml_wp.specs.Laws.{RefutingIsExact, AffectedRefutingIsSame}
-use Rattle.rml_wp.specs.Preconditions.{goal_precondition_by, parts_before, target_of}
+use Rattle.rml_wp.specs.Laws.{AllConjecturesHeld}
+use Rattle.rml_wp.specs.Answered.{CounterexamplesAreCuts}
+use Rattle.rml_wp.specs.Preconditions.{answered, goal_precondition_by, parts_before, target_of}
 use Rattle.ea_decide.specs.Decisions.{HasNoModel}
 use Rattle.lean_decide.specs.Alone.{breaks_alone}
 
@@ -43,19 +44,19 @@ kept-true s a lawful last held k h =
     and_from (truth r (slice_index_or held k top) []) (truth r last [] && true) (one-true r held k both.0) both.1
 
 -- what is known of refuting sentences
-module _ (exact : RefutingIsExact) (affected : AffectedRefutingIsSame) (m : ModelTree) (goal : Goal)
-    (fits : FitsModel m) (g : IsGoal m goal) where
+module _ (cuts : CounterexamplesAreCuts) (same : AllConjecturesHeld) (m : ModelTree) (goal : Goal)
+    (fits : FitsModel m) (ok : IsSignature m.signature) (g : IsGoal m goal) where
   pub kept_alone : (a k : ℕ) → goal.stage ≡ stage.Action a → goal.about ≡ Conjecture k
-      → HasNoModel m.signature (breaks_alone m goal) → HasNone m goal
+      → HasNoModel (answered m goal) (breaks_alone m goal) → HasNone m goal
   kept_alone a k is_stage is_about none s havocs values counter =
       let last = negation (goal_precondition_by Affected m goal) in
-      let full = (exact m goal s fits g counter.structure).1 (havocs, values, counter) in
-      let lean = affected m m.conjectures goal s fits g counter.structure ∙ full in
-      let parted = subst (λ (x : Stage). is_true s
-      (all_of (parts_before x (all_of m.axioms) (all_of m.conjectures) ++ last ∷ [])) ≡ true) is_stage lean in
-      let alone = kept-true s a (all_of m.axioms) last m.conjectures k parted in
-      none s counter.structure
-      (subst (λ (x : About). is_true s (all_of (target_of m x ∷ last ∷ [])) ≡ true) (sym is_about) alone)
+      let w = cuts Affected m m.conjectures goal s havocs values fits ok fits.conjectures g
+      ((same m goal s havocs values).1 counter) in
+      let parted = subst (λ (x : Stage). is_true w.whole
+      (all_of (parts_before x (all_of m.axioms) (all_of m.conjectures) ++ last ∷ [])) ≡ true) is_stage w.holds in
+      let alone = kept-true w.whole a (all_of m.axioms) last m.conjectures k parted in
+      none w.whole w.fits
+      (subst (λ (x : About). is_true w.whole (all_of (target_of m x ∷ last ∷ [])) ≡ true) (sym is_about) alone)
 
 -- a sentence of the list fits
 one-fits : (sig : Symbols) (ps : List FormTree) (k : ℕ) (d : FormTree) → AllByRecursion (FitsForm sig []) ps
@@ -80,8 +81,9 @@ last-fits sig stage.Init lawful held p h = h.1.0
 last-fits sig (stage.Action a) lawful held p h = h.1.1.0
 last-fits sig stage.Final lawful held p h = h.1.1.0
 
-pub precondition_fits : RefutingSentencesFit → (m : ModelTree) (goal : Goal) → IsChecked m → IsGoal m goal
-    → AreAdded m m.conjectures [] → FitsForm (symbols m.signature) [] (goal_precondition_by Affected m goal)
-precondition_fits fit m goal checked g added =
-    last-fits (symbols m.signature) goal.stage (all_of m.axioms) (all_of m.conjectures)
-    (goal_precondition_by Affected m goal) (fit Affected m m.conjectures [] goal checked g added).fits
+pub precondition_fits : RefutingSentencesFit → (m : ModelTree) (goal : Goal) → IsChecked m → IsSignature m.signature
+    → IsGoal m goal → AreAdded m m.conjectures []
+    → FitsForm (symbols (answered m goal)) [] (goal_precondition_by Affected m goal)
+precondition_fits fit m goal checked ok g added =
+    last-fits (symbols (answered m goal)) goal.stage (all_of m.axioms) (all_of m.conjectures)
+    (goal_precondition_by Affected m goal) (fit Affected m m.conjectures [] goal checked ok g added).fits

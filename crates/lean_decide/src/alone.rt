@@ -7,7 +7,7 @@ ghost use Rattle.fol_formula.specs.Fragments.{IsPlainUniversal};
 ghost use Rattle.rml_command.specs.Goals.{IsGoal, HasNone};
 ghost use Rattle.rml_command.specs.Outcomes.{all_of};
 ghost use Rattle.rml_command.specs.declared.goal.About.TheVariants.{Conjecture};
-ghost use Rattle.rml_wp.specs.Preconditions.{goal_precondition_by};
+ghost use Rattle.rml_wp.specs.Preconditions.{answered as answered_of, goal_precondition_by};
 ghost use Rattle.rml_wp.specs.declared.premises.Premises.TheVariants.{Affected};
 ghost use Rattle.ea_decide.specs.Decisions.{HasNoModel};
 ghost use Rattle.lean_decide.specs.Alone.{breaks_alone};
@@ -16,7 +16,7 @@ use base::{Mem, Refused};
 use ea_decide::Decided;
 use fol_formula::{Ae, Ea, Formula, Sentence};
 use fol_occurs::mentions;
-use fol_sig::Symbol;
+use fol_sig::{Signature, Symbol};
 use lrat_log::Limits;
 use rml_command::{About, Checked, Goal, Path, Primitive, Stage};
 use rml_wp::{Premises, precondition_by};
@@ -29,7 +29,8 @@ pub fn holds_alone(alloc: Global, checked: &Checked, goal: &Goal, limits: &Limit
     ensures { IfOk result (λ holds. holds ≡ true → HasNone checked.now goal.now) }
 {
     rml_wp::refuting_law();
-    rml_wp::premises_law();
+    rml_wp::answered_law();
+    rml_wp::answered_goal(checked, goal);
     let model = checked.model();
     match (goal.stage, goal.about) {
         (Stage::Action(_), About::Conjecture(number)) => {
@@ -74,11 +75,19 @@ fn is_kept(alloc: Global, checked: &Checked, goal: &Goal, number: u32, limits: &
     requires about { goal.now.about ≡ Conjecture number }
     requires number { number < length checked.now.conjectures }
     ensures { IfOk result
-        (λ kept. kept ≡ true → HasNoModel checked.now.signature (breaks_alone checked.now goal.now)) }
+        (λ kept. kept ≡ true → HasNoModel (answered_of checked.now goal.now) (breaks_alone checked.now goal.now)) }
 {
     match precondition_by(alloc, checked, Premises::Affected, goal) {
-        Ok(precondition) => {
-            let kept = is_refuted(alloc, checked, goal, number, precondition, limits)?;
+        Ok((answered, precondition)) => {
+            let kept = is_refuted(
+                alloc,
+                checked,
+                goal,
+                number,
+                &answered,
+                precondition,
+                limits,
+            )?;
             Ok(kept)
         }
         Err(Refused::NoMemory) => Err(AllocError),
@@ -92,22 +101,24 @@ fn is_refuted(
     checked: &Checked,
     goal: &Goal,
     number: u32,
+    answered: &Signature,
     precondition: Ae,
     limits: &Limits,
 ) -> Mem<bool>
     requires goal { IsGoal checked.now goal.now }
     requires about { goal.now.about ≡ Conjecture number }
     requires number { number < length checked.now.conjectures }
+    requires answered { answered.now ≡ answered_of checked.now goal.now }
     requires precondition { precondition ≡ goal_precondition_by Affected checked.now goal.now }
     ensures { IfOk result
-        (λ kept. kept ≡ true → HasNoModel checked.now.signature (breaks_alone checked.now goal.now)) }
+        (λ kept. kept ≡ true → HasNoModel (answered_of checked.now goal.now) (breaks_alone checked.now goal.now)) }
 {
     rml_wp::sentence_law();
+    rml_wp::answered_goal(checked, goal);
     let model = checked.model();
     let conjecture = &model.conjectures()[number as usize];
     let sentence = broken(alloc, conjecture, precondition)?;
-    let signature = model.signature();
-    match pruned_decide::decide(alloc, signature, checked.strata(), &sentence, limits) {
+    match pruned_decide::decide(alloc, answered, checked.strata(), &sentence, limits) {
         Ok(Decided::Refuted(_)) => Ok(true),
         Ok(_) => Ok(false),
         Err(Refused::NoMemory) => Err(AllocError),

@@ -2,7 +2,7 @@
 ghost use Rattle.std.specs.Prelude.{◌≡◌, false, IfOk};
 ghost use Rattle.rml_command.specs.Goals.{IsGoal};
 ghost use Rattle.rml_wp.specs.declared.premises.Premises.TheVariants.{Affected};
-ghost use Rattle.rml_wp.specs.Preconditions.{goal_passes_limit_by};
+ghost use Rattle.rml_wp.specs.Preconditions.{answered as answered_of, goal_passes_limit_by};
 ghost use Rattle.ea_decide.specs.Passing.{ceilings};
 ghost use Rattle.lean_decide.specs.Lean.{affected_refuting};
 ghost use Rattle.lean_decide.specs.Settled.{IsPassing};
@@ -10,6 +10,7 @@ ghost use Rattle.lean_decide.specs.declared.settling.Counted.TheVariants.{Whole,
 
 use base::{Mem, Refused};
 use fol_formula::Ea;
+use fol_sig::Signature;
 use lrat_log::Limits;
 use obligation_decide::{Measured, cause_of, measure_where};
 use rml_command::{Checked, Goal};
@@ -45,8 +46,8 @@ pub fn lean_passed(
     ensures { IfOk result (IsPassing Lean (ceilings limits.now) checked.now goal.now) }
 {
     match refuting_by(alloc, checked, Premises::Affected, goal) {
-        Ok(sentence) => {
-            let passed = sentence_passed(alloc, checked, goal, &sentence, limits)?;
+        Ok((answered, sentence)) => {
+            let passed = sentence_passed(alloc, checked, goal, &answered, &sentence, limits)?;
             Ok(passed)
         }
         Err(Refused::NoMemory) => Err(AllocError),
@@ -59,17 +60,20 @@ fn sentence_passed(
     alloc: Global,
     checked: &Checked,
     goal: &Goal,
+    answered: &Signature,
     sentence: &Ea,
     limits: &Limits,
 ) -> Mem<Option<Cause>>
     requires goal { IsGoal checked.now goal.now }
+    requires answered { answered.now ≡ answered_of checked.now goal.now }
     requires sentence { sentence.now ≡ affected_refuting checked.now goal.now }
     requires within { goal_passes_limit_by Affected checked.now goal.now ≡ false }
     ensures { IfOk result (IsPassing Lean (ceilings limits.now) checked.now goal.now) }
 {
     rml_wp::sentence_law();
-    let signature = checked.model().signature();
-    match pruned_decide::measure(alloc, signature, checked.strata(), sentence, limits) {
+    rml_wp::answered_goal(checked, goal);
+    let _checked = checked.model();
+    match pruned_decide::measure(alloc, answered, checked.strata(), sentence, limits) {
         Ok(ea_decide::Measured::Within(_)) => Ok(None),
         Ok(ea_decide::Measured::Over(passed)) => Ok(Some(cause_of(passed))),
         Err(Refused::NoMemory) | Err(Refused::For(_)) => Err(AllocError),

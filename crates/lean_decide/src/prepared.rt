@@ -13,6 +13,7 @@ ghost use Rattle.lean_decide.specs.Sought.{IsSought, IsAffected, IsCounted, IsPr
 use crate::seeking::{Sought, seek_by};
 use base::{Mem, Refused};
 use fol_formula::{Ae, Ea, Sentence};
+use fol_sig::Signature;
 use lrat_log::Limits;
 use obligation_decide::{Measured, measure_by};
 use rml_command::{Checked, Goal};
@@ -20,15 +21,15 @@ use rml_report::Cause;
 use rml_wp::{Premises, precondition, refuting_by};
 use std::alloc::{AllocError, Global};
 
-/// A goal whose sentences are built.
+/// A goal whose sentences are built, each with the signature that it is over.
 #[derive(Drop)]
 pub struct Prepared {
     /// The refuting sentence with the affected axioms alone as premises. There is none where that passes the limit of
     /// formulas.
-    pub affected: Option<Ea>,
+    pub affected: Option<(Signature, Ea)>,
     /// The precondition with all axioms as premises, by which the whole refuting sentence is counted. There is none
     /// where the goal passes the limit of formulas.
-    pub precondition: Option<Ae>,
+    pub precondition: Option<(Signature, Ae)>,
 }
 
 /// Builds the sentences of a goal of the model.
@@ -45,7 +46,7 @@ pub fn prepare(alloc: Global, checked: &Checked, goal: &Goal) -> Mem<Prepared>
 }
 
 // The refuting sentence with the affected axioms alone as premises.
-fn affected_sentence(alloc: Global, checked: &Checked, goal: &Goal) -> Mem<Option<Ea>>
+fn affected_sentence(alloc: Global, checked: &Checked, goal: &Goal) -> Mem<Option<(Signature, Ea)>>
     requires goal { IsGoal checked.now goal.now }
     ensures { IfOk result (IsAffected checked.now goal.now) }
 {
@@ -57,7 +58,7 @@ fn affected_sentence(alloc: Global, checked: &Checked, goal: &Goal) -> Mem<Optio
 }
 
 // The precondition with all axioms as premises.
-fn whole_precondition(alloc: Global, checked: &Checked, goal: &Goal) -> Mem<Option<Ae>>
+fn whole_precondition(alloc: Global, checked: &Checked, goal: &Goal) -> Mem<Option<(Signature, Ae)>>
     requires goal { IsGoal checked.now goal.now }
     ensures { IfOk result (IsCounted checked.now goal.now) }
 {
@@ -86,8 +87,16 @@ impl Prepared {
         ensures { IfOk result (IsRestrictedMeasured (ceilings limits.now) checked.now more.now goal.now) }
     {
         match &self.precondition {
-            Some(precondition) => {
-                let measured = measure_by(alloc, checked, goal, precondition, more, limits)?;
+            Some((answered, precondition)) => {
+                let measured = measure_by(
+                    alloc,
+                    checked,
+                    goal,
+                    answered,
+                    precondition,
+                    more,
+                    limits,
+                )?;
                 Ok(measured)
             }
             None => Ok(Measured::Over(Cause::Formula)),
@@ -111,8 +120,8 @@ impl Prepared {
         ensures { IfOk result (IsSought (ceilings limits.now) checked.now more.now goal.now) }
     {
         match &self.affected {
-            Some(affected) => {
-                let sought = seek_by(alloc, checked, goal, affected, more, limits)?;
+            Some((answered, affected)) => {
+                let sought = seek_by(alloc, checked, goal, answered, affected, more, limits)?;
                 Ok(sought)
             }
             None => Ok(Sought::Open),

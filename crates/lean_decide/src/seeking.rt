@@ -6,6 +6,7 @@ ghost use Rattle.fol_formula.specs.Fits.{FitsForm};
 ghost use Rattle.fol_formula.specs.Fragments.{IsEa};
 ghost use Rattle.rml_command.specs.Goals.{IsGoal};
 ghost use Rattle.rml_wp.specs.declared.premises.Premises.TheVariants.{Affected};
+ghost use Rattle.rml_wp.specs.Preconditions.{answered as answered_of};
 ghost use Rattle.rml_wp.specs.Added.{refuting_all_by};
 ghost use Rattle.ea_decide.specs.Passing.{ceilings};
 ghost use Rattle.lean_decide.specs.Lean.{affected_refuting};
@@ -14,6 +15,7 @@ ghost use Rattle.lean_decide.specs.Sought.{IsSought};
 use crate::deciding::decide_sentence;
 use base::{Mem, Refused};
 use fol_formula::{Ea, Sentence};
+use fol_sig::Signature;
 use lrat_log::Limits;
 use obligation_decide::{Decision, with_parts};
 use rml_command::{Checked, Goal};
@@ -37,11 +39,13 @@ pub fn seek_by(
     alloc: Global,
     checked: &Checked,
     goal: &Goal,
+    answered: &Signature,
     affected: &Ea,
     more: &[Sentence],
     limits: &Limits,
 ) -> Mem<Sought>
     requires goal { IsGoal checked.now goal.now }
+    requires answered { answered.now ≡ answered_of checked.now goal.now }
     requires affected { affected.now ≡ affected_refuting checked.now goal.now }
     requires fragment { AllByRecursion IsEa more.now }
     requires fits { AllByRecursion (FitsForm (symbols checked.now.signature) []) more.now }
@@ -49,11 +53,12 @@ pub fn seek_by(
 {
     rml_wp::sentence_law();
     rml_wp::refuting_law();
-    rml_wp::premises_law();
+    rml_wp::answered_law();
+    rml_wp::answered_goal(checked, goal);
     obligation_decide::parts_law();
     let _checked = checked.model();
     let sentence = restricted(alloc, checked, goal, affected, more)?;
-    match decide_sentence(alloc, checked, goal, &sentence, limits) {
+    match decide_sentence(alloc, checked, goal, answered, &sentence, limits) {
         Ok(Decision::Holds(_)) => Ok(Sought::Nowhere),
         Ok(Decision::Fails(shown)) => Ok(Sought::Found(shown)),
         Err(Refused::NoMemory) => Err(AllocError),
@@ -77,6 +82,7 @@ fn restricted(
         (λ f. f ≡ refuting_all_by Affected checked.now checked.now.conjectures more.now goal.now) }
 {
     rml_wp::sentence_law();
+    rml_wp::answered_goal(checked, goal);
     obligation_decide::parts_law();
     fol_formula::indices();
     let _checked = checked.model();

@@ -11,7 +11,7 @@ use Rattle.rml_command.specs.declared.goal.Goal.{Goal}
 use Rattle.rml_command.specs.declared.goal.Stage.{Stage}
 use Rattle.rml_command.specs.declared.goal.Stage.TheVariants as stage
 use Rattle.rml_wp.specs.declared.premises.Premises.TheVariants.{All}
-use Rattle.rml_wp.specs.Preconditions.{parts_before, goal_precondition}
+use Rattle.rml_wp.specs.Preconditions.{answered, parts_before, goal_precondition}
 use Rattle.rml_wp.specs.Added.{refuting_all, IsRefutingSentence}
 use Rattle.ea_decide.specs.Passing.{Ceilings}
 use Rattle.ea_decide.specs.Measuring.{IsMeasured}
@@ -57,15 +57,14 @@ module _ (m : ModelTree) (goal : Goal) (more : List FormTree) (p : FormTree)
   pub in_fragment : IsRefutingSentence All m m.conjectures more goal → IsEa p
   in_fragment h = subst (λ (q : FormTree). IsEa q) (sym is) h.fragment
 
-  pub fits_given : (given : Declared) → given ≡ m.signature → IsRefutingSentence All m m.conjectures more goal
+  pub fits_given : (given : Declared) → given ≡ answered m goal → IsRefutingSentence All m m.conjectures more goal
       → FitsForm (symbols given) [] p
   fits_given given same h =
       subst (λ (z : Declared). FitsForm (symbols z) [] p) (sym same)
-      (subst (λ (q : FormTree). FitsForm (symbols m.signature) [] q) (sym is) h.fits)
+      (subst (λ (q : FormTree). FitsForm (symbols (answered m goal)) [] q) (sym is) h.fits)
 
-  pub measured_as : (limits : Ceilings) (given : Declared) (d e : Measured) → given ≡ m.signature → d ≡ e
-      → IsMeasured limits given p d → IsMeasured limits m.signature (refuting_all m m.conjectures more goal) e
-  measured_as limits given d e same answer h =
-      subst (λ (q : FormTree). IsMeasured limits m.signature q e) is
-      (subst (λ (a : Measured). IsMeasured limits m.signature p a) answer
-      (subst (λ (z : Declared). IsMeasured limits z p d) same h))
+  pub measured_as : (limits : Ceilings) (given : Declared) (d e : Measured) → d ≡ e
+      → IsMeasured limits given p d → IsMeasured limits given (refuting_all m m.conjectures more goal) e
+  measured_as limits given d e answer h =
+      subst (λ (q : FormTree). IsMeasured limits given q e) is
+      (subst (λ (a : Measured). IsMeasured limits given p a) answer h)

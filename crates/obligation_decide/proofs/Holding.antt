@@ -1,6 +1,7 @@
 -- What the answer to a refuting sentence says of the goal, where some sentences hold before the stage in place of the
 -- conjectures.
 use Rattle.std.proofs.Common.{◌≡◌, false, List, [], Option, None, refl, sym, subst}
+use Rattle.fol_sig.specs.Tables.{IsSignature}
 use Rattle.fol_formula.specs.Syntax.{FormTree}
 use Rattle.rml_command.specs.Models.{ModelTree, FitsModel}
 use Rattle.rml_command.specs.Goals.{IsGoal}
@@ -9,7 +10,7 @@ use Rattle.rml_exec.specs.declared.trace.Counterexample.{Counterexample}
 use Rattle.rml_wp.specs.declared.premises.Premises.TheVariants.{All}
 use Rattle.rml_wp.specs.Preconditions.{goal_passes_limit, refuting_of}
 use Rattle.rml_wp.specs.Added.{AreAdded, NoPartsAreAdded}
-use Rattle.rml_wp.specs.Laws.{RefutingByIsExact}
+use Rattle.rml_wp.specs.Answered.{CounterexamplesAreCuts}
 use Rattle.rml_report.specs.declared.cause.Cause.{Cause}
 use Rattle.ea_decide.specs.Passing.{Ceilings}
 use Rattle.obligation_decide.specs.GoalPassing.{SentencePassesBy, PassesFirstBy}
@@ -24,8 +25,8 @@ module _ (limits : Ceilings) (m : ModelTree) (goal : Goal) (held : List FormTree
   passes : (first : Option Cause) → SentencePassesBy limits m held goal first → PassesFirstBy limits m held goal first
   passes first h = passes_first limits m goal (refuting_of m held goal) within first h
 
-  module _ (exact : RefutingByIsExact) (alone : NoPartsAreAdded) (fits : FitsModel m) (g : IsGoal m goal)
-      (added : AreAdded m held []) where
+  module _ (cuts : CounterexamplesAreCuts) (alone : NoPartsAreAdded) (fits : FitsModel m) (ok : IsSignature m.signature)
+      (g : IsGoal m goal) (added : AreAdded m held []) where
     failing : (shown : Counterexample) → IsSentenceFailing limits All m (refuting_of m held goal) goal shown
         → IsFailingBy limits m held goal shown
     failing shown h = record {
@@ -40,8 +41,8 @@ module _ (limits : Ceilings) (m : ModelTree) (goal : Goal) (held : List FormTree
     by_sentence (Holds proof) h = (
       passes None (None, h.0, refl),
       (λ s havocs values counterexample.
-          h.1 s counterexample.structure
-          ((exact m held goal s fits g counterexample.structure).1 (havocs, values, counterexample))),
+          let w = cuts All m held goal s havocs values fits ok added.universal_fit g counterexample in
+          h.1 w.whole w.fits w.holds),
       h.2,
     )
     by_sentence (Fails shown) h = (passes None (None, h.0, refl), failing shown h.1)

@@ -4,7 +4,7 @@ use Rattle.std.specs.Prelude.{MatchBool}
 use Rattle.fol_formula.specs.Syntax.{FormTree}
 use Rattle.rml_command.specs.Models.{ModelTree}
 use Rattle.rml_command.specs.declared.goal.Goal.{Goal}
-use Rattle.rml_wp.specs.Preconditions.{goal_passes_limit}
+use Rattle.rml_wp.specs.Preconditions.{answered, goal_passes_limit}
 use Rattle.rml_report.specs.declared.cause.Cause.{Cause}
 use Rattle.rml_report.specs.declared.cause.Cause.TheVariants as cause
 use Rattle.ea_decide.specs.declared.decided.Passed.{Passed}
@@ -16,11 +16,13 @@ use Rattle.obligation_decide.specs.GoalDecisions.{IsLeftOpenAs}
 
 module _ (limits : Ceilings) (m : ModelTree) (goal : Goal) (p : FormTree) (within : goal_passes_limit m goal ≡ false)
   where
-    pub passes_first : (first : Option Cause) → PassesAs limits m p first → PassesFirstAs limits m goal p first
+    pub passes_first : (first : Option Cause) → PassesAs limits (answered m goal) p first
+        → PassesFirstAs limits m goal p first
     passes_first first h =
-        subst (λ (b : Bool). MatchBool b (first ≡ Some cause.Formula) (PassesAs limits m p first)) (sym within) h
+        subst (λ (b : Bool). MatchBool b (first ≡ Some cause.Formula) (PassesAs limits (answered m goal) p first))
+        (sym within) h
 
-    pub left_open : (q : Passed) → IsOver limits m.signature p q → IsLeftOpenAs limits m goal p (cause_of q)
+    pub left_open : (q : Passed) → IsOver limits (answered m goal) p q → IsLeftOpenAs limits m goal p (cause_of q)
     left_open (passed.Terms n) h = passes_first (Some (cause.Terms n)) (Some (passed.Terms n), h, refl)
     left_open (passed.GroundSize n) h = passes_first (Some (cause.Ground n)) (Some (passed.GroundSize n), h, refl)
     left_open (passed.Conflicts n) h = (passes_first None (None, h.0, refl), h.1, h.2)

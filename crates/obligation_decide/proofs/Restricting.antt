@@ -18,24 +18,27 @@ use Rattle.std.proofs.Common.{
 }
 use Rattle.std.specs.Prelude.{MatchBool}
 use Rattle.std.proofs.lemmas.Bool.{and_parts, and_from}
-use Rattle.fol_sig.specs.Tables.{Declared, Tables, Reading, reading}
-use Rattle.fol_sig.specs.Symbols.{symbols}
+use Rattle.fol_sig.specs.Tables.{Declared, Tables, IsSignature, Reading, reading}
+use Rattle.std.specs.List.{AllByRecursion}
+use Rattle.fol_sig.specs.Symbols.{Symbols, FitsStructure, symbols}
 use Rattle.fol_sig.specs.Constants.{reduct}
 use Rattle.fol_formula.specs.Syntax.{FormTree, forms_of, list_of_forms}
 use Rattle.fol_formula.specs.Truth.{truth, all_true}
-use Rattle.fol_formula.specs.Fits.{FitsForm}
+use Rattle.fol_formula.specs.Fits.{FitsForm, FitsForms}
 use Rattle.fol_nnf.specs.Normal.{normal}
 use Rattle.fol_nnf.specs.Laws.{TruthIsKept}
-use Rattle.skolem.specs.Laws.{EachIsSkolemised}
+use Rattle.skolem.specs.Laws.{EachIsSkolemised, IsModel}
 use Rattle.rml_command.specs.Models.{ModelTree, FitsModel}
-use Rattle.rml_command.specs.Outcomes.{all_of, is_true}
+use Rattle.rml_command.specs.Outcomes.{all_of, is_true, satisfies}
 use Rattle.rml_command.specs.Goals.{IsGoal}
 use Rattle.rml_command.specs.declared.goal.Goal.{Goal}
 use Rattle.rml_wp.specs.declared.premises.Premises.TheVariants.{All}
 use Rattle.rml_wp.specs.declared.premises.Premises.{Premises}
-use Rattle.rml_wp.specs.Preconditions.{goal_passes_limit, refuting_parts, refuting_of, refuting_parts_by, refuting_by}
+use Rattle.rml_wp.specs.Preconditions.{answered, goal_passes_limit, refuting_parts, refuting_of, refuting_parts_by}
+use Rattle.rml_wp.specs.Preconditions.{refuting_by}
+use Rattle.rml_wp.specs.Answered.{IsAnswered, CounterexamplesAreCuts}
 use Rattle.rml_wp.specs.Added.{AreAdded, refuting_all, refuting_all_by, NoPartsAreAdded}
-use Rattle.rml_wp.specs.Laws.{RefutingIsExact, AllConjecturesHeld}
+use Rattle.rml_wp.specs.Laws.{AllConjecturesHeld}
 use Rattle.rml_exec.specs.declared.trace.Counterexample.{Counterexample}
 use Rattle.rml_report.specs.declared.cause.Cause.{Cause}
 use Rattle.rml_report.specs.declared.cause.Cause.TheVariants as cause
@@ -95,18 +98,32 @@ parts_are_true premises m held more goal s =
       (λ h. both-true (reading s) parts more h.0 h.1),
     )
 
--- without its constants a model of the sentence satisfies it
+-- without its constants a model of the sentence is a structure of the signature, and satisfies it
+pub without-constants : EachIsSkolemised → (sig : Declared) (p : FormTree) (t : Tables)
+    → FitsForm (symbols sig) [] (normal true p) → HoldsWithConstants sig p t
+    → IsModel (symbols sig) (normal true p) (reduct (symbols sig) t)
+without-constants skolem sig p t fits model = (skolem sig (normal true p) fits).models.without t model
+
 pub holds-without : TruthIsKept → EachIsSkolemised → (sig : Declared) (p : FormTree) (t : Tables)
     → FitsForm (symbols sig) [] (normal true p) → HoldsWithConstants sig p t
     → is_true (reduct (symbols sig) t) p ≡ true
 holds-without kept skolem sig p t fits model =
-    let w = (skolem sig (normal true p) fits).models.without t model in
-    sym (kept (reading (reduct (symbols sig) t)) true p []) ∙ w.holds
+    sym (kept (reading (reduct (symbols sig) t)) true p []) ∙ (without-constants skolem sig p t fits model).holds
 
 -- what is known of refuting sentences
 pub record AreExact : Type 0 where
-  pub all : RefutingIsExact
+  pub cuts : CounterexamplesAreCuts
   pub same : AllConjecturesHeld
+
+-- sentences of the model are all true in a structure exactly where they are in its cut
+all-fit : (sig : Symbols) (ps : List FormTree) → AllByRecursion (FitsForm sig []) ps → FitsForms sig [] (forms_of ps)
+all-fit sig [] h = tt
+all-fit sig (p ∷ ps) h = (h.0, all-fit sig ps h.1)
+
+pub all-same : (m : ModelTree) (goal : Goal) → IsAnswered m goal → (ps : List FormTree)
+    → AllByRecursion (FitsForm (symbols m.signature) []) ps → (t : Tables) → FitsStructure (symbols (answered m goal)) t
+    → satisfies t ps ≡ satisfies (reduct (symbols m.signature) t) ps
+all-same m goal is ps h t fits = is.truths t (all_of ps) fits (all-fit (symbols m.signature) ps h)
 
 module _ (limits : Ceilings) (m : ModelTree) (goal : Goal) where
   module _ (more : List FormTree) (within : goal_passes_limit m goal ≡ false) where
@@ -114,17 +131,19 @@ module _ (limits : Ceilings) (m : ModelTree) (goal : Goal) where
         → RestrictedPassesFirst limits m more goal first
     passes first h = passes_first limits m goal (refuting_all m m.conjectures more goal) within first h
 
-    by_measure : (d : Measured) → IsSentenceMeasured limits m (refuting_all m m.conjectures more goal) d
+    by_measure : (d : Measured) → IsSentenceMeasured limits (answered m goal) (refuting_all m m.conjectures more goal) d
         → IsRestrictedMeasured limits m more goal d
     by_measure (Within size) h = (passes None (None, h.0, refl), h.1, h.2)
     by_measure (Over c) h = passes (Some c) (Some h.0, h.2, ap (λ (x : Cause). Some x) h.1)
 
     -- what the sentence would cost is what the goal would
     pub measured_by : (p : FormTree) (d : Measured) → p ≡ refuting_all m m.conjectures more goal
-        → IsSentenceMeasured limits m p d → IsRestrictedMeasured limits m more goal d
-    measured_by p d is h = by_measure d (subst (λ (q : FormTree). IsSentenceMeasured limits m q d) is h)
+        → IsSentenceMeasured limits (answered m goal) p d → IsRestrictedMeasured limits m more goal d
+    measured_by p d is h =
+        by_measure d (subst (λ (q : FormTree). IsSentenceMeasured limits (answered m goal) q d) is h)
 
-    module _ (laws : AreExact) (fits : FitsModel m) (g : IsGoal m goal) (added : AreAdded m m.conjectures more) where
+    module _ (laws : AreExact) (fits : FitsModel m) (ok : IsSignature m.signature) (is_answered : IsAnswered m goal)
+        (g : IsGoal m goal) (added : AreAdded m m.conjectures more) where
       failing : (shown : Counterexample)
           → IsSentenceFailing limits All m (refuting_all m m.conjectures more goal) goal shown
           → IsFailing limits m goal shown
@@ -141,16 +160,23 @@ module _ (limits : Ceilings) (m : ModelTree) (goal : Goal) where
       by_sentence (Holds proof) h = (
         passes None (None, h.0, refl),
         (λ s havocs values counterexample lawful.
-            let parts = (laws.all m goal s fits g counterexample.structure).1 (havocs, values, counterexample) in
-            h.1 s counterexample.structure (both-true (reading s) (refuting_parts m m.conjectures goal) more parts
-            lawful)),
+            let w = laws.cuts All m m.conjectures goal s havocs values fits ok added.universal_fit g
+            ((laws.same m goal s havocs values).1 counterexample) in
+            let there : satisfies w.whole more ≡ true =
+            all-same m goal is_answered more added.others_fit w.whole w.fits
+            ∙ ap (λ (z : Tables). satisfies z more) (sym w.cut) ∙ lawful in
+            h.1 w.whole w.fits
+            (both-true (reading w.whole) (refuting_parts m m.conjectures goal) more w.holds there)),
         h.2,
       )
       by_sentence (Fails shown) h = (
         passes None (None, h.0, refl),
         (
           failing shown h.1,
-          others-true (reading shown.structure) (refuting_parts m m.conjectures goal) more h.1.holds,
+          (let w = h.1.holds in
+              ap (λ (z : Tables). satisfies z more) w.cut
+              ∙ sym (all-same m goal is_answered more added.others_fit w.whole w.fits)
+              ∙ others-true (reading w.whole) (refuting_parts m m.conjectures goal) more w.holds),
         ),
       )
       by_sentence (Undecided c) h =
@@ -167,18 +193,19 @@ module _ (limits : Ceilings) (m : ModelTree) (goal : Goal) where
   module _ (alone : NoPartsAreAdded) where
     first-alone : (first : Option Cause) → RestrictedPassesFirst limits m [] goal first
         → MatchBool (goal_passes_limit m goal) (first ≡ Some cause.Formula)
-        ((p : Option Passed) × Passes limits m.signature (refuting_of m m.conjectures goal) p × (first ≡ first_cause p))
+        ((p : Option Passed) × Passes limits (answered m goal) (refuting_of m m.conjectures goal) p
+        × (first ≡ first_cause p))
     first-alone first h =
         subst
         (λ (q : FormTree). MatchBool (goal_passes_limit m goal) (first ≡ Some cause.Formula)
-        ((p : Option Passed) × Passes limits m.signature q p × (first ≡ first_cause p)))
+        ((p : Option Passed) × Passes limits (answered m goal) q p × (first ≡ first_cause p)))
         (alone All m m.conjectures goal) h
 
     pub unrestricted : (d : Decision) → IsRestrictedDecision limits m [] goal d → IsDecision limits m goal d
     unrestricted (Holds proof) h = (
       first-alone None h.0,
       (λ s havocs values counterexample. h.1 s havocs values counterexample refl),
-      subst (λ (q : FormTree). Refutes m.signature q proof) (alone All m m.conjectures goal) h.2,
+      subst (λ (q : FormTree). Refutes (answered m goal) q proof) (alone All m m.conjectures goal) h.2,
     )
     unrestricted (Fails shown) h = (first-alone None h.0, h.1.0)
     unrestricted (Undecided cause.Formula) h = first-alone (Some cause.Formula) h
@@ -187,5 +214,5 @@ module _ (limits : Ceilings) (m : ModelTree) (goal : Goal) where
     unrestricted (Undecided (cause.Conflicts n)) h = (
       first-alone None h.0,
       h.1,
-      subst (λ (q : FormTree). SpendsBudget m.signature q n) (alone All m m.conjectures goal) h.2,
+      subst (λ (q : FormTree). SpendsBudget (answered m goal) q n) (alone All m m.conjectures goal) h.2,
     )

@@ -1,22 +1,32 @@
 -- What a checked model lends is what it has, and so is what is answered of it.
-use Rattle.std.proofs.Common.{◌≡◌, ℕ, List, length, ap, ◌∙◌, subst}
+use Rattle.std.proofs.Common.{◌≡◌, ℕ, List, length, sym, ap, ◌∙◌, subst}
 use Rattle.fol_sig.specs.Tables.{Declared}
+use Rattle.fol_sig.specs.Symbols.{symbols}
+use Rattle.fol_sig.specs.Strata.{IsStrata}
 use Rattle.fol_formula.specs.Syntax.{FormTree}
 use Rattle.rml_command.specs.Models.{ModelTree}
+use Rattle.rml_command.specs.declared.goal.Goal.{Goal}
+use Rattle.rml_wp.specs.Preconditions.{answered}
+use Rattle.rml_wp.specs.Answered.{IsAnswered}
 use Rattle.ea_decide.specs.Passing.{Ceilings}
 use Rattle.ea_decide.specs.Decisions.{IsDecided}
 use Rattle.ea_decide.specs.declared.decided.Decided.{Decided}
 
--- the signature of a model, and how many functions that has
+-- the signature of a model, and how many functions one has
 pub signature_of : (given : Declared) (held m : ModelTree) → given ≡ held.signature → held ≡ m → given ≡ m.signature
 signature_of given held m is same = is ∙ ap (λ (z : ModelTree). z.signature) same
 
-pub functions_of : (f : ℕ) (given : Declared) (m : ModelTree)
-    → f ≡ length given.functions → given ≡ m.signature → f ≡ length m.signature.functions
-functions_of f given m is same = is ∙ ap (λ (z : Declared). length z.functions) same
+pub functions_of : (f : ℕ) (given sig : Declared) → f ≡ length given.functions → given ≡ sig → f ≡ length sig.functions
+functions_of f given sig is same = is ∙ ap (λ (z : Declared). length z.functions) same
 
 pub axioms_of : (given : List FormTree) (held m : ModelTree) → given ≡ held.axioms → held ≡ m → given ≡ m.axioms
 axioms_of given held m is same = is ∙ ap (λ (z : ModelTree). z.axioms) same
+
+-- the order of a model's sorts is one for the signature over which a goal's sentences are
+pub strata_of : (m : ModelTree) (goal : Goal) → IsAnswered m goal → (given : Declared) → given ≡ answered m goal
+    → (order : List ℕ) → IsStrata (symbols m.signature) order → IsStrata (symbols given) order
+strata_of m goal is given same order h =
+    subst (λ (z : Declared). IsStrata (symbols z) order) (sym same) (is.strata order h)
 
 -- the answer to a sentence of the signature
 module _ (limits : Ceilings) (given sig : Declared) (p q : FormTree) (d e : Decided) where

@@ -8,7 +8,7 @@ use Rattle.rml_command.specs.Goals.{IsCounterexample, HasNone}
 use Rattle.rml_command.specs.declared.goal.Goal.{Goal}
 use Rattle.rml_command.specs.declared.havoc.Havoc.{Havoc}
 use Rattle.rml_exec.specs.declared.trace.Counterexample.{Counterexample}
-use Rattle.rml_wp.specs.Preconditions.{refuting_of}
+use Rattle.rml_wp.specs.Preconditions.{answered, refuting_of}
 use Rattle.rml_wp.specs.Laws.{IsCounterexampleBy}
 use Rattle.rml_report.specs.declared.cause.Cause.{Cause}
 use Rattle.rml_report.specs.declared.cause.Cause.TheVariants as cause
@@ -33,14 +33,14 @@ pub record IsFailing (limits : Ceilings) (m : ModelTree) (goal : Goal) (shown : 
 -- conflicts is spent on its clauses; or it passes this limit.
 abbrev pub IsLeftOpenAs : Ceilings → ModelTree → Goal → FormTree → Cause → Type 0
 IsLeftOpenAs limits m goal p (cause.Conflicts n) =
-    PassesFirstAs limits m goal p None × (n ≡ limits.conflicts) × SpendsBudget m.signature p n
+    PassesFirstAs limits m goal p None × (n ≡ limits.conflicts) × SpendsBudget (answered m goal) p n
 IsLeftOpenAs limits m goal p c = PassesFirstAs limits m goal p (Some c)
 
 -- The answer to a goal by this refuting sentence, where these are what it means that the goal holds, and that it fails.
 abbrev pub IsDecisionAs : Ceilings → ModelTree → Goal → FormTree → Type 0 → (Counterexample → Type 0) → Decision
     → Type 0
 IsDecisionAs limits m goal p holds fails (Holds proof) =
-    PassesFirstAs limits m goal p None × holds × Refutes m.signature p proof
+    PassesFirstAs limits m goal p None × holds × Refutes (answered m goal) p proof
 IsDecisionAs limits m goal p holds fails (Fails shown) = PassesFirstAs limits m goal p None × fails shown
 IsDecisionAs limits m goal p holds fails (Undecided c) = IsLeftOpenAs limits m goal p c
 

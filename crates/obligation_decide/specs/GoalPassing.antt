@@ -1,9 +1,10 @@
 -- Which limit a goal passes, by what is counted before anything is decided.
 use Rattle.std.specs.Prelude.{◌≡◌, MatchBool, List, Option, Some, None}
+use Rattle.fol_sig.specs.Tables.{Declared}
 use Rattle.fol_formula.specs.Syntax.{FormTree}
 use Rattle.rml_command.specs.Models.{ModelTree}
 use Rattle.rml_command.specs.declared.goal.Goal.{Goal}
-use Rattle.rml_wp.specs.Preconditions.{goal_passes_limit, refuting_of}
+use Rattle.rml_wp.specs.Preconditions.{answered, goal_passes_limit, refuting_of}
 use Rattle.rml_report.specs.declared.cause.Cause.{Cause}
 use Rattle.rml_report.specs.declared.cause.Cause.TheVariants as cause
 use Rattle.ea_decide.specs.declared.decided.Passed.{Passed}
@@ -24,21 +25,22 @@ first_cause (Some p) = Some (cause_of p)
 abbrev pub refuting_sentence : ModelTree → Goal → FormTree
 refuting_sentence m goal = refuting_of m m.conjectures goal
 
--- The sentence passes this limit first, or none. Here and in what follows a refuting sentence of the goal decides, with
--- whatever sentences hold before the stage, and whatever further parts it has.
-abbrev pub PassesAs : Ceilings → ModelTree → FormTree → Option Cause → Type 0
-PassesAs limits m p first = (q : Option Passed) × Passes limits m.signature p q × (first ≡ first_cause q)
+-- The sentence passes this limit first, or none, over the signature. Here and in what follows a refuting sentence of
+-- the goal decides, over the answered signature, with whatever sentences hold before the stage, and whatever further
+-- parts it has.
+abbrev pub PassesAs : Ceilings → Declared → FormTree → Option Cause → Type 0
+PassesAs limits sig p first = (q : Option Passed) × Passes limits sig p q × (first ≡ first_cause q)
 
 -- The first limit that is passed, if one is: that of formulas, by the preconditions along the goal's path; or one that
 -- the sentence passes.
 abbrev pub PassesFirstAs : Ceilings → ModelTree → Goal → FormTree → Option Cause → Type 0
 PassesFirstAs limits m goal p first =
-    MatchBool (goal_passes_limit m goal) (first ≡ Some cause.Formula) (PassesAs limits m p first)
+    MatchBool (goal_passes_limit m goal) (first ≡ Some cause.Formula) (PassesAs limits (answered m goal) p first)
 
 module _ (limits : Ceilings) (m : ModelTree) where
   -- where these sentences hold before the stage in place of the conjectures
   abbrev pub SentencePassesBy : List FormTree → Goal → Option Cause → Type 0
-  SentencePassesBy held goal first = PassesAs limits m (refuting_of m held goal) first
+  SentencePassesBy held goal first = PassesAs limits (answered m goal) (refuting_of m held goal) first
 
   abbrev pub PassesFirstBy : List FormTree → Goal → Option Cause → Type 0
   PassesFirstBy held goal first = PassesFirstAs limits m goal (refuting_of m held goal) first

@@ -1,7 +1,7 @@
 -- The limit that a goal passes first is a function of the model, a refuting sentence with further parts says what its
 -- own parts and these say, and the And of the axioms says whether they are consistent.
 use Rattle.std.specs.Prelude.{◌≡◌, ◌↔◌, true, List, [], Option}
-use Rattle.fol_sig.specs.Tables.{Tables}
+use Rattle.fol_sig.specs.Tables.{Tables, IsSignature}
 use Rattle.fol_sig.specs.Symbols.{symbols}
 use Rattle.fol_formula.specs.Syntax.{FormTree}
 use Rattle.fol_formula.specs.Fits.{FitsForm}
@@ -23,7 +23,8 @@ use Rattle.obligation_decide.specs.Restricted.{with_parts}
 use Rattle.obligation_decide.specs.WithConstants.{HoldsWithConstants}
 
 abbrev pub FirstLimitIsOne : Type 0
-FirstLimitIsOne = (limits : Ceilings) (m : ModelTree) (goal : Goal) (a b : Option Cause) → IsChecked m → IsGoal m goal
+FirstLimitIsOne = (limits : Ceilings) (m : ModelTree) (goal : Goal) (a b : Option Cause) → IsChecked m
+    → IsSignature m.signature → IsGoal m goal
     → PassesFirst limits m goal a → PassesFirst limits m goal b → a ≡ b
 
 -- A refuting sentence with further parts is the sentence with these in its And.

@@ -4,13 +4,15 @@ use Rattle.std.specs.Prelude.{◌≡◌, ◌≤◌, ℕ, true, List, ◌∷◌, 
 use Rattle.fol_sig.specs.Tables.{Tables}
 use Rattle.fol_formula.specs.Syntax.{FormTree, conjunction, list_of_forms}
 use Rattle.rml_command.specs.Models.{ModelTree}
-use Rattle.rml_command.specs.Outcomes.{all_of, is_true, satisfies}
+use Rattle.rml_command.specs.Outcomes.{all_of, satisfies}
 use Rattle.rml_command.specs.Goals.{IsCounterexample}
 use Rattle.rml_command.specs.declared.goal.Goal.{Goal}
 use Rattle.rml_command.specs.declared.havoc.Havoc.{Havoc}
 use Rattle.rml_exec.specs.declared.trace.Counterexample.{Counterexample}
 use Rattle.rml_wp.specs.declared.premises.Premises.{Premises}
 use Rattle.rml_wp.specs.declared.premises.Premises.TheVariants.{All}
+use Rattle.rml_wp.specs.Preconditions.{answered}
+use Rattle.rml_wp.specs.Answered.{IsCutOfSatisfying}
 use Rattle.rml_wp.specs.Added.{AreAdded, refuting_all, refuting_all_by}
 use Rattle.rml_wp.specs.Laws.{IsCounterexampleBy}
 use Rattle.rml_report.specs.declared.cause.Cause.{Cause}
@@ -42,23 +44,23 @@ RefutesAs premises m goal p s havocs values =
     (held more : List FormTree) → AreAdded m held more → p ≡ refuting_all_by premises m held more goal
     → IsCounterexampleBy m held goal s havocs values
 
--- The execution is one, of a structure that satisfies the sentence. Private contracts alone cite this.
+-- The execution is one, of the cut of a structure that satisfies the sentence. Private contracts alone cite this.
 pub record IsSentenceFailing (limits : Ceilings) (premises : Premises) (m : ModelTree) (p : FormTree) (goal : Goal)
     (shown : Counterexample) : Type 0 where
   pub same : shown.goal ≡ goal
   pub path : shown.trace.path ≡ goal.path
   pub refutes : RefutesAs premises m goal p shown.structure shown.trace.havoc shown.values
-  pub holds : is_true shown.structure p ≡ true
+  pub holds : IsCutOfSatisfying m goal p shown.structure
   pub few : sum shown.structure.sizes ≤ limits.terms
 
 -- The answer to such a sentence, in which all axioms are premises. Private contracts alone cite this.
 abbrev pub IsSentenceDecision : Ceilings → ModelTree → FormTree → Goal → Decision → Type 0
 IsSentenceDecision limits m p goal (Holds proof) =
-    Passes limits m.signature p None × HasNoModel m.signature p × Refutes m.signature p proof
+    Passes limits (answered m goal) p None × HasNoModel (answered m goal) p × Refutes (answered m goal) p proof
 IsSentenceDecision limits m p goal (Fails shown) =
-    Passes limits m.signature p None × IsSentenceFailing limits All m p goal shown
+    Passes limits (answered m goal) p None × IsSentenceFailing limits All m p goal shown
 IsSentenceDecision limits m p goal (Undecided c) =
-    (passed : Passed) × (c ≡ cause_of passed) × IsOver limits m.signature p passed
+    (passed : Passed) × (c ≡ cause_of passed) × IsOver limits (answered m goal) p passed
 
 -- no counterexample of the goal is in a structure that satisfies these sentences
 abbrev pub HasNoneWhere : ModelTree → List FormTree → Goal → Type 0
@@ -69,7 +71,7 @@ HasNoneWhere m more goal =
 module _ (limits : Ceilings) (m : ModelTree) (more : List FormTree) (goal : Goal) where
   -- the refuting sentence with these parts
   abbrev pub RestrictedSentencePasses : Option Cause → Type 0
-  RestrictedSentencePasses first = PassesAs limits m (refuting_all m m.conjectures more goal) first
+  RestrictedSentencePasses first = PassesAs limits (answered m goal) (refuting_all m m.conjectures more goal) first
 
   abbrev pub RestrictedPassesFirst : Option Cause → Type 0
   RestrictedPassesFirst first = PassesFirstAs limits m goal (refuting_all m m.conjectures more goal) first

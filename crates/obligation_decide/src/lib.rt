@@ -19,7 +19,7 @@ ghost use Rattle.fol_formula.specs.Fits.{FitsForm};
 ghost use Rattle.fol_formula.specs.Fragments.{IsEa};
 ghost use Rattle.rml_command.specs.Goals.{IsGoal};
 ghost use Rattle.rml_wp.specs.declared.premises.Premises.TheVariants.{All as AllAxioms};
-ghost use Rattle.rml_wp.specs.Preconditions.{conjectures_of};
+ghost use Rattle.rml_wp.specs.Preconditions.{conjectures_of, answered as answered_of};
 ghost use Rattle.ea_decide.specs.Passing.{ceilings};
 ghost use Rattle.obligation_decide.specs.GoalPassing.{cause_of as named_cause};
 ghost use Rattle.obligation_decide.specs.GoalDecisions.{IsDecision, IsDecisionBy};
@@ -30,6 +30,7 @@ use base::{Mem, Refused};
 pub use decision::{Decision, Measured};
 use ea_decide::{Decided, Passed};
 use fol_formula::{Ea, Sentence};
+use fol_sig::Signature;
 pub use laws::{axioms_law, parts_law, passing_law};
 use lrat_log::Limits;
 pub use measuring::{measure_by, measure_where};
@@ -67,11 +68,12 @@ pub fn decide_with(
         (IsDecisionBy (ceilings limits.now) checked.now (conjectures_of checked.now held.now) goal.now) }
 {
     rml_wp::sentence_law();
-    rml_wp::refuting_law();
+    rml_wp::answered_law();
+    rml_wp::answered_goal(checked, goal);
     let _checked = checked.model();
     match refuting_with(alloc, checked, goal, held) {
-        Ok(sentence) => {
-            let decision = decide_sentence(alloc, checked, goal, &sentence, limits)?;
+        Ok((answered, sentence)) => {
+            let decision = decide_sentence(alloc, checked, goal, &answered, &sentence, limits)?;
             Ok(decision)
         }
         Err(Refused::NoMemory) => Err(AllocError),
@@ -95,10 +97,12 @@ pub fn decide_where(
 {
     rml_wp::sentence_law();
     rml_wp::refuting_law();
+    rml_wp::answered_law();
+    rml_wp::answered_goal(checked, goal);
     let _checked = checked.model();
     match restricted(alloc, checked, goal, more) {
-        Ok(sentence) => {
-            let decision = decide_sentence(alloc, checked, goal, &sentence, limits)?;
+        Ok((answered, sentence)) => {
+            let decision = decide_sentence(alloc, checked, goal, &answered, &sentence, limits)?;
             Ok(decision)
         }
         Err(Refused::NoMemory) => Err(AllocError),
@@ -111,10 +115,12 @@ fn decide_sentence(
     alloc: Global,
     checked: &Checked,
     goal: &Goal,
+    answered: &Signature,
     sentence: &Ea,
     limits: &Limits,
 ) -> Mem<Decision>
     requires goal { IsGoal checked.now goal.now }
+    requires answered { answered.now ≡ answered_of checked.now goal.now }
     requires sentence { IsRefutingWith AllAxioms checked.now goal.now sentence.now }
     ensures { IfOk result (IsSentenceDecision (ceilings limits.now) checked.now sentence.now goal.now) }
 {
@@ -122,13 +128,22 @@ fn decide_sentence(
     witness::sentence_law();
     skolem::exactness();
     ea_decide::elements_law();
-    let signature = checked.model().signature();
+    rml_wp::answered_goal(checked, goal);
+    let _checked = checked.model();
     // The limits are read here, so that their ranges are known.
     let limits = *limits;
-    match ea_decide::decide(alloc, signature, checked.strata(), sentence, &limits)? {
+    match ea_decide::decide(alloc, answered, checked.strata(), sentence, &limits)? {
         Decided::Refuted(proof) => Ok(Decision::Holds(proof)),
         Decided::Satisfied(model) => {
-            let shown = read_counterexample(alloc, checked, Premises::All, goal, sentence, model)?;
+            let shown = read_counterexample(
+                alloc,
+                checked,
+                Premises::All,
+                goal,
+                answered,
+                sentence,
+                model,
+            )?;
             Ok(Decision::Fails(shown))
         }
         Decided::Over(passed) => Ok(Decision::Undecided(cause_of(passed))),

@@ -6,7 +6,7 @@ ghost use Rattle.fol_sig.specs.Symbols.{symbols};
 ghost use Rattle.fol_formula.specs.Fits.{FitsForm};
 ghost use Rattle.fol_formula.specs.Fragments.{IsEa};
 ghost use Rattle.rml_command.specs.Goals.{IsGoal};
-ghost use Rattle.rml_wp.specs.Preconditions.{goal_precondition, goal_passes_limit};
+ghost use Rattle.rml_wp.specs.Preconditions.{answered as answered_of, goal_precondition, goal_passes_limit};
 ghost use Rattle.rml_wp.specs.Added.{refuting_all};
 ghost use Rattle.ground_size.specs.Conjoined.{forms_at};
 ghost use Rattle.ea_decide.specs.Passing.{ceilings};
@@ -17,6 +17,7 @@ use crate::decision::Measured;
 use base::{Mem, Refused};
 use ea_decide::measure_parts;
 use fol_formula::{Ae, Sentence};
+use fol_sig::Signature;
 use ground_size::Part;
 use lrat_log::Limits;
 use rml_command::{Checked, Goal, Stage};
@@ -39,8 +40,16 @@ pub fn measure_where(
     ensures { IfOk result (IsRestrictedMeasured (ceilings limits.now) checked.now more.now goal.now) }
 {
     match precondition(alloc, checked, goal) {
-        Ok(precondition) => {
-            let measured = measure_by(alloc, checked, goal, &precondition, more, limits)?;
+        Ok((answered, precondition)) => {
+            let measured = measure_by(
+                alloc,
+                checked,
+                goal,
+                &answered,
+                &precondition,
+                more,
+                limits,
+            )?;
             Ok(measured)
         }
         Err(Refused::NoMemory) => Err(AllocError),
@@ -48,23 +57,26 @@ pub fn measure_where(
     }
 }
 
-/// The same of a goal that does not pass the limit of formulas, given its precondition.
+/// The same of a goal that does not pass the limit of formulas, given its precondition and the signature that it is
+/// over.
 pub fn measure_by(
     alloc: Global,
     checked: &Checked,
     goal: &Goal,
+    answered: &Signature,
     precondition: &Ae,
     more: &[Sentence],
     limits: &Limits,
 ) -> Mem<Measured>
     requires goal { IsGoal checked.now goal.now }
+    requires answered { answered.now ≡ answered_of checked.now goal.now }
     requires precondition { precondition.now ≡ goal_precondition checked.now goal.now }
     requires within { goal_passes_limit checked.now goal.now ≡ false }
     requires fragment { AllByRecursion IsEa more.now }
     requires fits { AllByRecursion (FitsForm (symbols checked.now.signature) []) more.now }
     ensures { IfOk result (IsRestrictedMeasured (ceilings limits.now) checked.now more.now goal.now) }
 {
-    let measured = measure_refuting(alloc, checked, goal, precondition, more, limits)?;
+    let measured = measure_refuting(alloc, checked, goal, answered, precondition, more, limits)?;
     Ok(measured)
 }
 
@@ -73,18 +85,21 @@ fn measure_refuting(
     alloc: Global,
     checked: &Checked,
     goal: &Goal,
+    answered: &Signature,
     precondition: &Ae,
     more: &[Sentence],
     limits: &Limits,
 ) -> Mem<Measured>
     requires goal { IsGoal checked.now goal.now }
+    requires answered { answered.now ≡ answered_of checked.now goal.now }
     requires precondition { precondition.now ≡ goal_precondition checked.now goal.now }
     requires fragment { AllByRecursion IsEa more.now }
     requires fits { AllByRecursion (FitsForm (symbols checked.now.signature) []) more.now }
-    ensures { IfOk result (IsSentenceMeasured (ceilings limits.now) checked.now
+    ensures { IfOk result (IsSentenceMeasured (ceilings limits.now) answered.now
         (refuting_all checked.now checked.now.conjectures more.now goal.now)) }
 {
     rml_wp::sentence_law();
+    rml_wp::answered_goal(checked, goal);
     let model = checked.model();
     let axioms = model.axioms();
     let held = held_before(goal.stage, model.conjectures());
@@ -94,8 +109,7 @@ fn measure_refuting(
         Part::Not(precondition.sentence()),
         Part::Each(more),
     ];
-    let signature = model.signature();
-    match measure_parts(alloc, signature, checked.strata(), &parts, limits)? {
+    match measure_parts(alloc, answered, checked.strata(), &parts, limits)? {
         ea_decide::Measured::Within(size) => Ok(Measured::Within(size)),
         ea_decide::Measured::Over(passed) => Ok(Measured::Over(cause_of(passed))),
     }

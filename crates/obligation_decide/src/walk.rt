@@ -4,59 +4,66 @@ ghost use Rattle.fol_sig.specs.Tables.{fun_at};
 ghost use Rattle.fol_sig.specs.Symbols.{symbols};
 ghost use Rattle.fol_sig.specs.Constants.{reduct};
 ghost use Rattle.skolem.specs.Laws.{HasConstant};
-ghost use Rattle.rml_command.specs.Outcomes.{is_true};
 ghost use Rattle.rml_command.specs.Goals.{IsGoal};
+ghost use Rattle.rml_wp.specs.Preconditions.{answered as answered_of};
+ghost use Rattle.rml_wp.specs.Answered.{IsCutOfSatisfying};
 ghost use Rattle.obligation_decide.specs.Restricted.{IsRefutingWith, RefutesAs};
 ghost use Rattle.obligation_decide.specs.WithConstants.{constant_sorts, HoldsWithConstants};
 
-use base::Mem;
+use base::{Mem, Row};
 use fol_formula::Ea;
-use fol_sig::{FunId, Structure};
-use rml_command::{Checked, Goal, havocs_of};
+use fol_sig::{FunId, Signature, Structure};
+use rml_command::{Checked, Goal};
 use rml_exec::{Counterexample, Trace};
-use rml_wp::{Premises, read_witness};
+use rml_wp::{Premises, goal_havocs, read_witness};
 use std::alloc::Global;
 
 /// The counterexample of a goal that a model of its refuting sentence is, with constants in the place of the
-/// existentials: the elements and values stand among those of the constants, and the structure is the model without
-/// them, and satisfies the sentence.
+/// existentials: the elements and values stand among those of the constants, the tables are those of its fresh
+/// relations, and the structure is the model without these and the constants.
 pub fn read_counterexample(
     alloc: Global,
     checked: &Checked,
     premises: Premises,
     goal: &Goal,
+    answered: &Signature,
     sentence: &Ea,
     model: Structure,
 ) -> Mem<Counterexample>
     requires goal { IsGoal checked.now goal.now }
     requires sentence { IsRefutingWith premises checked.now goal.now sentence.now }
-    requires model { HoldsWithConstants checked.now.signature sentence.now model }
-    requires few { length checked.now.signature.functions + length (constant_sorts sentence.now) < 2 ^ 32 }
+    requires answered { answered.now ≡ answered_of checked.now goal.now }
+    requires model { HoldsWithConstants answered.now sentence.now model }
+    requires few { length answered.now.functions + length (constant_sorts sentence.now) < 2 ^ 32 }
     ensures goal { IfOk result (λ shown. shown.goal ≡ goal.now) }
     ensures path { IfOk result (λ shown. shown.trace.path ≡ goal.now.path) }
     ensures refutes { IfOk result
         (λ s. RefutesAs premises checked.now goal.now sentence.now s.structure s.trace.havoc s.values) }
-    ensures holds { IfOk result (λ s. is_true s.structure sentence.now ≡ true) }
-    ensures structure { IfOk result (λ s. s.structure ≡ reduct (symbols checked.now.signature) model) }
+    ensures holds { IfOk result (λ s. IsCutOfSatisfying checked.now goal.now sentence.now s.structure) }
+    ensures structure { IfOk result
+        (λ s. s.structure ≡ reduct (symbols checked.now.signature) (reduct (symbols answered.now) model)) }
 {
     skolem::witnesses();
     skolem::exactness();
     fol_nnf::exactness();
     witness::sentence_law();
     witness::counterexample_law();
+    rml_wp::answered_goal(checked, goal);
     let signature = checked.model().signature();
-    let functions = signature.function_count();
+    let functions = answered.function_count();
     let count = sentence.sentence().formula().existentials() as u32;
     let constants = constants(alloc, &model, functions, count)?;
     let witness = read_witness(alloc, checked, premises, goal, &constants)?;
-    let havoc = havocs_of(alloc, witness.havoc.as_slice())?;
     let mut structure = model;
+    structure.restrict(answered);
+    let elements = witness.havoc.as_slice();
+    let havoc = goal_havocs(alloc, checked, goal, answered, &structure, elements)?;
     structure.restrict(signature);
     Ok(Counterexample {
         structure,
         trace: Trace {
             path: goal.path,
-            havoc,
+            havoc: Row::from_vec(havoc),
         },
         goal: *goal,
         values: witness.values,

@@ -2,14 +2,12 @@
 use Rattle.std.proofs.Common.{◌≡◌, ℕ, zero, suc, Bool, true, false, cond, Some, List, [], ◌∷◌, ◌++◌, map, subst}
 use Rattle.std.specs.Prelude.{slice_get}
 use Rattle.std.specs.List.{AllByRecursion, flat_map}
-use Rattle.fol_sig.specs.Symbols.{Symbols, symbols}
-use Rattle.rml_command.specs.Trees.{PrimitiveTree, assume, set_rel, set_fun, havoc, havoc_rel, abort, CommandTree}
+use Rattle.rml_command.specs.Trees.{PrimitiveTree, CommandTree}
 use Rattle.rml_command.specs.Trees.{CommandTrees, prim, seq, choose, no_commands, command_then, EachPrimitive}
 use Rattle.rml_command.specs.Trees.{EachPrimitiveOf}
 use Rattle.base.specs.Lists.{numbered}
 use Rattle.rml_command.specs.Paths.{has_abort, continued, paths_of, paths_in_turn, paths_of_each}
-use Rattle.rml_command.specs.Models.{ModelTree, EachBlock, FitsPrimitive, FitsStep, FitsPath, FitsSteps, FitsCommand}
-use Rattle.rml_command.specs.Models.{FitsBlock}
+use Rattle.rml_command.specs.Models.{ModelTree, EachBlock}
 use Rattle.rml_command.specs.Goals.{paths_of_block, stage_paths, goal_path}
 use Rattle.rml_command.specs.Laws.{GoalPathsFit}
 use Rattle.rml_command.specs.declared.goal.Goal.{Goal}
@@ -87,33 +85,8 @@ module _ (P : PrimitiveTree → Type 0) where
       → goal_path m goal ≡ Some p → Each p
   of_goal m goal p h is = one_numbered (stage_paths m goal.stage) goal.path p is (of_stage m goal.stage h)
 
--- what is no havoc of a relation fits
-module _ (sig : Symbols) where
-  step-fits : (q : PrimitiveTree) → FitsStep sig q → FitsPrimitive sig q
-  step-fits (assume p) h = h
-  step-fits (set_rel r by) h = h
-  step-fits (set_fun f by) h = h
-  step-fits (havoc v) h = h
-  step-fits (havoc_rel r) h = absurd h
-  step-fits abort h = h
-
-  path-fits : (p : List PrimitiveTree) → FitsSteps sig p → FitsPath sig p
-  path-fits [] h = tt
-  path-fits (q ∷ qs) h = (step-fits q h.0, path-fits qs h.1)
-
-  mutual
-    pub block-fits : (c : CommandTree) → FitsBlock sig c → FitsCommand sig c
-    block-fits (prim q) h = step-fits q h
-    block-fits (seq cs) h = blocks-fit cs h
-    block-fits (choose cs) h = blocks-fit cs h
-
-    blocks-fit : (cs : CommandTrees) → EachPrimitiveOf (FitsStep sig) cs → EachPrimitiveOf (FitsPrimitive sig) cs
-    blocks-fit no_commands h = tt
-    blocks-fit (command_then c cs) h = (block-fits c h.0, blocks-fit cs h.1)
-
 pub goal_paths_fit : GoalPathsFit
 goal_paths_fit = record {
-  symbols_fit = λ m goal p fits is. path-fits (symbols m.signature) p (of_goal _ m goal p fits.blocks is);
-  steps_fit = λ m goal p fits is. of_goal _ m goal p fits.blocks is;
+  symbols_fit = λ m goal p fits is. of_goal _ m goal p fits.blocks is;
   in_fragment = λ m goal p checked is. of_goal _ m goal p checked.fragment.blocks is;
 }

@@ -1,7 +1,7 @@
 -- A path under the tables of its fresh relations.
-use Rattle.std.proofs.Common.{◌≡◌, ℕ, zero, suc, ◌+◌, ◌-◌, ◌<◌, ◌≤◌, Bool, true, false, cond, Option, Some, None}
+use Rattle.std.proofs.Common.{◌≡◌, ℕ, zero, suc, ◌+◌, ◌-◌, ◌<◌, ◌≤◌, Bool, true, false, cond, Option, None}
 use Rattle.std.proofs.Common.{List, [], ◌∷◌}
-use Rattle.std.proofs.Common.{◌++◌, All, length, get_or, set, take, map, refl, sym, ap, ◌∙◌, subst, arith, take_all}
+use Rattle.std.proofs.Common.{◌++◌, All, length, get_or, take, map, refl, sym, ap, ◌∙◌, subst, arith, take_all}
 use Rattle.std.specs.Prelude.{reverse, nat_lt}
 use Rattle.std.specs.List.{AllByRecursion, filter}
 use mathlib.Core.Path.{fun_ext}
@@ -17,17 +17,17 @@ use Rattle.fol_sig.specs.Ranges.{RangesAreAlong}
 use Rattle.fol_sig.specs.Constants.{reduct}
 use Rattle.fol_sig.specs.Tuples.{tuples}
 use Rattle.fol_sig.specs.Updates.{cells_from, with_relation_cells, with_function_cells}
-use Rattle.fol_sig.specs.TupleSets.{with_table, with_tuples, tuples_of, tuples_where, TablesAreExtensional, IsItsTuples}
+use Rattle.fol_sig.specs.TupleSets.{with_tuples, tuples_of, tuples_where, TablesAreExtensional, IsItsTuples}
 use Rattle.fol_sig.specs.TupleSets.{TablesAreTuples}
 use Rattle.fol_sig.specs.Growing.{Grows, GrowsByRelations, SignaturesGrowByRelations, StructuresReduce}
 use Rattle.fol_sig.specs.Growing.{CommutesWithUpdates, ReductsCommuteWithUpdates}
-use Rattle.fol_formula.specs.Syntax.{FormTree, TermTree, TermTrees, forms_of}
+use Rattle.fol_formula.specs.Syntax.{FormTree, TermTree, forms_of}
 use Rattle.fol_formula.specs.Truth.{truth, value, values}
 use Rattle.fol_formula.specs.Fits.{FitsForm, FitsForms, FitsTerm, FitsTerms}
 use Rattle.fol_formula.specs.Fragments.{AreQuantifierFreeTerms}
 use Rattle.fol_formula.specs.Growing.{ReadsItsOwn, TruthReadsItsOwn, FittingIsKept}
 use Rattle.rml_command.specs.Trees.{PrimitiveTree, assume, set_rel, set_fun, havoc, havoc_rel, abort}
-use Rattle.rml_command.specs.Outcomes.{Outcome, ended, aborted, follow_path, all_of, is_true, satisfies, set_relation}
+use Rattle.rml_command.specs.Outcomes.{Outcome, follow_path, all_of, is_true, satisfies, set_relation}
 use Rattle.rml_command.specs.Outcomes.{set_function, set_variable, range_of, are_tuples_of}
 use Rattle.rml_command.specs.Models.{FitsPrimitive, FitsPath}
 use Rattle.rml_command.specs.Laws.{UpdatesKeepSymbols}
@@ -35,7 +35,7 @@ use Rattle.rml_command.specs.Fresh.{parameters, at_parameters, written, havocked
 use Rattle.rml_command.specs.Fresh.{FreshTablesAreFollowed, WrittenPathsFit, FreshSignaturesGrow}
 use Rattle.rml_command.specs.Fragment.{IsInFragment}
 use Rattle.rml_command.specs.declared.havoc.Havoc.{Havoc}
-use Rattle.rml_command.specs.declared.havoc.Havoc.TheVariants.{Element, Tuples}
+use Rattle.rml_command.specs.declared.havoc.Havoc.TheVariants.{Element}
 
 -- what the crates below promise of growing signatures and of tables
 pub record Knows : Type 0 where

@@ -15,7 +15,7 @@ use Rattle.rml_command.specs.Outcomes.{Outcome, ended, aborted, HasOutcome, Path
 use Rattle.rml_command.specs.Outcomes.{follow_path}
 use Rattle.base.specs.Lists.{count_from}
 use Rattle.rml_command.specs.Paths.{paths_of}
-use Rattle.rml_command.specs.Models.{ModelTree, FitsCommand, FitsBlock, FitsModel}
+use Rattle.rml_command.specs.Models.{ModelTree, FitsCommand, FitsModel}
 use Rattle.rml_command.specs.Runs.{Step, Run, From, Leads, Closes, IsRun, SomeAborts, Aborts, BreaksAt, SomeBreaks}
 use Rattle.rml_command.specs.Runs.{Breaks}
 use Rattle.rml_command.specs.Goals.{stage_groups, block_of, paths_of_block, is_for, goals_among, is_allowed}
@@ -29,7 +29,6 @@ use Rattle.rml_command.specs.declared.goal.About.TheVariants as about
 use Rattle.rml_command.specs.declared.goal.Goal.{Goal}
 use Rattle.rml_command.proofs.Some.{some_at}
 use Rattle.rml_command.proofs.PathLaw.{by_path, path_ends, path_aborts}
-use Rattle.rml_command.proofs.EachPath.{block-fits}
 use Rattle.rml_command.proofs.Following.{followed}
 use Rattle.rml_command.proofs.Structures.{IsLawful, kept, step_lawful}
 use Rattle.rml_command.proofs.Values.{falsified}
@@ -194,8 +193,7 @@ module _ (tables : TablesAreTuples) (keep : UpdatesKeepSymbols) (m : ModelTree) 
     step_well from good step steps to go leads (ended s) is =
         let out = subst (λ (e : Outcome). From m leads.0 (ended from) e) is leads.2 in
         let well = ends_well (stage.Action step.action) leads.0 from s leads.1
-        (block-fits (symbols m.signature) leads.0
-        (all_at (FitsBlock (symbols m.signature)) m.actions step.action leads.0 leads.1 fits.blocks.actions))
+        (all_at (FitsCommand (symbols m.signature)) m.actions step.action leads.0 leads.1 fits.blocks.actions)
         (actions step.action (at-below m.actions step.action leads.0 leads.1)) good.lawful (good_allowed from good)
         out in
         let rest = go s well (subst (λ (e : Outcome). Leads m e steps to) is leads.3) in
@@ -247,7 +245,7 @@ module _ (tables : TablesAreTuples) (keep : UpdatesKeepSymbols) (m : ModelTree) 
         begin (ended s) is =
             let out = subst (λ (e : Outcome). HasOutcome m.axioms m.init run.start e) is ok.init in
             let well = ends_well stage.Init m.init run.start s refl
-            (block-fits (symbols m.signature) m.init fits.blocks.init) init
+            fits.blocks.init init
             (record { structure = ok.structure; axioms_hold = ok.lawful }) ok.lawful out in
             let rest = goes_well s well run.steps ok.to
             (subst (λ (e : Outcome). Leads m e run.steps ok.to) is ok.leads) in

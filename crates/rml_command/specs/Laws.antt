@@ -32,7 +32,7 @@ use Rattle.rml_command.specs.Outcomes.{
 }
 use Rattle.base.specs.Lists.{SomeOf}
 use Rattle.rml_command.specs.Paths.{has_abort, EndsAtAbort, paths_of, havoc_count}
-use Rattle.rml_command.specs.Models.{ModelTree, FitsPrimitive, FitsPath, FitsSteps, FitsModel}
+use Rattle.rml_command.specs.Models.{ModelTree, FitsPrimitive, FitsPath, FitsModel}
 use Rattle.rml_command.specs.Fragment.{IsInFragment, IsChecked}
 use Rattle.rml_command.specs.Runs.{Safe}
 use Rattle.rml_command.specs.Goals.{HasAbout, groups_of, goals_of, goal_path, IsGoal, FalseUnder, Holds}
@@ -106,13 +106,10 @@ GoalsAreListed = (m : ModelTree) (goal : Goal) → SomeOf (λ g. g ≡ goal) (go
 abbrev pub GroupsAreKnown : Type 0
 GroupsAreKnown = (m : ModelTree) → AllByRecursion (λ h. HasAbout m h.stage h.about) (groups_of m)
 
--- The path of a goal has only symbols of the model's signature and no havoc of a relation, and that of a checked
--- model's goal is in the fragment.
+-- The path of a goal has only symbols of the model's signature, and that of a checked model's goal is in the fragment.
 pub record GoalPathsFit : Type 0 where
   pub symbols_fit : (m : ModelTree) (goal : Goal) (p : List PrimitiveTree)
       → FitsModel m → goal_path m goal ≡ Some p → FitsPath (symbols m.signature) p
-  pub steps_fit : (m : ModelTree) (goal : Goal) (p : List PrimitiveTree)
-      → FitsModel m → goal_path m goal ≡ Some p → FitsSteps (symbols m.signature) p
   pub in_fragment : (m : ModelTree) (goal : Goal) (p : List PrimitiveTree)
       → IsChecked m → goal_path m goal ≡ Some p → AllByRecursion IsInFragment p
 

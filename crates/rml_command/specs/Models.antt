@@ -57,7 +57,7 @@ FitsCommand sig c = EachPrimitive (FitsPrimitive sig) c
 abbrev pub FitsPath : Symbols → List PrimitiveTree → Type 0
 FitsPath sig p = AllByRecursion (FitsPrimitive sig) p
 
--- a primitive that fits and is no havoc of a relation
+-- A primitive that fits and is no havoc of a relation: a step of a path where each of these is written out.
 abbrev pub FitsStep : Symbols → PrimitiveTree → Type 0
 FitsStep sig (assume p) = FitsPrimitive sig (assume p)
 FitsStep sig (set_rel r by) = FitsPrimitive sig (set_rel r by)
@@ -69,15 +69,11 @@ FitsStep sig abort = FitsPrimitive sig abort
 abbrev pub FitsSteps : Symbols → List PrimitiveTree → Type 0
 FitsSteps sig p = AllByRecursion (FitsStep sig) p
 
-abbrev pub FitsBlock : Symbols → CommandTree → Type 0
-FitsBlock sig c = EachPrimitive (FitsStep sig) c
-
--- The sentences and blocks of a model have only symbols of its signature, with the right sorts. No text has a form for
--- the havoc of a relation, and so no block of a model has one.
+-- The sentences and blocks of a model have only symbols of its signature, with the right sorts.
 pub record FitsModel (m : ModelTree) : Type 0 where
   pub axioms : AllByRecursion (FitsForm (symbols m.signature) []) m.axioms
   pub conjectures : AllByRecursion (FitsForm (symbols m.signature) []) m.conjectures
-  pub blocks : EachBlock (FitsBlock (symbols m.signature)) m
+  pub blocks : EachBlock (FitsCommand (symbols m.signature)) m
 
 -- each thing has a name
 pub record IsNamed (m : ModelTree) : Type 0 where

@@ -5,7 +5,7 @@ ghost use Rattle.std.specs.List.{AllByRecursion};
 ghost use Rattle.fol_sig.specs.Symbols.{symbols};
 ghost use Rattle.fol_sig.specs.Strata.{IsStrata};
 ghost use Rattle.rml_command.specs.Paths.{paths_of};
-ghost use Rattle.rml_command.specs.Models.{EachBlock, FitsPath, FitsSteps};
+ghost use Rattle.rml_command.specs.Models.{EachBlock, FitsPath};
 ghost use Rattle.rml_command.specs.Fragment.{IsInFragment, IsInModelFragment, HasFewPaths, IsChecked};
 ghost use Rattle.rml_command.specs.Goals.{stage_paths, goal_path, IsGoal};
 
@@ -122,12 +122,11 @@ impl Checked {
         self.block_paths(stage)
     }
 
-    /// The path of a goal of this model. It has no havoc of a relation.
+    /// The path of a goal of this model.
     pub fn path(&self, goal: &Goal) -> Path<'_>
         requires { IsGoal self.now goal.now }
         ensures path { goal_path self.now goal.now ≡ Some result }
         ensures fits { FitsPath (symbols self.now.signature) result }
-        ensures steps { FitsSteps (symbols self.now.signature) result }
         ensures fragment { AllByRecursion IsInFragment result }
     {
         goal_law();

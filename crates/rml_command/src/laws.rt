@@ -67,8 +67,7 @@ pub fn value_law()
 {}
 
 /// The goals in the ordered list are the goals of the model, and its groups are of its blocks and conjectures. Paths of
-/// goals have only symbols of the signature and no havoc of a relation, and are in the fragment where the model is
-/// checked.
+/// goals have only symbols of the signature, and are in the fragment where the model is checked.
 pub fn goal_law()
     ensures groups { GroupsAreKnown }
     ensures listed { GoalsAreListed }

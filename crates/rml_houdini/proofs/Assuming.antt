@@ -2,7 +2,8 @@
 use Rattle.std.proofs.Common.{◌≡◌, ℕ, Bool, true, false, List, [], ◌∷◌, ◌++◌, map, refl, sym, ap, ◌∙◌, subst}
 use Rattle.std.specs.Prelude.{slice_index_or}
 use Rattle.std.proofs.lemmas.Bool.{and_parts}
-use Rattle.fol_sig.specs.Tables.{Declared, Tables}
+use Rattle.fol_sig.specs.Tables.{Declared, Tables, IsSignature}
+use Rattle.fol_sig.specs.Strata.{IsStrata}
 use Rattle.fol_sig.specs.Symbols.{Symbols, FitsStructure, symbols}
 use Rattle.fol_sig.specs.Constants.{reduct}
 use Rattle.fol_formula.specs.Syntax.{FormTree, top, negation}
@@ -20,8 +21,8 @@ use Rattle.rml_command.specs.declared.goal.Goal.{Goal}
 use Rattle.rml_command.specs.declared.goal.Stage.{Stage}
 use Rattle.rml_command.specs.declared.goal.Stage.TheVariants as stage
 use Rattle.rml_wp.specs.declared.premises.Premises.TheVariants.{Affected}
-use Rattle.rml_wp.specs.Preconditions.{conjectures_of, goal_precondition_by, parts_before, refuting_by}
-use Rattle.rml_wp.specs.Laws.{RefutingByIsExact, AffectedRefutingIsSame}
+use Rattle.rml_wp.specs.Preconditions.{answered, conjectures_of, goal_precondition_by, parts_before, refuting_by}
+use Rattle.rml_wp.specs.Answered.{IsAnswered, CounterexamplesAreCuts}
 use Rattle.rml_wp.specs.Added.{AreAdded, refuting_all_by, RefutingSentencesFit, NoPartsAreAdded}
 use Rattle.ea_decide.specs.GroundForm.{skolem_sentence}
 use Rattle.ea_decide.specs.Decisions.{HasNoModel}
@@ -79,7 +80,13 @@ part-whole false st axioms held p is = absurd (cc is)
 pub signature_of : (given : Declared) (lent m : ModelTree) → given ≡ lent.signature → lent ≡ m → given ≡ m.signature
 signature_of given lent m is same = is ∙ ap (λ (z : ModelTree). z.signature) same
 
--- so is what is answered of a sentence
+-- the order of a model's sorts is one for the signature over which a goal's sentences are
+pub strata_of : (m : ModelTree) (goal : Goal) → IsAnswered m goal → (given : Declared) → given ≡ answered m goal
+    → (order : List ℕ) → IsStrata (symbols m.signature) order → IsStrata (symbols given) order
+strata_of m goal is given same order h =
+    subst (λ (z : Declared). IsStrata (symbols z) order) (sym same) (is.strata order h)
+
+-- what is answered of a sentence
 pub same_answer : (limits : Ceilings) (given sig : Declared) (p : FormTree) (d e : Decided) → given ≡ sig → d ≡ e
     → IsDecidedSmall limits given p d → IsDecidedSmall limits sig p e
 same_answer limits given sig p d e s u h =
@@ -108,30 +115,30 @@ module _ (m : ModelTree) (goal : Goal) (a : Assumed) where
       (conjectures_of m a.held.items) ++ negation z ∷ [])) (is ∙ by)
 
   -- where no structure satisfies it, the goal has no counterexample where these conjectures hold
-  pub none_assumed : RefutingByIsExact → AffectedRefutingIsSame → FitsModel m → IsGoal m goal → (p : FormTree)
-      → p ≡ assumed_sentence m a goal → HasNoModel m.signature p → HasNoneBy m (conjectures_of m a.held.items) goal
-  none_assumed exact affected fits g p is none s havocs values counter =
+  pub none_assumed : CounterexamplesAreCuts → FitsModel m → IsSignature m.signature
+      → AreAdded m (conjectures_of m a.held.items) [] → IsGoal m goal → (p : FormTree) → p ≡ assumed_sentence m a goal
+      → HasNoModel (answered m goal) p → HasNoneBy m (conjectures_of m a.held.items) goal
+  none_assumed cuts fits ok added g p is none s havocs values counter =
       let held = conjectures_of m a.held.items in
-      let full = (exact m held goal s fits g counter.structure).1 (havocs, values, counter) in
-      let lean = affected m held goal s fits g counter.structure ∙ full in
-      none s counter.structure
-      (subst (λ (q : FormTree). is_true s q ≡ true) (sym is)
-      (part-true s a.lawful goal.stage m.axioms held (goal_precondition_by Affected m goal) lean))
+      let w = cuts Affected m held goal s havocs values fits ok added.universal_fit g counter in
+      none w.whole w.fits
+      (subst (λ (q : FormTree). is_true w.whole q ≡ true) (sym is)
+      (part-true w.whole a.lawful goal.stage m.axioms held (goal_precondition_by Affected m goal) w.holds))
 
-  module _ (fit : RefutingSentencesFit) (none : NoPartsAreAdded) (checked : IsChecked m) (g : IsGoal m goal)
-      (added : AreAdded m (conjectures_of m a.held.items) []) where
+  module _ (fit : RefutingSentencesFit) (none : NoPartsAreAdded) (checked : IsChecked m)
+      (ok : IsSignature m.signature) (g : IsGoal m goal) (added : AreAdded m (conjectures_of m a.held.items) []) where
     pub assumed_ea : IsEa (assumed_sentence m a goal)
     assumed_ea =
         let held = conjectures_of m a.held.items in
         part-ea a.lawful goal.stage m.axioms held (goal_precondition_by Affected m goal)
-        (subst IsEa (none Affected m held goal) (fit Affected m held [] goal checked g added).fragment)
+        (subst IsEa (none Affected m held goal) (fit Affected m held [] goal checked ok g added).fragment)
 
-    pub assumed_fits : FitsForm (symbols m.signature) [] (assumed_sentence m a goal)
+    pub assumed_fits : FitsForm (symbols (answered m goal)) [] (assumed_sentence m a goal)
     assumed_fits =
         let held = conjectures_of m a.held.items in
-        part-fits (symbols m.signature) a.lawful goal.stage m.axioms held (goal_precondition_by Affected m goal)
-        (subst (λ (q : FormTree). FitsForm (symbols m.signature) [] q) (none Affected m held goal)
-        (fit Affected m held [] goal checked g added).fits)
+        part-fits (symbols (answered m goal)) a.lawful goal.stage m.axioms held (goal_precondition_by Affected m goal)
+        (subst (λ (q : FormTree). FitsForm (symbols (answered m goal)) [] q) (none Affected m held goal)
+        (fit Affected m held [] goal checked ok g added).fits)
 
   -- with the axioms it is a refuting sentence of the goal
   pub is_whole : a.lawful ≡ true

@@ -13,7 +13,8 @@ use Rattle.rml_command.specs.declared.goal.Goal.{Goal}
 use Rattle.rml_command.specs.declared.goal.Stage.{Stage}
 use Rattle.rml_command.specs.declared.goal.Stage.TheVariants as stage
 use Rattle.rml_wp.specs.declared.premises.Premises.TheVariants.{All}
-use Rattle.rml_wp.specs.Preconditions.{conjectures_of, goal_precondition, goal_passes_limit, parts_before, refuting_of}
+use Rattle.rml_wp.specs.Preconditions.{answered, conjectures_of, goal_precondition, goal_passes_limit, parts_before}
+use Rattle.rml_wp.specs.Preconditions.{refuting_of}
 use Rattle.rml_wp.specs.Added.{IsRefutingSentence, NoPartsAreAdded}
 use Rattle.rml_report.specs.declared.cause.Cause.{Cause}
 use Rattle.rml_report.specs.declared.cause.Cause.TheVariants as cause
@@ -62,26 +63,26 @@ module _ (m : ModelTree) (goal : Goal) (held : List FormTree) (p : FormTree) (is
   pub in_fragment : IsRefutingSentence All m held [] goal → IsEa p
   in_fragment h = subst (λ (q : FormTree). IsEa q) (none All m held goal ∙ sym is) h.fragment
 
-  pub fits_given : (given : Declared) → given ≡ m.signature → IsRefutingSentence All m held [] goal
+  pub fits_given : (given : Declared) → given ≡ answered m goal → IsRefutingSentence All m held [] goal
       → FitsForm (symbols given) [] p
   fits_given given same h =
       subst (λ (z : Declared). FitsForm (symbols z) [] p) (sym same)
-      (subst (λ (q : FormTree). FitsForm (symbols m.signature) [] q) (none All m held goal ∙ sym is) h.fits)
+      (subst (λ (q : FormTree). FitsForm (symbols (answered m goal)) [] q) (none All m held goal ∙ sym is) h.fits)
 
-  measured-as : (limits : Ceilings) (given : Declared) (d e : Measured) → given ≡ m.signature → d ≡ e
-      → IsMeasured limits given p d → IsMeasured limits m.signature (refuting_of m held goal) e
+  measured-as : (limits : Ceilings) (given : Declared) (d e : Measured) → given ≡ answered m goal → d ≡ e
+      → IsMeasured limits given p d → IsMeasured limits (answered m goal) (refuting_of m held goal) e
   measured-as limits given d e same answer h =
-      subst (λ (q : FormTree). IsMeasured limits m.signature q e) is
-      (subst (λ (a : Measured). IsMeasured limits m.signature p a) answer
+      subst (λ (q : FormTree). IsMeasured limits (answered m goal) q e) is
+      (subst (λ (a : Measured). IsMeasured limits (answered m goal) p a) answer
       (subst (λ (z : Declared). IsMeasured limits z p d) same h))
 
-  pub within_by : (limits : Ceilings) (given : Declared) (d : Measured) (size : ℕ) → given ≡ m.signature
+  pub within_by : (limits : Ceilings) (given : Declared) (d : Measured) (size : ℕ) → given ≡ answered m goal
       → d ≡ Within size → IsMeasured limits given p d → SentencePassesBy limits m held goal None
   within_by limits given d size same answer h =
       (None, (measured-as limits given d (Within size) same answer h).0, refl)
 
   pub over_by : (limits : Ceilings) (given : Declared) (d : Measured) (over : Passed) (c : Cause)
-      → given ≡ m.signature → d ≡ Over over → c ≡ cause_of over → IsMeasured limits given p d
+      → given ≡ answered m goal → d ≡ Over over → c ≡ cause_of over → IsMeasured limits given p d
       → SentencePassesBy limits m held goal (Some c)
   over_by limits given d over c same answer named h =
       (Some over, measured-as limits given d (Over over) same answer h, ap (λ (x : Cause). Some x) named)
@@ -109,13 +110,13 @@ no-budget false true t g k e = absurd (cc e)
 no-budget false false t g k e = absurd (cc e)
 
 not-conflicts : (limits : Ceilings) (m : ModelTree) (held : List FormTree) (goal : Goal) (n : ℕ) (p : Option Passed)
-    → Passes limits m.signature (refuting_of m held goal) p → Some (cause.Conflicts n) ≡ first_cause p → ⊥
+    → Passes limits (answered m goal) (refuting_of m held goal) p → Some (cause.Conflicts n) ≡ first_cause p → ⊥
 not-conflicts limits m held goal n None h e = absurd (cc e)
 not-conflicts limits m held goal n (Some (passed.Terms t)) h e = absurd (cc e)
 not-conflicts limits m held goal n (Some (passed.GroundSize g)) h e = absurd (cc e)
 not-conflicts limits m held goal n (Some (passed.Conflicts k)) h e =
     no-budget (nat_lt limits.terms (sum h.counts))
-    (nat_lt limits.size (size_of m.signature h.counts (refuting_of m held goal))) _ _ k h.first
+    (nat_lt limits.size (size_of (answered m goal) h.counts (refuting_of m held goal))) _ _ k h.first
 
 by-size : (limits : Ceilings) (m : ModelTree) (held : List FormTree) (goal : Goal) (n : ℕ) (b : Bool)
     → MatchBool b (Some (cause.Conflicts n) ≡ Some cause.Formula)

@@ -9,7 +9,7 @@ use Rattle.rml_exec.specs.declared.trace.Counterexample.{Counterexample}
 use Rattle.rml_report.specs.declared.cause.Cause.{Cause}
 use Rattle.rml_report.specs.declared.cause.Cause.TheVariants as cause
 use Rattle.rml_wp.specs.declared.premises.Premises.TheVariants.{Affected}
-use Rattle.rml_wp.specs.Preconditions.{goal_passes_limit_by}
+use Rattle.rml_wp.specs.Preconditions.{answered, goal_passes_limit_by}
 use Rattle.ea_decide.specs.declared.decided.Passed.{Passed}
 use Rattle.ea_decide.specs.declared.decided.Passed.TheVariants as passed
 use Rattle.ea_decide.specs.Passing.{Ceilings, Passes}
@@ -41,8 +41,8 @@ module _ (limits : Ceilings) (m : ModelTree) (held : List ℕ) (goal : Goal) whe
   by_formula passes = subst (λ (b : Bool). BySize (Some cause.Formula) b) (sym passes) refl
 
   by_passed : (p : Passed) → goal_passes_limit_by Affected m goal ≡ false
-      → IsOver limits (lean_signature m.signature (affected_with m held goal))
-      (lean_sentence m.signature (affected_with m held goal)) p
+      → IsOver limits (lean_signature (answered m goal) (affected_with m held goal))
+      (lean_sentence (answered m goal) (affected_with m held goal)) p
       → IsLeanLeftOpen limits m held goal (cause_of p)
   by_passed (passed.Conflicts n) within h = (by_count None within h.0, h.1, h.2)
   by_passed (passed.Terms n) within h = by_count (Some (passed.Terms n)) within h
@@ -57,7 +57,8 @@ module _ (limits : Ceilings) (m : ModelTree) (goal : Goal) (a : Assumed) (lawful
   none_passed : AssumedPasses limits m goal a None → LeanPassesFirst limits m a.held.items goal None
   none_passed h =
       by_count limits m a.held.items goal None within
-      (moved (λ (p : FormTree). Passes limits (lean_signature m.signature p) (lean_sentence m.signature p) None) h)
+      (moved (λ (p : FormTree). Passes limits (lean_signature (answered m goal) p)
+      (lean_sentence (answered m goal) p) None) h)
 
   pub lean_holds : (t : Tried) → t ≡ tried.Holds → IsTried limits m goal a t
       → IsSettledBy Lean limits m a.held.items goal a settled.Holds
@@ -77,7 +78,8 @@ module _ (limits : Ceilings) (m : ModelTree) (goal : Goal) (a : Assumed) (lawful
       let k = subst (λ (x : Tried). IsTried limits m goal a x) is h in
       subst (λ (x : Cause). IsLeanLeftOpen limits m a.held.items goal x) (sym named)
       (by_passed limits m a.held.items goal p within
-      (moved (λ (q : FormTree). IsOver limits (lean_signature m.signature q) (lean_sentence m.signature q) p) k))
+      (moved (λ (q : FormTree). IsOver limits (lean_signature (answered m goal) q)
+      (lean_sentence (answered m goal) q) p) k))
 
   pub never_met : (t : Tried) (s : Tables) → t ≡ tried.Met s → IsTried limits m goal a t → ⊥
   never_met t s is h = cc (sym lawful ∙ (subst (λ (x : Tried). IsTried limits m goal a x) is h).0)

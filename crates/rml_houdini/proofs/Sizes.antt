@@ -21,7 +21,8 @@ use Rattle.rml_command.specs.Outcomes.{all_of}
 use Rattle.rml_command.specs.declared.goal.Goal.{Goal}
 use Rattle.rml_command.specs.declared.goal.Stage.{Stage}
 use Rattle.rml_command.specs.declared.goal.Stage.TheVariants as stage
-use Rattle.rml_wp.specs.Preconditions.{conjectures_of, goal_precondition, goal_passes_limit, parts_before, refuting_of}
+use Rattle.rml_wp.specs.Preconditions.{answered, conjectures_of, goal_precondition, goal_passes_limit, parts_before}
+use Rattle.rml_wp.specs.Preconditions.{refuting_of}
 use Rattle.rml_report.specs.declared.cause.Cause.TheVariants as cause
 use Rattle.ea_decide.specs.declared.decided.Passed.{Passed}
 use Rattle.ea_decide.specs.Passing.{Ceilings, Passes, passed_of}
@@ -156,18 +157,19 @@ module _ (kept : FragmentsAreKept) (limits : Ceilings) (m : ModelTree) (goal : G
     (many : AllByRecursion IsPlainUniversal (conjectures_of m ks))
     (few : AllByRecursion IsPlainUniversal (conjectures_of m (filter p ks))) where
   sentence-passes : (first : Option Passed)
-      → Passes limits m.signature (refuting_of m (conjectures_of m ks) goal) first
-      → first ≡ None → Passes limits m.signature (refuting_of m (conjectures_of m (filter p ks)) goal) None
+      → Passes limits (answered m goal) (refuting_of m (conjectures_of m ks) goal) first
+      → first ≡ None → Passes limits (answered m goal) (refuting_of m (conjectures_of m (filter p ks)) goal) None
   sentence-passes first h none =
       let last = negation (goal_precondition m goal) in
-      passes-fewer limits m.signature (refuting_of m (conjectures_of m ks) goal)
+      passes-fewer limits (answered m goal) (refuting_of m (conjectures_of m ks) goal)
       (refuting_of m (conjectures_of m (filter p ks)) goal)
       (same-sorts goal.stage (all_of m.axioms) last (conjectures_of m (filter p ks)) (conjectures_of m ks)
       (none-new-held kept (conjectures_of m ks) many
       ∙ sym (none-new-held kept (conjectures_of m (filter p ks)) few)))
       (λ counts. fewer-nodes counts goal.stage (all_of m.axioms) last (conjectures_of m (filter p ks))
       (conjectures_of m ks) (filtered-nodes counts m p ks))
-      (subst (λ (o : Option Passed). Passes limits m.signature (refuting_of m (conjectures_of m ks) goal) o) none h)
+      (subst (λ (o : Option Passed). Passes limits (answered m goal) (refuting_of m (conjectures_of m ks) goal) o)
+      none h)
 
   none-first : (first : Option Passed) → None ≡ first_cause first → first ≡ None
   none-first None e = refl

@@ -5,7 +5,7 @@ use Rattle.fol_formula.specs.Syntax.{FormTree}
 use Rattle.rml_command.specs.Models.{ModelTree}
 use Rattle.rml_command.specs.declared.goal.Goal.{Goal}
 use Rattle.rml_wp.specs.declared.premises.Premises.TheVariants.{Affected}
-use Rattle.rml_wp.specs.Preconditions.{conjectures_of, goal_passes_limit_by, refuting_by}
+use Rattle.rml_wp.specs.Preconditions.{answered, conjectures_of, goal_passes_limit_by, refuting_by}
 use Rattle.rml_report.specs.declared.cause.Cause.{Cause}
 use Rattle.rml_report.specs.declared.cause.Cause.TheVariants as cause
 use Rattle.ea_decide.specs.declared.decided.Passed.{Passed}
@@ -25,8 +25,8 @@ module _ (limits : Ceilings) (m : ModelTree) (held : List ℕ) (goal : Goal) whe
   -- its lean sentence passes this limit first, or none
   abbrev pub LeanPasses : Option Passed → Type 0
   LeanPasses p =
-      Passes limits (lean_signature m.signature (affected_with m held goal))
-      (lean_sentence m.signature (affected_with m held goal)) p
+      Passes limits (lean_signature (answered m goal) (affected_with m held goal))
+      (lean_sentence (answered m goal) (affected_with m held goal)) p
 
   -- The first limit that the goal passes by its lean counts, if it passes one: that of formulas, by the preconditions
   -- with the affected axioms as premises; or one that its lean sentence passes.
@@ -39,8 +39,8 @@ module _ (limits : Ceilings) (m : ModelTree) (held : List ℕ) (goal : Goal) whe
   abbrev pub IsLeanLeftOpen : Cause → Type 0
   IsLeanLeftOpen (cause.Conflicts n) =
       LeanPassesFirst None × (n ≡ limits.conflicts)
-      × SpendsBudget (lean_signature m.signature (affected_with m held goal))
-      (lean_sentence m.signature (affected_with m held goal)) n
+      × SpendsBudget (lean_signature (answered m goal) (affected_with m held goal))
+      (lean_sentence (answered m goal) (affected_with m held goal)) n
   IsLeanLeftOpen c = LeanPassesFirst (Some c)
 
 -- the same by either counts

@@ -10,7 +10,7 @@ use Rattle.rml_command.specs.Goals.{group_goals}
 use Rattle.rml_command.specs.declared.goal.Goal.{Goal}
 use Rattle.rml_command.specs.declared.goal.Stage.{Stage}
 use Rattle.rml_command.specs.declared.goal.Stage.TheVariants as stage
-use Rattle.rml_wp.specs.Preconditions.{conjectures_of}
+use Rattle.rml_wp.specs.Preconditions.{answered, conjectures_of}
 use Rattle.ea_decide.specs.declared.decided.Passed.{Passed}
 use Rattle.ea_decide.specs.Passing.{Ceilings, Passes}
 use Rattle.ea_decide.specs.Decisions.{IsOver}
@@ -43,8 +43,8 @@ Grows held old new = IsWithin old new × (IsWithin old held → IsWithin new hel
 -- the lean form of the sentence with this assumed passes this limit first, or none
 abbrev pub AssumedPasses : Ceilings → ModelTree → Goal → Assumed → Option Passed → Type 0
 AssumedPasses limits m goal a p =
-    Passes limits (lean_signature m.signature (assumed_sentence m a goal))
-    (lean_sentence m.signature (assumed_sentence m a goal)) p
+    Passes limits (lean_signature (answered m goal) (assumed_sentence m a goal))
+    (lean_sentence (answered m goal) (assumed_sentence m a goal)) p
 
 -- What a try with this assumed ends with: the goal holds; or this structure satisfies what is assumed, but for the
 -- axioms, which are not; or this is a counterexample where these conjectures hold; or a limit is passed.
@@ -55,8 +55,8 @@ IsTried limits m goal a (tried.Met s) = (a.lawful ≡ false) × FitsStructure (s
 IsTried limits m goal a (tried.Breaks shown) =
     AssumedPasses limits m goal a None × IsFailingBy limits m (conjectures_of m a.held.items) goal shown
 IsTried limits m goal a (tried.Over passed) =
-    IsOver limits (lean_signature m.signature (assumed_sentence m a goal))
-    (lean_sentence m.signature (assumed_sentence m a goal)) passed
+    IsOver limits (lean_signature (answered m goal) (assumed_sentence m a goal))
+    (lean_sentence (answered m goal) (assumed_sentence m a goal)) passed
 IsTried limits m goal a tried.ManyConstants = Unit {0}
 
 -- what a turn ends with: the goal holds by what is assumed, or fails where these are held

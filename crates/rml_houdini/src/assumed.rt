@@ -37,6 +37,7 @@ pub fn assumed_sentence(
     ensures { IfOk result (λ f. f ≡ assumed_sentence checked.now assumed.now goal.now) }
 {
     rml_wp::sentence_law();
+    rml_wp::answered_goal(checked, goal);
     fol_formula::indices();
     let model = checked.model();
     let mut parts = lawful_parts(alloc, model.axioms(), assumed.lawful)?;

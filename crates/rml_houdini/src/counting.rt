@@ -1,7 +1,7 @@
 // Which limit a goal passes by its size, told by its whole refuting sentence. That is counted where its parts stand.
 ghost use Rattle.std.specs.Prelude.{◌≡◌, ◌<◌, length, All, IfOk};
 ghost use Rattle.rml_command.specs.Goals.{IsGoal};
-ghost use Rattle.rml_wp.specs.Preconditions.{conjectures_of, goal_precondition};
+ghost use Rattle.rml_wp.specs.Preconditions.{answered as answered_of, conjectures_of, goal_precondition};
 ghost use Rattle.ground_size.specs.Conjoined.{forms_at};
 ghost use Rattle.ea_decide.specs.Passing.{ceilings};
 ghost use Rattle.obligation_decide.specs.GoalPassing.{PassesFirstBy, SentencePassesBy};
@@ -11,6 +11,7 @@ use crate::assumed::sentences_of;
 use base::{Mem, Refused};
 use ea_decide::{Measured, measure_parts};
 use fol_formula::{Ae, Sentence};
+use fol_sig::Signature;
 use ground_size::Part;
 use lrat_log::Limits;
 use obligation_decide::cause_of;
@@ -33,8 +34,9 @@ pub fn first_limit(
         (PassesFirstBy (ceilings limits.now) checked.now (conjectures_of checked.now held.now) goal.now) }
 {
     match precondition(alloc, checked, goal) {
-        Ok(precondition) => {
-            let limit = limit_of(alloc, checked, goal, &precondition, held, limits);
+        Ok((answered, precondition)) => {
+            let limit = limit_of(alloc, checked, goal, &answered, &precondition, held, limits);
+            drop(answered);
             drop(precondition);
             let limit = limit?;
             Ok(limit)
@@ -49,17 +51,20 @@ fn limit_of(
     alloc: Global,
     checked: &Checked,
     goal: &Goal,
+    answered: &Signature,
     precondition: &Ae,
     held: &[u32],
     limits: &Limits,
 ) -> Mem<Option<Cause>>
     requires goal { IsGoal checked.now goal.now }
+    requires answered { answered.now ≡ answered_of checked.now goal.now }
     requires precondition { precondition.now ≡ goal_precondition checked.now goal.now }
     requires held { All (λ k. k < length checked.now.conjectures) held.now }
     ensures { IfOk result
         (SentencePassesBy (ceilings limits.now) checked.now (conjectures_of checked.now held.now) goal.now) }
 {
     rml_wp::sentence_law();
+    rml_wp::answered_goal(checked, goal);
     let model = checked.model();
     let chosen = sentences_of(alloc, model.conjectures(), held)?;
     let axioms = model.axioms();
@@ -69,8 +74,7 @@ fn limit_of(
         before,
         Part::Not(precondition.sentence()),
     ];
-    let signature = model.signature();
-    match measure_parts(alloc, signature, checked.strata(), &parts, limits)? {
+    match measure_parts(alloc, answered, checked.strata(), &parts, limits)? {
         Measured::Within(_) => Ok(None),
         Measured::Over(passed) => Ok(Some(cause_of(passed))),
     }

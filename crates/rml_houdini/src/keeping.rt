@@ -7,7 +7,7 @@ ghost use Rattle.rml_command.specs.Goals.{IsGoal};
 ghost use Rattle.rml_command.specs.Outcomes.{satisfies};
 ghost use Rattle.rml_exec.specs.Steps.{CanJudge};
 ghost use Rattle.rml_wp.specs.declared.premises.Premises.TheVariants.{Affected};
-ghost use Rattle.rml_wp.specs.Preconditions.{conjectures_of, goal_precondition_by};
+ghost use Rattle.rml_wp.specs.Preconditions.{answered as answered_of, conjectures_of, goal_precondition_by};
 ghost use Rattle.ea_decide.specs.Passing.{ceilings};
 ghost use Rattle.obligation_decide.specs.GoalDecisions.{IsFailingBy};
 ghost use Rattle.rml_houdini.specs.Subsets.{Has, IsWithin};
@@ -18,7 +18,7 @@ use crate::trying::{Tried, try_with};
 use base::{Mem, Refused};
 use fol_eval::{Env, holds};
 use fol_formula::{Ae, Formula, Sentence};
-use fol_sig::Structure;
+use fol_sig::{Signature, Structure};
 use lrat_log::Limits;
 use rml_command::{Checked, Goal, Stage};
 use rml_exec::Counterexample;
@@ -55,8 +55,18 @@ pub fn keep(
     ensures turn { IfOk result (IsTurn (ceilings limits.now) checked.now held.now goal.now assumed.new) }
 {
     match precondition_by(alloc, checked, Premises::Affected, goal) {
-        Ok(precondition) => {
-            let turn = keep_from(alloc, checked, goal, &precondition, held, assumed, limits);
+        Ok((answered, precondition)) => {
+            let turn = keep_from(
+                alloc,
+                checked,
+                goal,
+                &answered,
+                &precondition,
+                held,
+                assumed,
+                limits,
+            );
+            drop(answered);
             drop(precondition);
             let turn = turn?;
             Ok(turn)
@@ -71,12 +81,14 @@ fn keep_from(
     alloc: Global,
     checked: &Checked,
     goal: &Goal,
+    answered: &Signature,
     precondition: &Ae,
     held: &[u32],
     assumed: &mut Assumed,
     limits: &Limits,
 ) -> Mem<Turn>
     requires goal { IsGoal checked.now goal.now }
+    requires answered { answered.now ≡ answered_of checked.now goal.now }
     requires precondition { precondition.now ≡ goal_precondition_by Affected checked.now goal.now }
     requires held { All (λ k. k < length checked.now.conjectures) held.now }
     requires within { IsWithin assumed.old.held.items held.now }
@@ -84,7 +96,16 @@ fn keep_from(
     ensures turn { IfOk result (IsTurn (ceilings limits.now) checked.now held.now goal.now assumed.new) }
 {
     for _ in 0..held.len() + 2 {
-        match take_turn(alloc, checked, goal, precondition, held, assumed, limits)? {
+        match take_turn(
+            alloc,
+            checked,
+            goal,
+            answered,
+            precondition,
+            held,
+            assumed,
+            limits,
+        )? {
             Turn::Again => {}
             last => return Ok(last),
         }
@@ -97,19 +118,29 @@ fn take_turn(
     alloc: Global,
     checked: &Checked,
     goal: &Goal,
+    answered: &Signature,
     precondition: &Ae,
     held: &[u32],
     assumed: &mut Assumed,
     limits: &Limits,
 ) -> Mem<Turn>
     requires goal { IsGoal checked.now goal.now }
+    requires answered { answered.now ≡ answered_of checked.now goal.now }
     requires precondition { precondition.now ≡ goal_precondition_by Affected checked.now goal.now }
     requires held { All (λ k. k < length checked.now.conjectures) held.now }
     requires within { IsWithin assumed.old.held.items held.now }
     ensures grows { OnOk result (Grows held.now assumed.old.held.items assumed.new.held.items) }
     ensures turn { IfOk result (IsTurn (ceilings limits.now) checked.now held.now goal.now assumed.new) }
 {
-    match try_with(alloc, checked, goal, precondition, assumed, limits)? {
+    match try_with(
+        alloc,
+        checked,
+        goal,
+        answered,
+        precondition,
+        assumed,
+        limits,
+    )? {
         Tried::Holds => Ok(Turn::Holds),
         Tried::Over(_) | Tried::ManyConstants => Ok(Turn::Open),
         Tried::Met(structure) => {

@@ -3,7 +3,8 @@
 ghost use Rattle.std.specs.Prelude.{◌≡◌, ◌<◌, true, false, length, None, All, IfOk, OnOk};
 ghost use Rattle.rml_command.specs.Goals.{IsGoal};
 ghost use Rattle.rml_wp.specs.declared.premises.Premises.TheVariants.{Affected};
-ghost use Rattle.rml_wp.specs.Preconditions.{conjectures_of, goal_precondition_by, goal_passes_limit_by};
+ghost use Rattle.rml_wp.specs.Preconditions.{answered as answered_of, conjectures_of, goal_precondition_by};
+ghost use Rattle.rml_wp.specs.Preconditions.{goal_passes_limit_by};
 ghost use Rattle.ea_decide.specs.Passing.{ceilings};
 ghost use Rattle.obligation_decide.specs.GoalPassing.{PassesFirstBy};
 ghost use Rattle.lean_decide.specs.declared.settling.Counted.TheVariants.{Whole, Lean};
@@ -16,6 +17,7 @@ use crate::keeping::{Turn, keep};
 use crate::trying::{Tried, try_with};
 use base::{Mem, Refused};
 use fol_formula::Ae;
+use fol_sig::Signature;
 use lean_decide::Counted;
 use lrat_log::Limits;
 use obligation_decide::{Decision, cause_of, decide_with};
@@ -172,8 +174,17 @@ fn settle_lean(
 {
     assume_all(assumed, held)?;
     match precondition_by(alloc, checked, Premises::Affected, goal) {
-        Ok(precondition) => {
-            let settled = settle_assumed(alloc, checked, goal, &precondition, assumed, limits);
+        Ok((answered, precondition)) => {
+            let settled = settle_assumed(
+                alloc,
+                checked,
+                goal,
+                &answered,
+                &precondition,
+                assumed,
+                limits,
+            );
+            drop(answered);
             drop(precondition);
             let settled = settled?;
             Ok(settled)
@@ -189,11 +200,13 @@ fn settle_assumed(
     alloc: Global,
     checked: &Checked,
     goal: &Goal,
+    answered: &Signature,
     precondition: &Ae,
     assumed: &Assumed,
     limits: &Limits,
 ) -> Mem<Settled>
     requires goal { IsGoal checked.now goal.now }
+    requires answered { answered.now ≡ answered_of checked.now goal.now }
     requires precondition { precondition.now ≡ goal_precondition_by Affected checked.now goal.now }
     requires within { goal_passes_limit_by Affected checked.now goal.now ≡ false }
     requires lawful { assumed.now.lawful ≡ true }
@@ -201,7 +214,15 @@ fn settle_assumed(
     ensures { IfOk result (IsSettledBy Lean (ceilings limits.now) checked.now assumed.now.held.items goal.now
         assumed.now) }
 {
-    match try_with(alloc, checked, goal, precondition, assumed, limits)? {
+    match try_with(
+        alloc,
+        checked,
+        goal,
+        answered,
+        precondition,
+        assumed,
+        limits,
+    )? {
         Tried::Holds => Ok(Settled::Holds),
         Tried::Breaks(shown) => Ok(Settled::Fails(shown)),
         Tried::Over(passed) => Ok(Settled::Undecided(cause_of(passed))),

@@ -2,7 +2,7 @@
 ghost use Rattle.std.specs.Prelude.{◌≡◌, ◌<◌, length, All, IfOk};
 ghost use Rattle.rml_command.specs.Goals.{IsGoal};
 ghost use Rattle.rml_wp.specs.declared.premises.Premises.TheVariants.{Affected};
-ghost use Rattle.rml_wp.specs.Preconditions.{goal_precondition_by};
+ghost use Rattle.rml_wp.specs.Preconditions.{answered as answered_of, goal_precondition_by};
 ghost use Rattle.ea_decide.specs.Passing.{ceilings};
 ghost use Rattle.pruned_decide.specs.Decisions.{IsDecidedSmall};
 ghost use Rattle.rml_houdini.specs.Assuming.{assumed_sentence};
@@ -12,7 +12,7 @@ use crate::assumed::{Assumed, assumed_sentence};
 use base::{Mem, Refused};
 use ea_decide::{Decided, Passed};
 use fol_formula::{Ae, Ea};
-use fol_sig::Structure;
+use fol_sig::{Signature, Structure};
 use lrat_log::Limits;
 use obligation_decide::read_counterexample;
 use rml_command::{Checked, Goal};
@@ -41,17 +41,19 @@ pub fn try_with(
     alloc: Global,
     checked: &Checked,
     goal: &Goal,
+    answered: &Signature,
     precondition: &Ae,
     assumed: &Assumed,
     limits: &Limits,
 ) -> Mem<Tried>
     requires goal { IsGoal checked.now goal.now }
+    requires answered { answered.now ≡ answered_of checked.now goal.now }
     requires precondition { precondition.now ≡ goal_precondition_by Affected checked.now goal.now }
     requires held { All (λ k. k < length checked.now.conjectures) assumed.now.held.items }
     ensures { IfOk result (IsTried (ceilings limits.now) checked.now goal.now assumed.now) }
 {
     let sentence = assumed_sentence(alloc, checked, goal, precondition, assumed)?;
-    let tried = try_sentence(alloc, checked, goal, assumed, &sentence, limits);
+    let tried = try_sentence(alloc, checked, goal, answered, assumed, &sentence, limits);
     drop(sentence);
     let tried = tried?;
     Ok(tried)
@@ -62,25 +64,29 @@ fn try_sentence(
     alloc: Global,
     checked: &Checked,
     goal: &Goal,
+    answered: &Signature,
     assumed: &Assumed,
     sentence: &Ea,
     limits: &Limits,
 ) -> Mem<Tried>
     requires goal { IsGoal checked.now goal.now }
+    requires answered { answered.now ≡ answered_of checked.now goal.now }
     requires sentence { sentence.now ≡ assumed_sentence checked.now assumed.now goal.now }
     ensures { IfOk result (IsTried (ceilings limits.now) checked.now goal.now assumed.now) }
 {
-    rml_wp::refuting_law();
-    rml_wp::premises_law();
+    rml_wp::answered_law();
+    rml_wp::answered_goal(checked, goal);
     rml_wp::sentence_law();
-    let signature = checked.model().signature();
-    match pruned_decide::decide(alloc, signature, checked.strata(), sentence, limits) {
+    let _checked = checked.model();
+    match pruned_decide::decide(alloc, answered, checked.strata(), sentence, limits) {
         Ok(Decided::Refuted(proof)) => {
             drop(proof);
             Ok(Tried::Holds)
         }
         Ok(Decided::Satisfied(model)) => {
-            let tried = shown_by(alloc, checked, goal, assumed, sentence, model, limits)?;
+            let tried = shown_by(
+                alloc, checked, goal, answered, assumed, sentence, model, limits,
+            )?;
             Ok(tried)
         }
         Err(Refused::NoMemory) => Err(AllocError),
@@ -94,26 +100,38 @@ fn shown_by(
     alloc: Global,
     checked: &Checked,
     goal: &Goal,
+    answered: &Signature,
     assumed: &Assumed,
     sentence: &Ea,
     model: Structure,
     limits: &Limits,
 ) -> Mem<Tried>
     requires goal { IsGoal checked.now goal.now }
+    requires answered { answered.now ≡ answered_of checked.now goal.now }
     requires sentence { sentence.now ≡ assumed_sentence checked.now assumed.now goal.now }
-    requires model { IsDecidedSmall (ceilings limits.now) checked.now.signature sentence.now (Decided.Satisfied model) }
+    requires model { IsDecidedSmall (ceilings limits.now) answered.now sentence.now (Decided.Satisfied model) }
     ensures { IfOk result (IsTried (ceilings limits.now) checked.now goal.now assumed.now) }
 {
     rml_wp::sentence_law();
+    rml_wp::answered_goal(checked, goal);
     skolem::exactness();
     fol_nnf::exactness();
     ea_decide::elements_law();
     let signature = checked.model().signature();
     if assumed.lawful {
-        let shown = read_counterexample(alloc, checked, Premises::Affected, goal, sentence, model)?;
+        let shown = read_counterexample(
+            alloc,
+            checked,
+            Premises::Affected,
+            goal,
+            answered,
+            sentence,
+            model,
+        )?;
         return Ok(Tried::Breaks(shown));
     }
     let mut structure = model;
+    structure.restrict(answered);
     structure.restrict(signature);
     Ok(Tried::Met(structure))
 }

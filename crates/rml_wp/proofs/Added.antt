@@ -1,5 +1,5 @@
 -- A refuting sentence is an exists-forall sentence of the model, also with further parts.
-use Rattle.std.proofs.Common.{◌≡◌, List, [], ◌∷◌, ◌++◌, Some, sym, ap, ◌∙◌}
+use Rattle.std.proofs.Common.{List, [], ◌∷◌, ◌++◌, ap}
 use Rattle.std.specs.List.{AllByRecursion}
 use Rattle.std.proofs.lemmas.List.{append-nil}
 use Rattle.fol_sig.specs.Symbols.{symbols}
@@ -8,16 +8,18 @@ use Rattle.fol_formula.specs.Fits.{FitsForm}
 use Rattle.fol_formula.specs.Fragments.{IsEa, IsAe, IsPlainUniversal}
 use Rattle.fol_formula.specs.Inclusions.{UniversalIsEa, UniversalIsAe}
 use Rattle.rml_command.specs.Outcomes.{all_of}
+use Rattle.base.proofs.Lists.{all_more}
 use Rattle.rml_command.specs.Goals.{goal_path}
 use Rattle.rml_command.specs.Laws.{GoalPathsFit}
 use Rattle.rml_command.specs.declared.goal.Stage.{Stage}
 use Rattle.rml_command.specs.declared.goal.Stage.TheVariants as stage
 use Rattle.rml_wp.specs.Preconditions.{refuting_parts_by, target_of, path_or_none, goal_precondition_by, parts_before}
-use Rattle.rml_wp.specs.Preconditions.{premises_of}
+use Rattle.rml_wp.specs.Preconditions.{premises_of, answered, written_path}
 use Rattle.rml_wp.specs.Laws.{PreconditionStaysInFragment}
 use Rattle.rml_wp.specs.Added.{refuting_all_by, RefutingSentencesFit, NoPartsAreAdded, ConjecturesAreAdded}
 use Rattle.rml_wp.proofs.StepTruth.{Replaces, all_fit, precondition-fits}
-use Rattle.rml_wp.proofs.Exactly.{target-fits, has_target}
+use Rattle.rml_wp.proofs.Exactly.{Follows, has_target}
+use Rattle.rml_wp.proofs.OverFresh.{is_path, path, grows, axioms-wide, target-wide, wide}
 use Rattle.rml_wp.proofs.Counterexamples.{target-ae}
 use Rattle.rml_wp.proofs.SomeAxioms.{each_of}
 use Rattle.rml_wp.proofs.Fragment.{all-ea}
@@ -31,6 +33,7 @@ each_part P stage.Final a i n more h g k rest = (h, (g, (k, rest)))
 
 -- what the crates below promise of refuting sentences
 pub record Refutes : Type 0 where
+  pub follows : Follows
   pub replaces : Replaces
   pub goals : GoalPathsFit
   pub stays : PreconditionStaysInFragment
@@ -38,23 +41,28 @@ pub record Refutes : Type 0 where
   pub universal_ae : UniversalIsAe
 
 pub sentences_fit : Refutes → RefutingSentencesFit
-sentences_fit laws premises m held more goal checked g added =
-    let sig = symbols m.signature in
-    let p = path_or_none (goal_path m goal) in
-    let is_path : goal_path m goal ≡ Some p = g.is_path ∙ ap (λ q. Some (path_or_none q)) (sym g.is_path) in
+sentences_fit laws premises m held more goal checked ok g added =
+    let small = symbols m.signature in
+    let sig = symbols (answered m goal) in
+    let q = path_or_none (goal_path m goal) in
+    let p = written_path m goal in
     let has = has_target m goal.stage goal.about g.about in
     let f = checked.model.fits in
     let target = target_of m goal.about in
-    let path = laws.goals.symbols_fit m goal p f is_path in
-    let t = target-fits m goal.about f has in
+    let there = path laws.follows m goal f ok g in
+    let written = laws.follows.written small sig q (grows laws.follows m goal f ok g) there in
+    let t = target-wide laws.follows m goal f ok g in
+    let axioms = axioms-wide laws.follows m goal f ok g in
+    let wider = wide laws.follows m goal f ok g in
     let pre = goal_precondition_by premises m goal in
     let behind = premises_of premises m.axioms in
-    let fit_behind = each_of (FitsForm sig []) premises m.axioms f.axioms in
+    let fit_behind = each_of (FitsForm sig []) premises m.axioms axioms in
     let ae : IsAe pre =
-    laws.stays sig behind target p fit_behind t path (each_of IsEa premises m.axioms checked.fragment.axioms)
+    laws.stays sig behind target p fit_behind t written.fits
+    (each_of IsEa premises m.axioms checked.fragment.axioms)
     (target-ae laws.universal_ae m goal.about checked.fragment.conjectures has)
-    (laws.goals.in_fragment m goal p checked is_path) in
-    let fit : FitsForm sig [] pre = precondition-fits laws.replaces sig behind target p fit_behind t path in
+    (written.fragment (laws.goals.in_fragment m goal q checked (is_path laws.follows m goal f ok g))) in
+    let fit : FitsForm sig [] pre = precondition-fits laws.replaces sig behind target p fit_behind t written.fits in
     let whole = refuting_all_by premises m held more goal in
     let ea : IsEa whole =
     all-ea _ (each_part IsEa goal.stage (all_of m.axioms) (all_of held) pre more
@@ -62,7 +70,9 @@ sentences_fit laws premises m held more goal checked g added =
     added.others) in
     let all : FitsForm sig [] whole =
     all_fit sig _ (each_part (FitsForm sig []) goal.stage (all_of m.axioms) (all_of held) pre more
-    (all_fit sig m.axioms f.axioms) (all_fit sig held added.universal_fit) fit added.others_fit) in
+    (all_fit sig m.axioms axioms)
+    (all_fit sig held (all_more (FitsForm small []) (FitsForm sig []) wider held added.universal_fit)) fit
+    (all_more (FitsForm small []) (FitsForm sig []) wider more added.others_fit)) in
     record { fragment = ea; fits = all }
 
 pub no_parts : NoPartsAreAdded

@@ -18,7 +18,8 @@ use Rattle.fol_subst.specs.Unchanged.{is_own_value, OwnValueChangesNothing}
 use Rattle.fol_subst.specs.declared.FormulaLimit.{FormulaLimit}
 use Rattle.rml_command.specs.Trees.{PrimitiveTree, havoc}
 use Rattle.rml_command.specs.Outcomes.{all_of}
-use Rattle.rml_command.specs.Models.{FitsPrimitive, FitsPath}
+use Rattle.rml_command.specs.Models.{FitsStep, FitsSteps}
+use Rattle.rml_wp.proofs.WithoutTables.{steps-fit}
 use Rattle.rml_wp.specs.Preconditions.{where_lawful, back_of, precondition_of, passes_limit}
 use Rattle.rml_wp.proofs.StepTruth.{Replaces, lawful-fits, precondition-fits, one_change}
 
@@ -32,7 +33,7 @@ module _ (conditions : ShortListsSuffice) (sig : Symbols) (given axioms : List F
   pub ready : (c : Change) → CanChange sig [] c → CanReplace w c
   ready c can = conditions sig [] w c within_fits can (omega arith)
 
-  pub ready_one : FitsUnderMore → (v : ℕ) → FitsPrimitive sig (havoc v) → CanReplace w (change_const v 0)
+  pub ready_one : FitsUnderMore → (v : ℕ) → FitsStep sig (havoc v) → CanReplace w (change_const v 0)
   ready_one under v f =
       conditions sig (sig.into_of v ∷ []) w (change_const v 0) (under sig w [] (sig.into_of v ∷ []) within_fits)
       (one_change sig v f) (omega arith)
@@ -101,14 +102,14 @@ module _ (sig : Symbols) (premises : PrimitiveTree → List FormTree) (target : 
       ap (passes_limit sig premises target) (h.split ∙ ap (λ z. z ++ h.behind) none) ∙ h.small
 
   module _ (path before rest : List PrimitiveTree) (q : PrimitiveTree) (now : FormTree) (step : before ≡ rest ++ q ∷ [])
-      (fits : FitsPath sig path) (h : IsBack path before now) where
+      (fits : FitsSteps sig path) (h : IsBack path before now) where
     whole : path ≡ rest ++ (q ∷ h.behind)
     whole = h.split ∙ ap (λ z. z ++ h.behind) step ∙ append_assoc rest (q ∷ []) h.behind
 
-    behind-fits : FitsPath sig (q ∷ h.behind)
-    behind-fits = all_back (FitsPrimitive sig) rest (q ∷ h.behind) (subst (FitsPath sig) whole fits)
+    behind-fits : FitsSteps sig (q ∷ h.behind)
+    behind-fits = all_back (FitsStep sig) rest (q ∷ h.behind) (subst (FitsSteps sig) whole fits)
 
-    pub one-fits : FitsPrimitive sig q
+    pub one-fits : FitsStep sig q
     one-fits = behind-fits.0
 
     pub formula-fits : Replaces → ((p : PrimitiveTree) → AllByRecursion (FitsForm sig []) (premises p))
@@ -116,7 +117,7 @@ module _ (sig : Symbols) (premises : PrimitiveTree → List FormTree) (target : 
         → FitsForm sig [] now
     formula-fits laws a t =
         subst (FitsForm sig []) (sym h.tree)
-        (precondition-fits laws sig premises target h.behind a t behind-fits.1)
+        (precondition-fits laws sig premises target h.behind a t (steps-fit sig h.behind behind-fits.1))
 
     pub stops_at : (e : Refused FormulaLimit)
         → Because (λ x. IsTrue (is_too_large (back_of sig (premises q) q now))) e → Because (Passes path) e

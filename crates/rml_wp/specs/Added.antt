@@ -1,6 +1,7 @@
 -- A refuting sentence with further parts behind its own, as a bound on sizes adds them.
 use Rattle.std.specs.Prelude.{◌≡◌, ℕ, List, [], ◌++◌}
 use Rattle.std.specs.List.{AllByRecursion}
+use Rattle.fol_sig.specs.Tables.{IsSignature}
 use Rattle.fol_sig.specs.Symbols.{symbols}
 use Rattle.fol_formula.specs.Syntax.{FormTree}
 use Rattle.fol_formula.specs.Fits.{FitsForm}
@@ -12,7 +13,7 @@ use Rattle.rml_command.specs.Goals.{IsGoal}
 use Rattle.rml_command.specs.declared.goal.Goal.{Goal}
 use Rattle.rml_wp.specs.declared.premises.Premises.{Premises}
 use Rattle.rml_wp.specs.declared.premises.Premises.TheVariants.{All}
-use Rattle.rml_wp.specs.Preconditions.{refuting_parts_by, refuting_by, conjectures_of}
+use Rattle.rml_wp.specs.Preconditions.{refuting_parts_by, refuting_by, conjectures_of, answered}
 
 -- what is asked of sentences that hold before a stage in place of the conjectures, and of further parts of a refuting
 -- sentence
@@ -30,15 +31,15 @@ refuting_all_by premises m held more goal = all_of (refuting_parts_by premises m
 abbrev pub refuting_all : ModelTree → List FormTree → List FormTree → Goal → FormTree
 refuting_all m held more goal = refuting_all_by All m held more goal
 
--- it is an exists-forall sentence of the model
+-- it is an exists-forall sentence over the answered signature
 pub record IsRefutingSentence (premises : Premises) (m : ModelTree) (held more : List FormTree)
     (goal : Goal) : Type 0 where
   pub fragment : IsEa (refuting_all_by premises m held more goal)
-  pub fits : FitsForm (symbols m.signature) [] (refuting_all_by premises m held more goal)
+  pub fits : FitsForm (symbols (answered m goal)) [] (refuting_all_by premises m held more goal)
 
 abbrev pub RefutingSentencesFit : Type 0
 RefutingSentencesFit = (premises : Premises) (m : ModelTree) (held more : List FormTree) (goal : Goal) → IsChecked m
-    → IsGoal m goal → AreAdded m held more → IsRefutingSentence premises m held more goal
+    → IsSignature m.signature → IsGoal m goal → AreAdded m held more → IsRefutingSentence premises m held more goal
 
 -- Without further parts it is the refuting sentence.
 abbrev pub NoPartsAreAdded : Type 0

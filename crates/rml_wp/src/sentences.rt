@@ -11,6 +11,12 @@ ghost use Rattle.rml_command.specs.Outcomes.{all_of as all_of_them};
 ghost use Rattle.rml_command.specs.Goals.{IsGoal};
 ghost use Rattle.rml_wp.specs.Preconditions.{goal_precondition, goal_passes_limit, conjectures_of, parts_before};
 ghost use Rattle.rml_wp.specs.Preconditions.{goal_precondition_by, goal_passes_limit_by, refuting_of, refuting_by};
+ghost use Rattle.rml_wp.specs.Preconditions.{answered};
+ghost use Rattle.fol_sig.specs.Symbols.{symbols};
+ghost use Rattle.rml_command.specs.Models.{FitsPath};
+ghost use Rattle.rml_command.specs.Fresh.{with_fresh};
+ghost use Rattle.rml_command.specs.View.{primitive as primitive_view};
+ghost use Rattle.rml_wp.specs.Written.{havoc_of};
 ghost use Rattle.rml_wp.specs.Held.{held_at};
 
 use crate::laws::fragment_law;
@@ -18,25 +24,28 @@ use crate::premises::{Premises, all_of};
 use crate::steps::along;
 use base::{Mem, Refused};
 use fol_formula::{Ae, Ea, Formula, Sentence};
+use fol_sig::{RelId, Signature, with_fresh_relations};
 use fol_subst::FormulaLimit;
-use rml_command::{Checked, Goal, Model, Stage};
-use std::alloc::Global;
+use rml_command::{Checked, Goal, Model, Path, Primitive, Stage};
+use std::alloc::{AllocError, Global};
 
-/// The precondition of a goal's path: true exactly where no outcome of the path aborts and, for a
-/// conjecture, each end satisfies it. It is refused where that of some rest of the path, the empty one
-/// too, has over 1,000,000 nodes or is over 1,000 deep.
+/// The precondition of a goal's path, over the answered signature: that of the model, with a fresh relation for
+/// each havoc of a relation on the path. It is true exactly where, under the tables of the fresh relations, no
+/// outcome of the path aborts and, for a conjecture, each end satisfies it. It is refused where that of some rest of
+/// the path, the empty one too, has over 1,000,000 nodes or is over 1,000 deep.
 pub fn precondition(
     alloc: Global,
     checked: &Checked,
     goal: &Goal,
-) -> Result<Ae, Refused<FormulaLimit>>
+) -> Result<(Signature, Ae), Refused<FormulaLimit>>
     requires { IsGoal checked.now goal.now }
-    ensures precondition { IfOk result (λ f. f ≡ goal_precondition checked.now goal.now) }
+    ensures signature { IfOk result (λ r. r.0 ≡ answered checked.now goal.now) }
+    ensures precondition { IfOk result (λ r. r.1 ≡ goal_precondition checked.now goal.now) }
     ensures within { OnOk result (goal_passes_limit checked.now goal.now ≡ false) }
     ensures limit { IfErr result (Because (λ _. IsTrue (goal_passes_limit checked.now goal.now))) }
 {
-    let f = precondition_by(alloc, checked, Premises::All, goal)?;
-    Ok(f)
+    let answered = precondition_by(alloc, checked, Premises::All, goal)?;
+    Ok(answered)
 }
 
 /// The same, where these axioms are premises behind a step. In structures that satisfy the axioms it is true where the
@@ -46,26 +55,36 @@ pub fn precondition_by(
     checked: &Checked,
     premises: Premises,
     goal: &Goal,
-) -> Result<Ae, Refused<FormulaLimit>>
+) -> Result<(Signature, Ae), Refused<FormulaLimit>>
     requires { IsGoal checked.now goal.now }
-    ensures precondition { IfOk result (λ f. f ≡ goal_precondition_by premises checked.now goal.now) }
+    ensures signature { IfOk result (λ r. r.0 ≡ answered checked.now goal.now) }
+    ensures precondition { IfOk result (λ r. r.1 ≡ goal_precondition_by premises checked.now goal.now) }
     ensures within { OnOk result (goal_passes_limit_by premises checked.now goal.now ≡ false) }
     ensures limit { IfErr result (Because (λ _. IsTrue (goal_passes_limit_by premises checked.now goal.now))) }
 {
     fol_formula::inclusion();
     fol_formula::indices();
     fol_subst::exactness();
+    fol_formula::growth();
     fragment_law();
+    rml_command::fresh_law();
     let model = checked.model();
+    let _ = model.signature().sorts();
     let path = checked.path(goal);
-    let counted = along(alloc, model, premises, goal.about, &path)?;
-    Ok(Ae::new(Sentence::of(counted.formula)))
+    let answered = answered_signature(alloc, model, &path)?;
+    let counted = along(alloc, model, premises, &answered, goal.about, &path)?;
+    Ok((answered, Ae::new(Sentence::of(counted.formula))))
 }
 
 /// The sentence that a structure satisfies exactly where the goal has a counterexample from it.
-pub fn refuting(alloc: Global, checked: &Checked, goal: &Goal) -> Result<Ea, Refused<FormulaLimit>>
+pub fn refuting(
+    alloc: Global,
+    checked: &Checked,
+    goal: &Goal,
+) -> Result<(Signature, Ea), Refused<FormulaLimit>>
     requires { IsGoal checked.now goal.now }
-    ensures sentence { IfOk result (λ f. f ≡ refuting_of checked.now checked.now.conjectures goal.now) }
+    ensures signature { IfOk result (λ r. r.0 ≡ answered checked.now goal.now) }
+    ensures sentence { IfOk result (λ r. r.1 ≡ refuting_of checked.now checked.now.conjectures goal.now) }
     ensures within { OnOk result (goal_passes_limit checked.now goal.now ≡ false) }
     ensures limit { IfErr result (Because (λ _. IsTrue (goal_passes_limit checked.now goal.now))) }
 {
@@ -79,19 +98,20 @@ pub fn refuting_by(
     checked: &Checked,
     premises: Premises,
     goal: &Goal,
-) -> Result<Ea, Refused<FormulaLimit>>
+) -> Result<(Signature, Ea), Refused<FormulaLimit>>
     requires { IsGoal checked.now goal.now }
-    ensures sentence { IfOk result (λ f. f ≡ refuting_by premises checked.now checked.now.conjectures goal.now) }
+    ensures signature { IfOk result (λ r. r.0 ≡ answered checked.now goal.now) }
+    ensures sentence { IfOk result (λ r. r.1 ≡ refuting_by premises checked.now checked.now.conjectures goal.now) }
     ensures within { OnOk result (goal_passes_limit_by premises checked.now goal.now ≡ false) }
     ensures limit { IfErr result (Because (λ _. IsTrue (goal_passes_limit_by premises checked.now goal.now))) }
 {
     fol_formula::indices();
     fol_formula::inclusion();
-    let precondition = precondition_by(alloc, checked, premises, goal)?;
+    let (answered, precondition) = precondition_by(alloc, checked, premises, goal)?;
     let model = checked.model();
     let held = held_before(alloc, model, goal.stage)?;
     let sentence = with_allowed(alloc, model, held, goal.stage, precondition)?;
-    Ok(sentence)
+    Ok((answered, sentence))
 }
 
 /// The same, where before the stage the conjectures of these numbers hold in place of all.
@@ -100,20 +120,49 @@ pub fn refuting_with(
     checked: &Checked,
     goal: &Goal,
     held: &[u32],
-) -> Result<Ea, Refused<FormulaLimit>>
+) -> Result<(Signature, Ea), Refused<FormulaLimit>>
     requires goal { IsGoal checked.now goal.now }
     requires held { All (λ k. k < length checked.now.conjectures) held.now }
-    ensures sentence { IfOk result (λ f. f ≡ refuting_of checked.now (conjectures_of checked.now held.now) goal.now) }
+    ensures signature { IfOk result (λ r. r.0 ≡ answered checked.now goal.now) }
+    ensures sentence { IfOk result (λ r. r.1 ≡ refuting_of checked.now (conjectures_of checked.now held.now) goal.now) }
     ensures within { OnOk result (goal_passes_limit checked.now goal.now ≡ false) }
     ensures limit { IfErr result (Because (λ _. IsTrue (goal_passes_limit checked.now goal.now))) }
 {
     fol_formula::indices();
     fol_formula::inclusion();
-    let precondition = precondition(alloc, checked, goal)?;
+    let (answered, precondition) = precondition(alloc, checked, goal)?;
     let model = checked.model();
     let held = chosen_before(alloc, model, held, goal.stage)?;
     let sentence = with_allowed(alloc, model, held, goal.stage, precondition)?;
-    Ok(sentence)
+    Ok((answered, sentence))
+}
+
+fn push_havocked(havocked: &mut Vec<RelId>, primitive: &Primitive) -> Mem<()>
+    ensures { OnOk result (map (λ r. r.0) havocked.new.items
+        ≡ map (λ r. r.0) havocked.old.items ++ havoc_of (primitive_view primitive.now)) }
+{
+    if let Primitive::HavocRel(rel) = primitive {
+        havocked.push(*rel)?;
+    }
+    Ok(())
+}
+
+// The model's signature, with a fresh relation for each havoc of a relation on the path.
+fn answered_signature(alloc: Global, model: &Model, path: &Path) -> Mem<Signature>
+    requires path { FitsPath (symbols model.now.signature) path.now }
+    ensures { IfOk result (λ s. s ≡ with_fresh model.now.signature path.now) }
+{
+    let mut havocked = Vec::new(alloc);
+    for primitive in path.primitives() {
+        push_havocked(&mut havocked, primitive)?;
+    }
+    let signature = model.signature();
+    // A path that havocs so many relations cannot be had.
+    if havocked.len() >= (u32::MAX - signature.relation_count()) as usize {
+        return Err(AllocError);
+    }
+    let answered = with_fresh_relations(alloc, signature, &havocked)?;
+    Ok(answered)
 }
 
 // What holds before a stage beside the axioms. Before init there is nothing, and nothing is copied.

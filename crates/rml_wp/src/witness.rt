@@ -1,5 +1,7 @@
 // A counterexample is read off the values of a sentence's existentials.
-ghost use Rattle.std.specs.Prelude.{◌≡◌, ◌<◌, ◌^◌, length, drop, true, IfOk};
+ghost use Rattle.std.specs.Prelude.{◌≡◌, ◌+◌, ◌<◌, ◌≤◌, ◌^◌, length, drop, true, IfOk};
+ghost use Rattle.rml_command.specs.Fresh.{havocs_under};
+ghost use Rattle.rml_wp.specs.Written.{relation_havocs};
 ghost use Rattle.fol_formula.specs.View.{form};
 ghost use Rattle.fol_formula.specs.Counts.{saturated};
 ghost use Rattle.rml_command.specs.View.{primitive as primitive_view};
@@ -7,19 +9,21 @@ ghost use Rattle.rml_command.specs.Goals.{IsGoal};
 ghost use Rattle.rml_wp.specs.Preconditions.{target_of};
 ghost use Rattle.rml_wp.specs.Witnesses.{witness_places_by, values_at};
 ghost use Rattle.rml_wp.specs.Consumed.{next_of, behind_of, counts_of, read_havocs, behind_path, read_values};
-ghost use Rattle.rml_wp.specs.Laws.{HasTarget};
+ghost use Rattle.fol_sig.specs.Symbols.{FitsStructure, symbols};
+ghost use Rattle.rml_wp.specs.Preconditions.{answered as answered_of};
+ghost use Rattle.rml_wp.specs.Laws.{HasTarget, goal_havocs};
 ghost use Rattle.rml_wp.specs.WitnessLaws.{GivesCounterexamples};
 
-use crate::laws::witness_law;
+use crate::laws::{answered_goal, witness_law};
 use crate::premises::Premises;
 use base::{Mem, Row};
 use fol_formula::{Formula, Sentence, existentials_of_all};
-use fol_sig::Symbol;
-use rml_command::{About, Checked, Goal, Model, Path, Primitive};
+use fol_sig::{RelId, Signature, Structure, Symbol};
+use rml_command::{About, Checked, Goal, Havoc, Model, Path, Primitive};
 use std::alloc::Global;
 
-/// The elements of a counterexample: one for each havoc of the path, none of which is of a relation, and one
-/// for each leading quantifier of the conjecture.
+/// The elements of a counterexample: one for each variable that the path havocs, and one for each leading
+/// quantifier of the conjecture.
 #[derive(Drop)]
 pub struct Witness {
     pub havoc: Row<u32>,
@@ -45,6 +49,7 @@ pub fn read_witness(
         (λ w. GivesCounterexamples premises checked.now goal.now witnesses.now w.havoc w.values) }
 {
     witness_law();
+    answered_goal(checked, goal);
     let path = checked.path(goal);
     let model = checked.model();
     let axioms = model.axioms();
@@ -56,6 +61,63 @@ pub fn read_witness(
         havoc: Row::from_vec(havoc),
         values: Row::from_vec(values),
     })
+}
+
+/// What following the path of a goal takes: these elements for the variables, and for the relations the tuples of which
+/// the fresh relations of a structure over the answered signature are true.
+pub fn goal_havocs(
+    alloc: Global,
+    checked: &Checked,
+    goal: &Goal,
+    answered: &Signature,
+    structure: &Structure,
+    elements: &[u32],
+) -> Mem<Vec<Havoc>>
+    requires goal { IsGoal checked.now goal.now }
+    requires answered { answered.now ≡ answered_of checked.now goal.now }
+    requires structure { FitsStructure (symbols answered.now) structure.now }
+    ensures { IfOk result (λ v. v.items ≡ goal_havocs checked.now goal.now structure.now elements.now) }
+{
+    let path = checked.path(goal);
+    let fresh = checked.model().signature().relation_count();
+    let _ = answered.sorts();
+    let havocs = havocs_with_tables(alloc, &path, structure, fresh, elements)?;
+    Ok(havocs)
+}
+
+// The fresh relations are numbered from `fresh` on.
+fn havocs_with_tables(
+    alloc: Global,
+    path: &Path,
+    structure: &Structure,
+    fresh: u32,
+    elements: &[u32],
+) -> Mem<Vec<Havoc>>
+    requires there { fresh + relation_havocs path.now ≤ length structure.now.relations }
+    requires few { length structure.now.relations < 2 ^ 32 }
+    ensures { IfOk result (λ v. v.items ≡ havocs_under structure.now fresh path.now elements.now) }
+{
+    let mut havocs = Vec::new(alloc);
+    let mut number = fresh;
+    let mut rest = elements;
+    for primitive in path.primitives() {
+        match primitive {
+            Primitive::Havoc(_) => {
+                let Some((element, after)) = rest.split_first() else {
+                    return Ok(havocs);
+                };
+                havocs.push(Havoc::Element(*element))?;
+                rest = after;
+            }
+            Primitive::HavocRel(_) => {
+                let tuples = structure.tuples_of(alloc, RelId(number))?;
+                havocs.push(Havoc::Tuples(Row::from_vec(tuples)))?;
+                number += 1;
+            }
+            _ => {}
+        }
+    }
+    Ok(havocs)
 }
 
 // As far as an abort, behind which nothing is done.

@@ -15,9 +15,10 @@ fn precondition_nodes(
 ) -> Result<u64, Refused<FormulaLimit>>
     requires { IsGoal checked.now goal.now }
 {
-    let precondition = precondition(alloc, checked, goal)?;
+    let (answered, precondition) = precondition(alloc, checked, goal)?;
     let nodes = precondition.sentence().nodes();
     drop(precondition);
+    drop(answered);
     Ok(nodes)
 }
 
@@ -25,16 +26,14 @@ fn refuting_of(alloc: Global, checked: &Checked, goal: &Goal) -> Mem<String>
     requires { IsGoal checked.now goal.now }
 {
     rml_wp::sentence_law();
+    rml_wp::answered_goal(checked, goal);
+    let _checked = checked.model();
     match refuting(alloc, checked, goal) {
-        Ok(sentence) => {
+        Ok((answered, sentence)) => {
             let nodes = sentence.sentence().nodes();
-            let ground = ground_of(
-                alloc,
-                checked.model().signature(),
-                checked.strata(),
-                &sentence,
-            );
+            let ground = ground_of(alloc, &answered, checked.strata(), &sentence);
             drop(sentence);
+            drop(answered);
             let ground = ground?;
             let ground = ground.as_str();
             format!(in alloc; "refuting {nodes} nodes, {ground}")

@@ -17,9 +17,10 @@ pub returns-in_ok-decision-in-Ok : goal.returns-in_ok-decision-in-Ok
 returns-in_ok-decision-in-Ok c =
     let m = c.args.checked.now in
     let checked = c.model-checked.ensures.checked in
-    let exact : AreExact = record { all = c.refuting_law.ensures.all; same = c.refuting_law.ensures.same } in
+    let exact : AreExact = record { cuts = c.answered_law.ensures.cuts; same = c.refuting_law.ensures.same } in
     let added = (c.sentence_law.ensures.conjectures m c.args.more.now checked c.requires.fragment c.requires.fits).all
     in
     restricted_by (ceilings c.args.limits.now) m c.args.goal.now c.args.more.now
-    c.in-Ok.ensures.within exact checked.model.fits c.requires.goal added
+    c.in-Ok.ensures.within exact checked.model.fits c.answered_goal.ensures.signature c.answered_goal.ensures.answered
+    c.requires.goal added
     _ _ c.in-Ok.ensures.sentence c.in_ok-decision-in-Ok.ensures

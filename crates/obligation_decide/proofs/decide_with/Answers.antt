@@ -22,6 +22,6 @@ returns-in_ok-decision-in-Ok c =
     let checked = c.model-checked.ensures.checked in
     let added = (c.sentence_law.ensures.conjectures m [] checked tt tt).some c.args.held.now in
     held_by (ceilings c.args.limits.now) m c.args.goal.now (conjectures_of m c.args.held.now)
-    c.in-Ok.ensures.within c.refuting_law.ensures.by c.sentence_law.ensures.alone checked.model.fits c.requires.goal
-    added
+    c.in-Ok.ensures.within c.answered_law.ensures.cuts c.sentence_law.ensures.alone checked.model.fits
+    c.answered_goal.ensures.signature c.requires.goal added
     _ _ c.in-Ok.ensures.sentence c.in_ok-decision-in-Ok.ensures

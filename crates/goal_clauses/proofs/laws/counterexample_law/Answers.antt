@@ -3,15 +3,18 @@ use Rattle.fol_sig.specs.Symbols.{symbols}
 use Rattle.fol_formula.specs.Fits.{FitsForm}
 use Rattle.fol_formula.specs.Fragments.{IsEa}
 use Rattle.rml_wp.specs.declared.premises.Premises.TheVariants.{All}
+use Rattle.rml_wp.specs.Preconditions.{answered}
 use Rattle.obligation_decide.specs.GoalPassing.{refuting_sentence}
 use Rattle.goal_clauses.proofs.laws.counterexample_law.Goals as goal
 
 pub returns : goal.returns
-returns c = λ m goal order f checked sorted strata is_goal form none s havocs values shown.
+returns c = λ m goal order f checked ok sorted strata is_goal form none s havocs values shown.
     let added = (c.sentence_law.ensures.conjectures m [] checked tt tt).all in
-    let sentence = c.sentence_law.ensures.fit All m m.conjectures [] goal checked is_goal added in
+    let sentence = c.sentence_law.ensures.fit All m m.conjectures [] goal checked ok is_goal added in
     let alone = c.sentence_law.ensures.alone All m m.conjectures goal in
-    c.clauses_law.ensures.refutes m.signature (refuting_sentence m goal) order f sorted strata
-    (subst IsEa alone sentence.fragment) (subst (FitsForm (symbols m.signature) []) alone sentence.fits) form none s
-    shown.structure
-    ((c.refuting_law.ensures.all m goal s checked.model.fits is_goal shown.structure).1 (havocs, values, shown))
+    let is = c.answered_law.ensures.answered m goal checked.model.fits ok is_goal in
+    let w = c.answered_law.ensures.cuts All m m.conjectures goal s havocs values checked.model.fits ok
+    checked.model.fits.conjectures is_goal ((c.refuting_law.ensures.same m goal s havocs values).1 shown) in
+    c.clauses_law.ensures.refutes (answered m goal) (refuting_sentence m goal) order f (is.sorted sorted)
+    (is.strata order strata) (subst IsEa alone sentence.fragment)
+    (subst (FitsForm (symbols (answered m goal)) []) alone sentence.fits) form none w.whole w.fits w.holds

@@ -5,6 +5,7 @@ use Rattle.fol_formula.specs.View.{form}
 use Rattle.fol_formula.specs.Fits.{BoundForm}
 use Rattle.fol_formula.specs.Fragments.{IsEa}
 use Rattle.rml_wp.specs.declared.premises.Premises.TheVariants.{Affected}
+use Rattle.rml_wp.specs.Preconditions.{answered}
 use Rattle.rml_wp.specs.Added.{refuting_all_by}
 use Rattle.obligation_decide.specs.Restricted.{with_parts}
 use Rattle.lean_decide.proofs.seeking.restricted.Goals as goal
@@ -16,14 +17,15 @@ of-requires c =
     let more = c.args.more.now in
     let checked = c.model-checked.ensures.checked in
     let added = (c.sentence_law.ensures.conjectures m more checked c.requires.fragment c.requires.fits).all in
-    let fit = (c.sentence_law.ensures.fit Affected m m.conjectures more g checked c.requires.goal added).fits in
+    let fit = (c.sentence_law.ensures.fit Affected m m.conjectures more g checked
+    c.answered_goal.ensures.signature c.requires.goal added).fits in
     let before = c.into_formula-formula.ensures.value ∙ c.into_sentence.ensures.value ∙ c.in_ok-copied.ensures
     ∙ c.requires.affected in
     let is : form c.in_ok-all.all ≡ refuting_all_by Affected m m.conjectures more g =
     c.in_ok-all.ensures ∙ ap (λ (q : FormTree). with_parts q more) before
     ∙ c.parts_law.ensures.added Affected m more g in
     subst (BoundForm 0) (sym is)
-    (c.indices.ensures.bound (symbols m.signature) [] (refuting_all_by Affected m m.conjectures more g) fit)
+    (c.indices.ensures.bound (symbols (answered m g)) [] (refuting_all_by Affected m m.conjectures more g) fit)
 
 pub new-requires : goal.new-requires
 new-requires c =
@@ -33,7 +35,8 @@ new-requires c =
     let checked = c.model-checked.ensures.checked in
     let added = (c.sentence_law.ensures.conjectures m more checked c.requires.fragment c.requires.fits).all in
     let fragment =
-    (c.sentence_law.ensures.fit Affected m m.conjectures more g checked c.requires.goal added).fragment in
+    (c.sentence_law.ensures.fit Affected m m.conjectures more g checked
+    c.answered_goal.ensures.signature c.requires.goal added).fragment in
     let before = c.into_formula-formula.ensures.value ∙ c.into_sentence.ensures.value ∙ c.in_ok-copied.ensures
     ∙ c.requires.affected in
     let is : c.of.result ≡ refuting_all_by Affected m m.conjectures more g =

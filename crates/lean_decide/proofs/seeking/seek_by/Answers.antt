@@ -19,13 +19,13 @@ returns-in-Ok-Holds c =
     let more = c.args.more.now in
     let checked = c.model-checked.ensures.checked in
     let exact : AreExact = record {
-      all = c.refuting_law.ensures.all;
+      cuts = c.answered_law.ensures.cuts;
       same = c.refuting_law.ensures.same;
-      affected = c.premises_law.ensures.refuting;
       parts = c.parts_law.ensures.truth;
     } in
     let added = (c.sentence_law.ensures.conjectures m more checked c.requires.fragment c.requires.fits).all in
-    nowhere_by exact (ceilings c.args.limits.now) m c.args.goal.now checked.model.fits c.requires.goal more added _
+    nowhere_by exact (ceilings c.args.limits.now) m c.args.goal.now checked.model.fits
+    c.answered_goal.ensures.signature c.answered_goal.ensures.answered c.requires.goal more added _
     c.in_ok-sentence.ensures _ _ c.in-Ok-Holds.field-0-is c.in-Ok-Holds.ensures.decided
 
 pub returns-in-Ok-Fails : goal.returns-in-Ok-Fails
@@ -34,11 +34,11 @@ returns-in-Ok-Fails c =
     let more = c.args.more.now in
     let checked = c.model-checked.ensures.checked in
     let exact : AreExact = record {
-      all = c.refuting_law.ensures.all;
+      cuts = c.answered_law.ensures.cuts;
       same = c.refuting_law.ensures.same;
-      affected = c.premises_law.ensures.refuting;
       parts = c.parts_law.ensures.truth;
     } in
     let added = (c.sentence_law.ensures.conjectures m more checked c.requires.fragment c.requires.fits).all in
-    found_by exact (ceilings c.args.limits.now) m c.args.goal.now checked.model.fits c.requires.goal more added _
+    found_by exact (ceilings c.args.limits.now) m c.args.goal.now checked.model.fits
+    c.answered_goal.ensures.signature c.answered_goal.ensures.answered c.requires.goal more added _
     c.in_ok-sentence.ensures _ _ c.in-Ok-Fails.field-0-is c.in-Ok-Fails.ensures.decided

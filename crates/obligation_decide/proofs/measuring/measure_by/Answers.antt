@@ -1,9 +1,16 @@
-use Rattle.std.proofs.Common.{refl}
+use Rattle.std.proofs.Common.{refl, subst}
+use Rattle.fol_sig.specs.Tables.{Declared}
+use Rattle.rml_wp.specs.Added.{refuting_all}
 use Rattle.ea_decide.specs.Passing.{ceilings}
+use Rattle.obligation_decide.specs.Costs.{IsSentenceMeasured}
 use Rattle.obligation_decide.proofs.Restricting.{measured_by}
 use Rattle.obligation_decide.proofs.measuring.measure_by.Goals as goal
 
 pub returns : goal.returns
 returns c =
-    measured_by (ceilings c.args.limits.now) c.args.checked.now c.args.goal.now c.args.more.now c.requires.within _ _
-    refl c.in_ok-measured.ensures
+    let m = c.args.checked.now in
+    let limits = ceilings c.args.limits.now in
+    let more = c.args.more.now in
+    measured_by limits m c.args.goal.now more c.requires.within _ _ refl
+    (subst (λ (d : Declared). IsSentenceMeasured limits d (refuting_all m m.conjectures more c.args.goal.now)
+    c.in_ok-measured.measured) c.requires.answered c.in_ok-measured.ensures)

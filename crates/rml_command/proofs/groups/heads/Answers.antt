@@ -1,4 +1,4 @@
-use Rattle.std.proofs.Common.{◌++◌, [], ◌∷◌, ℕ, List, append_assoc}
+use Rattle.std.proofs.Common.{◌++◌, [], ◌∷◌, List, append_assoc}
 use Rattle.std.specs.List.{flat_map}
 use Rattle.rml_command.specs.Goals.{stage_groups, groups_of}
 use Rattle.rml_command.specs.declared.goal.Head.{Head}

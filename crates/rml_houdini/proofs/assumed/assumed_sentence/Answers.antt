@@ -3,6 +3,7 @@ use Rattle.fol_sig.specs.Symbols.{symbols}
 use Rattle.fol_formula.specs.View.{form}
 use Rattle.fol_formula.specs.Fits.{BoundForm}
 use Rattle.fol_formula.specs.Fragments.{IsEa}
+use Rattle.rml_wp.specs.Preconditions.{answered}
 use Rattle.rml_houdini.specs.Assuming.{assumed_sentence}
 use Rattle.rml_houdini.proofs.Assuming.{assembled, assumed_ea, assumed_fits}
 use Rattle.rml_houdini.proofs.assumed.assumed_sentence.Goals as goal
@@ -19,8 +20,9 @@ of-requires c =
     let checked = c.model-model.ensures.checked in
     let added = (c.sentence_law.ensures.conjectures m [] checked tt tt).some a.held.items in
     subst (BoundForm 0) (sym is)
-    (c.indices.ensures.bound (symbols m.signature) [] (assumed_sentence m a g)
-    (assumed_fits m g a c.sentence_law.ensures.fit c.sentence_law.ensures.alone checked c.requires.goal added))
+    (c.indices.ensures.bound (symbols (answered m g)) [] (assumed_sentence m a g)
+    (assumed_fits m g a c.sentence_law.ensures.fit c.sentence_law.ensures.alone checked
+    c.answered_goal.ensures.signature c.requires.goal added))
 
 pub new-requires : goal.new-requires
 new-requires c =
@@ -34,7 +36,8 @@ new-requires c =
     let checked = c.model-model.ensures.checked in
     let added = (c.sentence_law.ensures.conjectures m [] checked tt tt).some a.held.items in
     subst IsEa (sym (c.of.ensures ∙ is))
-    (assumed_ea m g a c.sentence_law.ensures.fit c.sentence_law.ensures.alone checked c.requires.goal added)
+    (assumed_ea m g a c.sentence_law.ensures.fit c.sentence_law.ensures.alone checked
+    c.answered_goal.ensures.signature c.requires.goal added)
 
 pub returns : goal.returns
 returns c =

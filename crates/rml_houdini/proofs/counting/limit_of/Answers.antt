@@ -2,9 +2,14 @@ use Rattle.std.proofs.Common.{[], ◌∙◌}
 use Rattle.rml_wp.specs.declared.premises.Premises.TheVariants.{All}
 use Rattle.rml_wp.specs.Preconditions.{conjectures_of}
 use Rattle.ea_decide.specs.Passing.{ceilings}
-use Rattle.rml_houdini.proofs.Assuming.{signature_of}
+use Rattle.rml_houdini.proofs.Assuming.{strata_of}
 use Rattle.rml_houdini.proofs.Counted.{lent, in_fragment, fits_given, within_by, over_by}
 use Rattle.rml_houdini.proofs.counting.limit_of.Goals as goal
+
+pub measure_parts-requires-clause-strata : goal.measure_parts-requires-clause-strata
+measure_parts-requires-clause-strata c =
+    strata_of c.args.checked.now c.args.goal.now c.answered_goal.ensures.answered c.args.answered.now
+    c.requires.answered c.strata.result.now c.strata.ensures
 
 pub measure_parts-requires-clause-fragment : goal.measure_parts-requires-clause-fragment
 measure_parts-requires-clause-fragment c =
@@ -17,7 +22,8 @@ measure_parts-requires-clause-fragment c =
     c.conjectures.ensures.value (c.deref.ensures.value ∙ c.in_ok-chosen.ensures) c.held_before-before.ensures
     c.sentence.ensures.value c.requires.precondition in
     in_fragment m g (conjectures_of m ks) _ is law.alone
-    (law.fit All m (conjectures_of m ks) [] g checked c.requires.goal ((law.conjectures m [] checked tt tt).some ks))
+    (law.fit All m (conjectures_of m ks) [] g checked c.answered_goal.ensures.signature c.requires.goal
+    ((law.conjectures m [] checked tt tt).some ks))
 
 pub measure_parts-requires-clause-fits : goal.measure_parts-requires-clause-fits
 measure_parts-requires-clause-fits c =
@@ -29,9 +35,9 @@ measure_parts-requires-clause-fits c =
     let is = lent m _ g ks _ _ _ _ _ _ c.model-model.ensures.value c.axioms-axioms.ensures.value
     c.conjectures.ensures.value (c.deref.ensures.value ∙ c.in_ok-chosen.ensures) c.held_before-before.ensures
     c.sentence.ensures.value c.requires.precondition in
-    fits_given m g (conjectures_of m ks) _ is law.alone c.signature-signature.result.now
-    (signature_of _ _ m c.signature-signature.ensures.value c.model-model.ensures.value)
-    (law.fit All m (conjectures_of m ks) [] g checked c.requires.goal ((law.conjectures m [] checked tt tt).some ks))
+    fits_given m g (conjectures_of m ks) _ is law.alone c.args.answered.now c.requires.answered
+    (law.fit All m (conjectures_of m ks) [] g checked c.answered_goal.ensures.signature c.requires.goal
+    ((law.conjectures m [] checked tt tt).some ks))
 
 pub returns-in-Within : goal.returns-in-Within
 returns-in-Within c =
@@ -42,8 +48,7 @@ returns-in-Within c =
     c.conjectures.ensures.value (c.deref.ensures.value ∙ c.in_ok-chosen.ensures) c.held_before-before.ensures
     c.sentence.ensures.value c.requires.precondition in
     within_by m g (conjectures_of m ks) _ is c.sentence_law.ensures.alone (ceilings c.args.limits.now)
-    c.signature-signature.result.now _ _
-    (signature_of _ _ m c.signature-signature.ensures.value c.model-model.ensures.value) c.in-Within.is
+    c.args.answered.now _ _ c.requires.answered c.in-Within.is
     c.in_ok-measure_parts.ensures
 
 pub returns : goal.returns
@@ -55,6 +60,5 @@ returns c =
     c.conjectures.ensures.value (c.deref.ensures.value ∙ c.in_ok-chosen.ensures) c.held_before-before.ensures
     c.sentence.ensures.value c.requires.precondition in
     over_by m g (conjectures_of m ks) _ is c.sentence_law.ensures.alone (ceilings c.args.limits.now)
-    c.signature-signature.result.now _ _ _
-    (signature_of _ _ m c.signature-signature.ensures.value c.model-model.ensures.value) c.in-Over.is
+    c.args.answered.now _ _ _ c.requires.answered c.in-Over.is
     c.cause_of.ensures c.in_ok-measure_parts.ensures

@@ -1,4 +1,4 @@
-use Rattle.rml_wp.proofs.Exactly.{lean_same}
+use Rattle.rml_wp.proofs.OverFresh.{lean_same}
 use Rattle.rml_wp.proofs.Affected.{affected_suffice}
 use Rattle.rml_wp.proofs.laws.premises_law.Goals as goal
 
@@ -33,6 +33,14 @@ returns-clause-refuting c =
       kind = c.path_law.ensures.kind;
       values = c.value_law.ensures;
       goals = c.goal_law.ensures.fit;
+      stops = c.path_law.ensures.last;
+      taken = c.path_law.ensures.elements;
+      reduces = c.growth_laws.ensures.reduce;
+      own = c.growth.ensures.truth;
+      fitting = c.growth.ensures.fitting;
+      fresh = c.fresh_law.ensures.followed;
+      written = c.fresh_law.ensures.written;
+      grow = c.fresh_law.ensures.signatures;
     })
     (record {
       reads = c.occurring.ensures.truth;

@@ -39,11 +39,11 @@ returns-clause-sentence c =
     let st = c.args.goal.now.stage in
     let is = c.in_ok-held.ensures ∙ ap (λ (z : ModelTree). held_at st (all_of z.conjectures))
     c.model-model.ensures.value in
-    let pre = c.in_ok-precondition.precondition in
+    let pre = c.in_ok-answered.precondition in
     c.in_ok-sentence.ensures
     ∙ ap (λ (z : ModelTree). all_of (parts_before st (all_of z.axioms) (form c.in_ok-held.held) ++ negation pre ∷ []))
     c.model-model.ensures.value
     ∙ ap (λ (h : FormTree). all_of (parts_before st (all_of m.axioms) h ++ negation pre ∷ [])) is
     ∙ ap (λ ps. all_of (ps ++ negation pre ∷ [])) (same-parts st (all_of m.axioms) (all_of m.conjectures))
     ∙ ap (λ (p : FormTree). all_of (parts_before st (all_of m.axioms) (all_of m.conjectures) ++ negation p ∷ []))
-    c.in_ok-precondition.ensures.precondition
+    c.in_ok-answered.ensures.precondition

@@ -1,4 +1,7 @@
 use Rattle.lean_decide.proofs.prepared.Prepared.seek.Goals as goal
 
+pub seek_by-requires-clause-answered : goal.seek_by-requires-clause-answered
+seek_by-requires-clause-answered c = (rw c.in-Some.is at c.requires.prepared.affected).0
+
 pub seek_by-requires-clause-affected : goal.seek_by-requires-clause-affected
-seek_by-requires-clause-affected c = rw c.in-Some.is at c.requires.prepared.affected
+seek_by-requires-clause-affected c = (rw c.in-Some.is at c.requires.prepared.affected).1
