@@ -1,4 +1,4 @@
--- Each structure of a run that is shown has the model's symbols.
+-- Each structure of a run that is shown has the model's symbols, and each part takes a path of the model.
 use Rattle.std.proofs.Common.{◌≡◌, inl, inr, ℕ, zero, suc, List, [], ◌∷◌, Option, Some, None, refl, sym, subst}
 use Rattle.std.specs.Prelude.{MatchOption, slice_get}
 use Rattle.std.specs.List.{AllByRecursion}
@@ -20,7 +20,7 @@ use Rattle.rml_bmc.specs.declared.answer.Run.{Run}
 use Rattle.rml_bmc.specs.declared.answer.Bounded.{Bounded}
 use Rattle.rml_bmc.specs.declared.answer.Length.{Length}
 use Rattle.rml_bmc.specs.declared.answer.Length.TheVariants as answer
-use Rattle.bounded_text.specs.BoundedText.{EndFits, CanShow, CanRender}
+use Rattle.bounded_text.specs.BoundedText.{EndFits, HasPath, CanShow, CanRender}
 use Rattle.bounded_text.specs.Laws.{BoundedCanBeRendered}
 
 -- what is so of each entry is so of all
@@ -77,9 +77,19 @@ module _ (keep : UpdatesKeepSymbols) (followed : PathHasFollowedOutcomes) (fit :
   parts_fit (Some s) (part ∷ parts) fits are =
       let here = part_fits s part fits are.0 in (here, parts_fit part.end parts here are.1)
 
+  parts_known : (e : Option Tables) (parts : List Part) → MatchOption e (parts ≡ []) (λ t. AreParts m t parts)
+      → AllByRecursion (HasPath m) parts
+  parts_known e [] are = tt
+  parts_known None (part ∷ parts) are = absurd (cc are)
+  parts_known (Some s) (part ∷ parts) are =
+      (record { path = are.0.path; is_path = are.0.is_path }, parts_known part.end parts are.1)
+
   can_show : (run : Run) → IsShownRun m run → CanShow m run
-  can_show run shown =
-      record { start = shown.structure; ends = parts_fit (Some run.start) run.parts shown.structure shown.parts }
+  can_show run shown = record {
+    start = shown.structure;
+    paths = parts_known (Some run.start) run.parts shown.parts;
+    ends = parts_fit (Some run.start) run.parts shown.structure shown.parts;
+  }
 
   can_render : (l : Length) → ((run : Run) → l ≡ answer.Broken run → IsShownRun m run) → CanRender m l
   can_render answer.Safe shown = tt

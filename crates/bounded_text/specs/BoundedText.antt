@@ -1,17 +1,19 @@
 -- The text of what is answered of bounded runs, a definition for each kind of line.
-use Rattle.std.specs.Prelude.{ℕ, ◌+◌, List, [], ◌∷◌, ◌++◌, length, Option, Some, None, codes}
+use Rattle.std.specs.Prelude.{◌≡◌, ℕ, ◌+◌, List, [], ◌∷◌, ◌++◌, length, Option, Some, None, codes}
 use Rattle.std.specs.List.{AllByRecursion, flat_map}
 use Rattle.std.specs.Fmt.{decimal}
 use Rattle.fol_sig.specs.Tables.{Tables}
 use Rattle.fol_sig.specs.Symbols.{FitsStructure, symbols}
+use Rattle.base.specs.Lists.{numbered}
+use Rattle.rml_command.specs.Trees.{PrimitiveTree}
 use Rattle.rml_command.specs.Models.{ModelTree}
-use Rattle.rml_command.specs.Elements.{elements_of}
 use Rattle.rml_command.specs.Goals.{stage_paths}
 use Rattle.rml_command.specs.declared.names.Names.{Names}
 use Rattle.rml_command.specs.declared.goal.About.{About}
 use Rattle.rml_command.specs.declared.goal.About.TheVariants as about
 use Rattle.rml_report.specs.Words.{name_at, labelled, cause_text, numbers_line}
 use Rattle.rml_report.specs.TableText.{tables_text, sorts_text}
+use Rattle.rml_report.specs.HavocText.{havoc_line}
 use Rattle.rml_report.specs.ReportText.{stage_text}
 use Rattle.rml_bmc.specs.Lengths.{verdict_of}
 use Rattle.rml_bmc.specs.declared.answer.Part.{Part}
@@ -35,10 +37,13 @@ part_line m part =
     codes "  " ++ stage_text m.names part.stage ++ codes " path " ++ decimal part.trace.path ++ codes " of "
     ++ decimal (length (stage_paths m part.stage)) ++ codes "\n"
 
--- the path that is taken, the elements of its havocs, and how it ends
-unfoldable pub part_text : ModelTree → Part → List ℕ
-part_text m part =
-    part_line m part ++ numbers_line (codes "  havoc:") (elements_of part.trace.havoc) ++ end_text m.names part.end
+-- What the havocs of a part gave. The structure has the sizes of the sorts.
+abbrev pub havocs_line : ModelTree → Tables → Part → List ℕ
+havocs_line m s part = havoc_line s (numbered (stage_paths m part.stage) part.trace.path) part.trace.havoc
+
+-- the path that is taken, what its havocs gave, and how it ends
+unfoldable pub part_text : ModelTree → Tables → Part → List ℕ
+part_text m s part = part_line m part ++ havocs_line m s part ++ end_text m.names part.end
 
 -- the values, of a conjecture that is broken
 abbrev pub values_text : About → List ℕ → List ℕ
@@ -54,7 +59,7 @@ broken_text names (about.Conjecture k) = labelled (codes "breaks ") (name_at nam
 unfoldable pub run_text : ModelTree → Run → List ℕ
 run_text m run =
     broken_text m.names run.about ++ codes "  before\n" ++ sorts_text m.names run.start ++ tables_text m.names run.start
-    ++ flat_map (λ part. part_text m part) run.parts ++ values_text run.about run.values
+    ++ flat_map (λ part. part_text m run.start part) run.parts ++ values_text run.about run.values
 
 -- paths N, or the limit that a goal passes
 abbrev pub bound_cause_text : BoundCause → List ℕ
@@ -92,9 +97,15 @@ abbrev pub EndFits : ModelTree → Option Tables → Type 0
 EndFits m None = Unit {0}
 EndFits m (Some end) = FitsStructure (symbols m.signature) end
 
--- a run can be written out: its structures have the model's symbols
+-- the part takes a path of the model
+pub record HasPath (m : ModelTree) (part : Part) : Type 0 where
+  pub path : List PrimitiveTree
+  pub is_path : numbered (stage_paths m part.stage) part.trace.path ≡ Some path
+
+-- a run can be written out: its structures have the model's symbols, and its paths are the model's
 pub record CanShow (m : ModelTree) (run : Run) : Type 0 where
   pub start : FitsStructure (symbols m.signature) run.start
+  pub paths : AllByRecursion (HasPath m) run.parts
   pub ends : AllByRecursion (λ part. EndFits m part.end) run.parts
 
 -- the answer to a length can be

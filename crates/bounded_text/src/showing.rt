@@ -1,14 +1,19 @@
 // The lines of a run that breaks a length.
 ghost use Rattle.std.specs.Prelude.{◌≡◌, ◌++◌, Some, OnOk};
 ghost use Rattle.std.specs.List.{AllByRecursion, flat_map};
-ghost use Rattle.bounded_text.specs.BoundedText.{EndFits, CanShow, end_text, part_line, part_text, values_text};
-ghost use Rattle.bounded_text.specs.BoundedText.{broken_text, run_text};
+ghost use Rattle.base.specs.Lists.{numbered};
+ghost use Rattle.fol_sig.specs.Symbols.{FitsStructure, symbols};
+ghost use Rattle.rml_command.specs.Goals.{stage_paths};
+ghost use Rattle.bounded_text.specs.BoundedText.{EndFits, HasPath, CanShow, end_text, part_line, havocs_line};
+ghost use Rattle.bounded_text.specs.BoundedText.{part_text, values_text, broken_text, run_text};
 
 use base::{Mem, push_number, push_text};
 use fol_sig::Structure;
 use rml_bmc::{Part, Run};
-use rml_command::{About, Checked, Names, elements_of};
-use rml_report::{push_labelled, push_numbers_line, push_sorts, push_stage, push_tables};
+use rml_command::{About, Checked, Names, Path, goal_law};
+use rml_report::{
+    push_havoc_line, push_labelled, push_numbers_line, push_sorts, push_stage, push_tables,
+};
 use std::alloc::Global;
 
 // The tables of an end.
@@ -48,26 +53,71 @@ fn push_part_line(out: &mut Vec<u8>, checked: &Checked, part: &Part) -> Mem<()>
     Ok(())
 }
 
-#[tactic(auto, using(std::proofs::Common::append_assoc), unfolding(crate::specs::BoundedText::part_text))]
-fn push_part(alloc: Global, out: &mut Vec<u8>, checked: &Checked, part: &Part) -> Mem<()>
-    requires { EndFits checked.now part.now.end }
-    ensures { OnOk result (out.new.items ≡ out.old.items ++ part_text checked.now part.now) }
+// The path that a part takes.
+fn path_of<'a>(checked: &'a Checked, part: &Part) -> Path<'a>
+    requires { HasPath checked.now part.now }
+    ensures { numbered (stage_paths checked.now part.now.stage) part.now.trace.path ≡ Some result }
 {
-    let elements = elements_of(alloc, part.trace.havoc.as_slice())?;
+    let paths = checked.stage_paths(part.stage);
+    paths.path(part.trace.path as usize - 1)
+}
+
+// What its havocs gave.
+fn push_havocs(
+    alloc: Global,
+    out: &mut Vec<u8>,
+    checked: &Checked,
+    start: &Structure,
+    part: &Part,
+) -> Mem<()>
+    requires path { HasPath checked.now part.now }
+    requires start { FitsStructure (symbols checked.now.signature) start.now }
+    ensures { OnOk result (out.new.items ≡ out.old.items ++ havocs_line checked.now start.now part.now) }
+{
+    goal_law();
+    let _checked = checked.model();
+    let path = path_of(checked, part);
+    let havocs = part.trace.havoc.as_slice();
+    push_havoc_line(alloc, out, checked, &path, start, havocs)?;
+    Ok(())
+}
+
+#[tactic(auto, using(std::proofs::Common::append_assoc), unfolding(crate::specs::BoundedText::part_text))]
+fn push_part(
+    alloc: Global,
+    out: &mut Vec<u8>,
+    checked: &Checked,
+    start: &Structure,
+    part: &Part,
+) -> Mem<()>
+    requires path { HasPath checked.now part.now }
+    requires start { FitsStructure (symbols checked.now.signature) start.now }
+    requires end { EndFits checked.now part.now.end }
+    ensures { OnOk result (out.new.items ≡ out.old.items ++ part_text checked.now start.now part.now) }
+{
     push_part_line(out, checked, part)?;
-    push_numbers_line(out, "  havoc:", elements.as_slice())?;
+    push_havocs(alloc, out, checked, start, part)?;
     push_end(alloc, out, checked, part)?;
     Ok(())
 }
 
 #[tactic(auto, using(std::proofs::Common::append_assoc))]
-fn push_parts(alloc: Global, out: &mut Vec<u8>, checked: &Checked, parts: &[Part]) -> Mem<()>
-    requires { AllByRecursion (λ part. EndFits checked.now part.end) parts.now }
-    ensures { OnOk result (out.new.items ≡ out.old.items ++ flat_map (λ part. part_text checked.now part) parts.now) }
+fn push_parts(
+    alloc: Global,
+    out: &mut Vec<u8>,
+    checked: &Checked,
+    start: &Structure,
+    parts: &[Part],
+) -> Mem<()>
+    requires paths { AllByRecursion (HasPath checked.now) parts.now }
+    requires start { FitsStructure (symbols checked.now.signature) start.now }
+    requires ends { AllByRecursion (λ part. EndFits checked.now part.end) parts.now }
+    ensures { OnOk result
+        (out.new.items ≡ out.old.items ++ flat_map (λ part. part_text checked.now start.now part) parts.now) }
 {
     let mut rest = parts;
     while let [part, after @ ..] = rest {
-        push_part(alloc, out, checked, part)?;
+        push_part(alloc, out, checked, start, part)?;
         rest = after;
     }
     Ok(())
@@ -110,7 +160,7 @@ pub fn push_run(alloc: Global, out: &mut Vec<u8>, checked: &Checked, run: &Run) 
     push_text(out, "  before\n")?;
     push_sorts(out, model, &run.start)?;
     push_tables(alloc, out, model, &run.start)?;
-    push_parts(alloc, out, checked, run.parts.as_slice())?;
+    push_parts(alloc, out, checked, &run.start, run.parts.as_slice())?;
     push_values(out, run.about, run.values.as_slice())?;
     Ok(())
 }

@@ -7,7 +7,7 @@ use Rattle.fol_formula.specs.Syntax.{FormTree}
 use Rattle.fol_formula.specs.Counts.{saturated}
 use Rattle.rml_command.specs.Models.{ModelTree}
 use Rattle.rml_command.specs.declared.goal.Goal.{Goal}
-use Rattle.rml_wp.specs.Preconditions.{goal_passes_limit}
+use Rattle.rml_wp.specs.Preconditions.{answered, goal_passes_limit}
 use Rattle.rml_report.specs.declared.cause.Cause.{Cause}
 use Rattle.rml_report.specs.declared.cause.Cause.TheVariants as cause
 use Rattle.rml_report.specs.declared.report.Axioms.{Axioms}
@@ -60,21 +60,22 @@ module _ (limits : Ceilings) (few : limits.conflicts ≤ 100000000) where
       subst (λ (d : Cause). IsCounted d) (sym h.1) (over_counted m.signature _ h.0 h.2)
 
   module _ (m : ModelTree) (goal : Goal) (p : FormTree) where
-    sentence_counted : (c : Cause) → PassesAs limits m p (Some c) → IsCounted c
+    sentence_counted : (c : Cause) → PassesAs limits (answered m goal) p (Some c) → IsCounted c
     sentence_counted c h = by h.0 h.1 h.2
       where
-        by : (q : Option Passed) → Passes limits m.signature p q → Some c ≡ first_cause q → IsCounted c
+        by : (q : Option Passed) → Passes limits (answered m goal) p q → Some c ≡ first_cause q → IsCounted c
         by None passes e = absurd (cc e)
         by (Some x) passes e =
             let same : c ≡ cause_of x = cc e in
-            subst (λ (d : Cause). IsCounted d) (sym same) (passes_counted m.signature p x passes)
+            subst (λ (d : Cause). IsCounted d) (sym same) (passes_counted (answered m goal) p x passes)
 
     -- a goal that passes no limit of formulas is left open for a cause that has a number
     first_is_counted : (c : Cause) → goal_passes_limit m goal ≡ false → PassesFirstAs limits m goal p (Some c)
         → IsCounted c
     first_is_counted c within h =
         sentence_counted c
-        (subst (λ (b : Bool). MatchBool b (Some c ≡ Some cause.Formula) (PassesAs limits m p (Some c))) within h)
+        (subst (λ (b : Bool). MatchBool b (Some c ≡ Some cause.Formula)
+        (PassesAs limits (answered m goal) p (Some c))) within h)
 
     pub open_counted : (c : Cause) → goal_passes_limit m goal ≡ false → IsLeftOpenAs limits m goal p c → IsCounted c
     open_counted cause.Formula within h = first_is_counted cause.Formula within h
@@ -85,7 +86,8 @@ module _ (limits : Ceilings) (few : limits.conflicts ≤ 100000000) where
     first_is_cause : (c : Cause) → PassesFirstAs limits m goal p (Some c) → IsCause c
     first_is_cause c h = by (goal_passes_limit m goal) h
       where
-        by : (b : Bool) → MatchBool b (Some c ≡ Some cause.Formula) (PassesAs limits m p (Some c)) → IsCause c
+        by : (b : Bool) → MatchBool b (Some c ≡ Some cause.Formula) (PassesAs limits (answered m goal) p (Some c))
+            → IsCause c
         by true e = let same : c ≡ cause.Formula = cc e in subst (λ (d : Cause). IsCause d) (sym same) tt
         by false passes = as_cause c (sentence_counted c passes)
 
@@ -99,6 +101,6 @@ module _ (limits : Ceilings) (few : limits.conflicts ≤ 100000000) where
     pub no_formula : PassesFirstAs limits m goal p None → goal_passes_limit m goal ≡ false
     no_formula h = by (goal_passes_limit m goal) h
       where
-        by : (b : Bool) → MatchBool b (None ≡ Some cause.Formula) (PassesAs limits m p None) → b ≡ false
+        by : (b : Bool) → MatchBool b (None ≡ Some cause.Formula) (PassesAs limits (answered m goal) p None) → b ≡ false
         by true e = absurd (cc e)
         by false passes = refl

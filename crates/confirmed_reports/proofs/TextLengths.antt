@@ -10,11 +10,11 @@ use Rattle.std.proofs.lemmas.List.Sums.{sum_by-cons, sum_by-append}
 use Rattle.fol_sig.specs.Tables.{Tables, relation_at, rel_at}
 use Rattle.fol_sig.specs.Tuples.{join_below, tuples}
 use Rattle.rml_command.specs.Models.{ModelTree}
-use Rattle.rml_command.specs.Elements.{elements_of}
+use Rattle.rml_command.specs.Goals.{goal_path}
 use Rattle.rml_command.specs.declared.names.Names.{Names}
 use Rattle.rml_command.specs.declared.goal.About.{About}
 use Rattle.rml_exec.specs.declared.trace.Counterexample.{Counterexample}
-use Rattle.rml_report.specs.Words.{numbers_line}
+use Rattle.rml_report.specs.HavocText.{havoc_line}
 use Rattle.rml_report.specs.TableText.{each_tuple, listed_text, tuple_text, cell_text, value_text, values_text}
 use Rattle.rml_report.specs.TableText.{symbol_label, symbol_line, relation_line, function_line, tables_text, sorts_text}
 use Rattle.fol_sig.specs.SymbolTables.{arguments_of}
@@ -142,7 +142,7 @@ module _ (m : ModelTree) where
   execution_long a shown =
       let s = shown.structure in
       let before = codes "  before\n" ++ sorts_text m.names s in
-      let havoc = numbers_line (codes "  havoc:") (elements_of shown.trace.havoc) in
+      let havoc = havoc_line s (goal_path m shown.goal) shown.trace.havoc in
       le_trans (inside before (tables_text m.names s) havoc)
       (front (before ++ tables_text m.names s ++ havoc) (outcome_text m a shown))
 

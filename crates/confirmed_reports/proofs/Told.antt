@@ -5,6 +5,7 @@ use Rattle.std.specs.Prelude.{◌&&◌, ◌||◌}
 use Rattle.std.specs.List.{AllByRecursion, list_all, list_any}
 use Rattle.std.proofs.lemmas.Bool.{ne_eqb}
 use Rattle.rml_command.specs.Models.{ModelTree}
+use Rattle.rml_command.specs.Fragment.{IsChecked}
 use Rattle.rml_command.specs.declared.goal.About.{About}
 use Rattle.rml_report.specs.Reports as reports
 use Rattle.rml_report.specs.Reports.{IsRight}
@@ -12,7 +13,7 @@ use Rattle.rml_report.specs.declared.report.Answer.{Answer}
 use Rattle.rml_report.specs.declared.report.Answer.TheVariants as reported
 use Rattle.rml_report.specs.declared.report.Group.{Group}
 use Rattle.rml_report.specs.declared.report.Verdict.TheVariants as verdict
-use Rattle.report_read.specs.Printing.{printed_answer, printed_groups, group_lines}
+use Rattle.report_read.specs.Printing.{printed_answer, printed_groups, group_lines, PrintedIsShown}
 use Rattle.report_replay.specs.Judgements as replay
 use Rattle.report_replay.specs.Judgements.{executions, do_all_hold, is_zero}
 use Rattle.report_replay.specs.Laws.{Shows}
@@ -77,7 +78,9 @@ module _ (m : ModelTree) where
       ∙ ap (λ t. cond (do_all_hold (printed_groups m n gs)) verdict.Inductive
       (cond t verdict.Undecided verdict.NotInductive)) (sym (ap is_zero (counted n gs) ∙ none_fails gs))
 
-  pub all_shown : (n : ℕ) (gs : List Group) → AllByRecursion (IsRight m) gs
-      → AllByRecursion (λ g. Shows m g.answer) (printed_groups m n gs)
-  all_shown n [] right = tt
-  all_shown n (g ∷ gs) right = (shows m g right.0, all_shown (n + length (group_lines m g)) gs right.1)
+  module _ (alike : PrintedIsShown) (ok : IsChecked m) where
+    pub all_shown : (n : ℕ) (gs : List Group) → AllByRecursion (IsRight m) gs
+        → AllByRecursion (λ g. Shows m g.answer) (printed_groups m n gs)
+    all_shown n [] right = tt
+    all_shown n (g ∷ gs) right =
+        (shows m alike ok g right.0, all_shown (n + length (group_lines m g)) gs right.1)

@@ -3,14 +3,14 @@ use Rattle.std.specs.Prelude.{◌≡◌, ℕ, ◌<◌, ◌≤◌, List, [], ◌�
 use Rattle.fol_sig.specs.Tables.{Tables, size_at}
 use Rattle.base.specs.Lists.{count_from}
 use Rattle.rml_command.specs.Models.{ModelTree}
-use Rattle.rml_command.specs.Elements.{elements_of}
-use Rattle.rml_command.specs.Goals.{IsGoal}
+use Rattle.rml_command.specs.Goals.{IsGoal, goal_path}
 use Rattle.rml_command.specs.declared.names.Names.{Names}
 use Rattle.rml_command.specs.declared.goal.Head.{Head}
 use Rattle.rml_command.specs.declared.goal.About.{About}
 use Rattle.rml_command.specs.declared.goal.About.TheVariants as about
 use Rattle.rml_exec.specs.declared.trace.Counterexample.{Counterexample}
 use Rattle.rml_report.specs.Words.{numbers_line}
+use Rattle.rml_report.specs.HavocText.{havoc_line}
 use Rattle.rml_report.specs.TableText.{sort_line, relation_line, function_line}
 use Rattle.rml_report.specs.ReportText.{head_text, path_line, least_line, undecided_text, axioms_text}
 use Rattle.rml_report.specs.Reports.{goal_at}
@@ -93,8 +93,8 @@ end_lines names (about.Conjecture k) values (Some t) =
     codes "  after\n" ∷ (table_lines names t ++ numbers_line (codes "  values:") values ∷ [])
 
 -- what is shown of a group that fails, behind its head
-abbrev pub block_lines : Names → About → ℕ → List ℕ → Counterexample → Option Tables → List (List ℕ)
-block_lines names a paths least shown after =
+abbrev pub block_lines : ModelTree → About → ℕ → List ℕ → Counterexample → Option Tables → List (List ℕ)
+block_lines m a paths least shown after =
     path_line shown.trace.path paths ∷ least ∷ codes "  before\n"
-    ∷ (sort_lines names shown.structure ++ (table_lines names shown.structure
-    ++ numbers_line (codes "  havoc:") (elements_of shown.trace.havoc) ∷ end_lines names a shown.values after))
+    ∷ (sort_lines m.names shown.structure ++ (table_lines m.names shown.structure
+    ++ havoc_line shown.structure (goal_path m shown.goal) shown.trace.havoc ∷ end_lines m.names a shown.values after))

@@ -19,7 +19,7 @@ pub record IsBlock (m : ModelTree) (group : Head) (paths : ℕ) (shown : Counter
   pub execution : IsExecution m group paths shown after
   pub least : List ℕ
   pub is_least : IsLeastLine m least
-  pub text : lines ≡ block_lines m.names group.about paths least shown after
+  pub text : lines ≡ block_lines m group.about paths least shown after
 
 -- the line of a group's head, with these words behind it
 abbrev pub head_line : ModelTree → Head → List ℕ → List ℕ

@@ -11,9 +11,7 @@ use Rattle.fol_sig.specs.Symbols.{Symbols, FitsStructure, symbols}
 use Rattle.fol_sig.specs.Tuples.{TuplesAreNumbered}
 use Rattle.fol_formula.specs.Syntax.{FormTree, for_all}
 use Rattle.fol_formula.specs.Fits.{FitsForm}
-use Rattle.rml_command.specs.Trees.{PrimitiveTree, assume, set_rel, set_fun, havoc, havoc_rel, abort}
-use Rattle.rml_command.specs.Models.{ModelTree, FitsPath, FitsModel}
-use Rattle.rml_command.specs.Elements.{elements_of, havocs_of}
+use Rattle.rml_command.specs.Models.{ModelTree, FitsModel}
 use Rattle.rml_command.specs.declared.havoc.Havoc.{Havoc}
 use Rattle.rml_command.specs.Goals.{stage_paths, goal_path, leading_sorts, HasAbout, IsGoal}
 use Rattle.rml_command.specs.Laws.{GoalPathsFit}
@@ -27,17 +25,20 @@ use Rattle.rml_exec.specs.declared.trace.Counterexample.{Counterexample}
 use Rattle.rml_exec.specs.declared.trace.Trace.{Trace}
 use Rattle.rml_report.specs.Words.{numbers_line}
 use Rattle.rml_report.specs.TableText.{sort_line}
+use Rattle.rml_report.specs.HavocText.{havoc_line}
 use Rattle.rml_report.specs.ReportText.{path_line}
 use Rattle.rml_report.specs.Reports.{goal_at}
 use Rattle.line_scan.specs.Scanning.{most}
 use Rattle.line_scan.specs.Laws.{ScansAreExact}
-use Rattle.printed_report.specs.Executions.{IsSize, havoc_sorts, sorts_along, HasEnd}
+use Rattle.printed_report.specs.Executions.{IsSize, AreAskedAlong, HasEnd}
 use Rattle.printed_report.specs.Lines.{IsLeastLine, sort_lines, table_lines, end_lines}
 use Rattle.printed_report.specs.PrintedReports.{IsBlock}
 use Rattle.printed_report.specs.declared.printed.PrintedAnswer.{PrintedAnswer}
 use Rattle.printed_report.specs.declared.printed.PrintedAnswer.TheVariants as answer
 use Rattle.report_read.specs.Got.{got, and_then}
-use Rattle.report_read.specs.LineReading.{is_least_line, path_in, elements_in, words_in}
+use Rattle.report_values.specs.ValueReading.{elements_in}
+use Rattle.report_read.specs.LineReading.{is_least_line, path_in, words_in}
+use Rattle.report_values.specs.HavocReading.{entries_along}
 use Rattle.report_read.specs.Reading.{passing, read_sizes, read_tables, read_structure, value_sorts, read_words}
 use Rattle.report_read.specs.Reading.{end_in, no_end, read_end_tables, read_after, read_abort, read_end, read_path}
 use Rattle.report_read.specs.Reading.{read_least}
@@ -46,7 +47,7 @@ use Rattle.report_read.specs.Reading.{read_execution}
 use Rattle.report_read.specs.Reading.{read_block, AreSizes}
 use Rattle.report_read.specs.declared.block.End.{End}
 use Rattle.report_read.specs.declared.block.Course.{Course}
-use Rattle.report_read.proofs.Traces.{elements-back, all-taken}
+use Rattle.report_read.proofs.HavocLines.{IsTrace, trace_line_is}
 use Rattle.report_read.proofs.Parts.{Lines, IsPart, IsLine, IsOne, IsBoth, IsMade, part_as, one_part, both_part}
 use Rattle.report_read.proofs.Parts.{made_part}
 use Rattle.report_read.proofs.HeadLines.{words_line, IsPathLine, path_line_is}
@@ -54,25 +55,6 @@ use Rattle.report_read.proofs.LeastLines.{least_line_is, IsElements, elements_li
 use Rattle.report_read.proofs.SizeLines.{IsSortSize, SizesFrom, sizes_part, size_lines_are, positive_sizes}
 use Rattle.report_read.proofs.SizeLines.{few_elements}
 use Rattle.report_read.proofs.TableParts.{AreTables, tables_part}
-
--- the sorts of havocs and of leading quantifiers are sorts
-pub havocs_known : (sig : Symbols) (p : List PrimitiveTree) → FitsPath sig p
-    → AllByRecursion (λ k. k < sig.sorts) (havoc_sorts sig p)
-havocs_known sig [] fits = tt
-havocs_known sig (assume f ∷ qs) fits = havocs_known sig qs fits.1
-havocs_known sig (set_rel r by ∷ qs) fits = havocs_known sig qs fits.1
-havocs_known sig (set_fun f by ∷ qs) fits = havocs_known sig qs fits.1
-havocs_known sig (havoc v ∷ qs) fits = (fits.0.2, havocs_known sig qs fits.1)
-havocs_known sig (havoc_rel r ∷ qs) fits = havocs_known sig qs fits.1
-havocs_known sig (abort ∷ qs) fits = havocs_known sig qs fits.1
-
-pub along_known : (m : ModelTree) → FitsModel m → GoalPathsFit → (group : Head) (path : ℕ)
-    → IsGoal m (goal_at group path)
-    → AllByRecursion (λ k. k < m.signature.sorts) (sorts_along (symbols m.signature) (goal_path m (goal_at group path)))
-along_known m fits law group path is =
-    subst (λ o. AllByRecursion (λ k. k < m.signature.sorts) (sorts_along (symbols m.signature) o)) (sym is.is_path)
-    (havocs_known (symbols m.signature) is.path
-    (law.symbols_fit m (goal_at group path) is.path fits is.is_path))
 
 about_known : (m : ModelTree) (s : Stage) (k : ℕ) → HasAbout m s (about.Conjecture k) → k < length m.conjectures
 about_known m stage.Init k has = has
@@ -93,8 +75,8 @@ leading_known sig env _ fits = tt
 abbrev make_end : Option Tables → List ℕ → End
 make_end t values = record { after = t; values = values }
 
-abbrev make_course : List ℕ → End → Course
-make_course elements end = record { havoc = elements; end = end }
+abbrev make_course : List Havoc → End → Course
+make_course havocs end = record { havoc = havocs; end = end }
 
 abbrev make_trace : ℕ → List Havoc → Trace
 make_trace path havocs = record { path = path; havoc = havocs }
@@ -318,41 +300,41 @@ module _ (x : ScansAreExact) (numbered_are : TuplesAreNumbered) (m : ModelTree) 
           (leading_known (symbols m.signature) [] c.0
           (all_at (FitsForm (symbols m.signature) []) m.conjectures k c.0 c.1 fits.conjectures))
 
-      -- the elements of the havocs, and the end
+      -- the trace, and the end
       module _ (path : ℕ) (is_goal : IsGoal m (goal_at group path)) where
-        abbrev along : List ℕ
-        along = sorts_along (symbols m.signature) (goal_path m (goal_at group path))
-
-        abbrev HavocOf : List ℕ → List ℕ → Type 0
-        HavocOf = IsElements x s.sizes (sorts_along (symbols m.signature) (goal_path m (goal_at group path)))
-            (codes "  havoc:")
+        abbrev TraceOf : List Havoc → List ℕ → Type 0
+        TraceOf = IsTrace x numbered_are s size_bound (goal_path m (goal_at group path))
 
         abbrev IsCourse : ℕ → Course → Lines → Type 0
         IsCourse n course lines =
-            InRange s.sizes (sorts_along (symbols m.signature) (goal_path m (goal_at group path))) course.havoc
+            AreAskedAlong s (goal_path m (goal_at group path)) course.havoc
             × HasEnd m s group.about course.end.values course.end.after
-            × (lines ≡ numbers_line (codes "  havoc:") course.havoc
+            × (lines ≡ havoc_line s (goal_path m (goal_at group path)) course.havoc
             ∷ end_lines m.names group.about course.end.values course.end.after)
 
         abbrev CourseFrom : ℕ → Course → Lines → Type 0
-        CourseFrom = IsBoth (IsOne HavocOf) (λ havoc. IsMade (IsEnd group.about) (λ _ end. make_course havoc end))
+        CourseFrom = IsBoth (IsOne TraceOf) (λ havoc. IsMade (IsEnd group.about) (λ _ end. make_course havoc end))
 
         course_to : (n : ℕ) (course : Course) (lines : Lines) → CourseFrom n course lines → IsCourse n course lines
         course_to n course lines is =
             let one = is.3 in
             subst (λ c. IsCourse n c lines) is.4.2 (
-              one.1.in_range,
+              one.1.asked,
               is.4.1.0,
               is.5 ∙ ap (λ l. l ++ is.2) one.2 ∙ ap (λ l. l ∷ is.2) one.1.text
-                  ∙ ap (λ ls. numbers_line (codes "  havoc:") is.0 ∷ ls) is.4.1.1,
+                  ∙ ap (λ ls. havoc_line s (goal_path m (goal_at group path)) is.0 ∷ ls) is.4.1.1,
             )
 
         course_back : (n : ℕ) (course : Course) (lines : Lines) → IsCourse n course lines → CourseFrom n course lines
         course_back n course lines is = (
           course.havoc,
-          numbers_line (codes "  havoc:") course.havoc ∷ [],
+          havoc_line s (goal_path m (goal_at group path)) course.havoc ∷ [],
           end_lines m.names group.about course.end.values course.end.after,
-          (numbers_line (codes "  havoc:") course.havoc, record { in_range = is.0; text = refl }, refl),
+          (
+            havoc_line s (goal_path m (goal_at group path)) course.havoc,
+            record { asked = is.0; text = refl },
+            refl,
+          ),
           (course.end, (is.1, refl), refl),
           is.2,
         )
@@ -360,17 +342,14 @@ module _ (x : ScansAreExact) (numbered_are : TuplesAreNumbered) (m : ModelTree) 
         course_part : IsPart (read_course m (goal_at group path) s) IsCourse
         course_part =
             part_as (read_course m (goal_at group path) s) CourseFrom IsCourse course_to course_back
-            (both_part (read_havoc m (goal_at group path) s) (IsOne HavocOf)
+            (both_part (read_havoc m (goal_at group path) s) (IsOne TraceOf)
             (λ havoc more. and_then (read_end m group.about s more)
             (λ end rest. got (make_course havoc end) rest))
             (λ havoc. IsMade (IsEnd group.about) (λ _ end. make_course havoc end))
-            (one_part (elements_in s.sizes (sorts_along (symbols m.signature) (goal_path m (goal_at group path)))
-            (codes "  havoc:")) HavocOf
-            (elements_line_is x s.sizes (sorts_along (symbols m.signature) (goal_path m (goal_at group path)))
-            (codes "  havoc:") size_bound refl
-            (zeros_in s.sizes (sorts_along (symbols m.signature) (goal_path m (goal_at group path))) fs.whole.positive
-            (in_structure (sorts_along (symbols m.signature) (goal_path m (goal_at group path)))
-            (along_known m fits law group path is_goal)))))
+            (one_part (entries_along s (goal_path m (goal_at group path))) TraceOf
+            (trace_line_is x numbered_are s size_bound (symbols m.signature) fs (goal_path m (goal_at group path))
+            is_goal.path is_goal.is_path
+            (law.symbols_fit m (goal_at group path) is_goal.path fits is_goal.is_path)))
             (λ havoc _ _ _. made_part (read_end m group.about s) (IsEnd group.about)
             (λ _ end. make_course havoc end) (end_part group.about has)))
 
@@ -453,9 +432,9 @@ module _ (x : ScansAreExact) (numbered_are : TuplesAreNumbered) (m : ModelTree) 
       -- what is shown
       abbrev CourseOf : Tables → ℕ → ℕ → Course → Lines → Type 0
       CourseOf s path n course lines =
-          InRange s.sizes (sorts_along (symbols m.signature) (goal_path m (goal_at group path))) course.havoc
+          AreAskedAlong s (goal_path m (goal_at group path)) course.havoc
           × HasEnd m s group.about course.end.values course.end.after
-          × (lines ≡ numbers_line (codes "  havoc:") course.havoc
+          × (lines ≡ havoc_line s (goal_path m (goal_at group path)) course.havoc
           ∷ end_lines m.names group.about course.end.values course.end.after)
 
       abbrev ExecutionFrom : ℕ → ℕ → PrintedAnswer → Lines → Type 0
@@ -494,11 +473,7 @@ module _ (x : ScansAreExact) (numbered_are : TuplesAreNumbered) (m : ModelTree) 
                 count = refl;
                 structure = is.4.3.0;
                 sizes = is.4.3.1;
-                taken = all-taken m fits law (goal_at group is.0) is.3.is_goal is.4.0.sizes is.4.4.0.havoc is.4.4.1.0;
-                entries = ap havocs_of (elements-back is.4.4.0.havoc);
-                havoc = subst (InRange is.4.0.sizes
-                    (sorts_along (symbols m.signature) (goal_path m (goal_at group is.0))))
-                    (sym (elements-back is.4.4.0.havoc)) is.4.4.1.0;
+                trace = is.4.4.1.0;
                 end = is.4.4.1.1;
               };
               least = is.3.least;
@@ -508,12 +483,8 @@ module _ (x : ScansAreExact) (numbered_are : TuplesAreNumbered) (m : ModelTree) 
                   (is.4.5 ∙ ap (λ l. l ++ is.4.2) is.4.3.2
                   ∙ ap (λ l. (sort_lines m.names is.4.0 ++ table_lines m.names is.4.0) ++ l) is.4.4.1.2
                   ∙ append_assoc (sort_lines m.names is.4.0) (table_lines m.names is.4.0)
-                  (numbers_line (codes "  havoc:") is.4.4.0.havoc
-                  ∷ end_lines m.names group.about is.4.4.0.end.values is.4.4.0.end.after)
-                  ∙ ap (λ xs. sort_lines m.names is.4.0 ++ (table_lines m.names is.4.0
-                  ++ numbers_line (codes "  havoc:") xs
-                  ∷ end_lines m.names group.about is.4.4.0.end.values is.4.4.0.end.after))
-                  (sym (elements-back is.4.4.0.havoc)));
+                  (havoc_line is.4.0 (goal_path m (goal_at group is.0)) is.4.4.0.havoc
+                  ∷ end_lines m.names group.about is.4.4.0.end.values is.4.4.0.end.after));
             },
           )
 
@@ -521,34 +492,29 @@ module _ (x : ScansAreExact) (numbered_are : TuplesAreNumbered) (m : ModelTree) 
       block_back n a lines is =
           let is_goal : IsGoal m (goal_at group is.1.trace.path) = subst (IsGoal m) is.4.execution.goal
           is.4.execution.is_goal in
+          let goal_is : goal_path m is.1.goal ≡ goal_path m (goal_at group is.1.trace.path) =
+          ap (goal_path m) is.4.execution.goal in
           let same : fails_of group (length (stage_paths m group.stage)) is.1.trace.path is.1.structure
-          (make_course (elements_of is.1.trace.havoc) (make_end is.2 is.1.values)) ≡ a =
+          (make_course is.1.trace.havoc (make_end is.2 is.1.values)) ≡ a =
           ap (λ k. answer.Fails k (shown_of group is.1.trace.path is.1.structure
-          (make_course (elements_of is.1.trace.havoc) (make_end is.2 is.1.values))) is.2) (sym is.4.execution.count)
-          ∙ ap (λ hs. answer.Fails is.0 (make_shown is.1.structure (make_trace is.1.trace.path hs)
-          (goal_at group is.1.trace.path) is.1.values) is.2) is.4.execution.entries
+          (make_course is.1.trace.havoc (make_end is.2 is.1.values))) is.2) (sym is.4.execution.count)
           ∙ ap (λ g. answer.Fails is.0 (make_shown is.1.structure is.1.trace g is.1.values) is.2)
           (sym is.4.execution.goal) ∙ sym is.3 in
-          let last : Lines = numbers_line (codes "  havoc:") (elements_of is.1.trace.havoc)
-          ∷ end_lines m.names group.about is.1.values is.2 in
-          let tail : Lines = (sort_lines m.names is.1.structure ++ table_lines m.names is.1.structure) ++ last in (
+          let last : Lines = havoc_line is.1.structure (goal_path m (goal_at group is.1.trace.path)) is.1.trace.havoc
+          ∷ end_lines m.names group.about is.1.values is.2 in (
             is.1.trace.path,
             path_line is.1.trace.path (length (stage_paths m group.stage)) ∷ is.4.least ∷ codes "  before\n" ∷ [],
-            (sort_lines m.names is.1.structure ++ table_lines m.names is.1.structure)
-                ++ (numbers_line (codes "  havoc:") (elements_of is.1.trace.havoc) ∷ end_lines m.names group.about
-                is.1.values is.2),
+            (sort_lines m.names is.1.structure ++ table_lines m.names is.1.structure) ++ last,
             record { is_goal = is_goal; least = is.4.least; is_least = is.4.is_least; text = refl },
             (
               is.1.structure,
               sort_lines m.names is.1.structure ++ table_lines m.names is.1.structure,
-              numbers_line (codes "  havoc:") (elements_of is.1.trace.havoc) ∷ end_lines m.names group.about
-                  is.1.values is.2,
+              last,
               (is.4.execution.structure, is.4.execution.sizes, refl),
               (
-                make_course (elements_of is.1.trace.havoc) (make_end is.2 is.1.values),
+                make_course is.1.trace.havoc (make_end is.2 is.1.values),
                 (
-                  subst (λ g. InRange is.1.structure.sizes (sorts_along (symbols m.signature) (goal_path m g))
-                      (elements_of is.1.trace.havoc)) is.4.execution.goal is.4.execution.havoc,
+                  subst (λ o. AreAskedAlong is.1.structure o is.1.trace.havoc) goal_is is.4.execution.trace,
                   is.4.execution.end,
                   refl,
                 ),
@@ -559,14 +525,16 @@ module _ (x : ScansAreExact) (numbered_are : TuplesAreNumbered) (m : ModelTree) 
             is.4.text
                 ∙ ap (λ k. path_line is.1.trace.path k ∷ is.4.least ∷ codes "  before\n"
                 ∷ (sort_lines m.names is.1.structure ++ (table_lines m.names is.1.structure
-                ++ numbers_line (codes "  havoc:") (elements_of is.1.trace.havoc) ∷ end_lines m.names group.about
+                ++ havoc_line is.1.structure (goal_path m is.1.goal) is.1.trace.havoc ∷ end_lines m.names group.about
                 is.1.values is.2)))
                 is.4.execution.count
+                ∙ ap (λ o. path_line is.1.trace.path (length (stage_paths m group.stage)) ∷ is.4.least
+                ∷ codes "  before\n" ∷ (sort_lines m.names is.1.structure ++ (table_lines m.names is.1.structure
+                ++ havoc_line is.1.structure o is.1.trace.havoc ∷ end_lines m.names group.about is.1.values is.2)))
+                goal_is
                 ∙ ap (λ l. path_line is.1.trace.path (length (stage_paths m group.stage)) ∷ is.4.least
                 ∷ codes "  before\n" ∷ l)
-                (sym (append_assoc (sort_lines m.names is.1.structure) (table_lines m.names is.1.structure)
-                (numbers_line (codes "  havoc:") (elements_of is.1.trace.havoc) ∷ end_lines m.names group.about
-                is.1.values is.2))),
+                (sym (append_assoc (sort_lines m.names is.1.structure) (table_lines m.names is.1.structure) last)),
           )
 
       pub block_part : IsPart (read_block m group) (IsBlockText m group)

@@ -1,23 +1,18 @@
--- Where a path leads, and with which elements.
-use Rattle.std.proofs.Common.{◌≡◌, ℕ, ◌<◌, List, [], ◌∷◌, length, Some, None, refl}
-use Rattle.std.proofs.Common.{sym, ap}
-use Rattle.std.proofs.Common.{subst, cond, arith}
-use Rattle.std.specs.Prelude.{nat_lt, slice_index}
+-- Where a path leads, and with which entries.
+use Rattle.std.proofs.Common.{◌≡◌, List, [], ◌∷◌, Some, None, sym, ap, subst, cond}
+use Rattle.std.specs.Prelude.{nat_lt}
 use Rattle.std.proofs.lemmas.Bool.{ltb-true}
-use Rattle.fol_sig.specs.Tables.{Tables, InRange}
+use Rattle.fol_sig.specs.Tables.{Tables}
 use Rattle.fol_sig.specs.Symbols.{Symbols, FitsStructure}
 use Rattle.fol_sig.specs.TupleSets.{has_tuple, with_tuples}
 use Rattle.fol_formula.specs.Syntax.{FormTree}
 use Rattle.rml_command.specs.Trees.{PrimitiveTree, assume, set_rel, set_fun, havoc, havoc_rel, abort}
-use Rattle.rml_command.specs.Outcomes.{Outcome, ended, follow_path, is_true, satisfies, set_relation}
+use Rattle.rml_command.specs.Outcomes.{ended, follow_path, is_true, satisfies, set_relation}
 use Rattle.rml_command.specs.Outcomes.{set_function, set_variable, range_of, are_tuples_of}
-use Rattle.rml_command.specs.Paths.{havoc_count, EndsAtAbort}
-use Rattle.rml_command.specs.Models.{FitsPath, FitsSteps}
-use Rattle.rml_command.specs.Elements.{elements_of}
+use Rattle.rml_command.specs.Models.{FitsPath}
 use Rattle.rml_command.specs.declared.havoc.Havoc.{Havoc}
 use Rattle.rml_command.specs.declared.havoc.Havoc.TheVariants.{Element, Tuples}
 use Rattle.rml_command.specs.Laws.{UpdatesKeepSymbols}
-use Rattle.printed_report.specs.Executions.{havoc_sorts}
 use Rattle.report_read.proofs.Pieces.{tested}
 
 -- the end of a path
@@ -64,40 +59,3 @@ module _ (sig : Symbols) (law : UpdatesKeepSymbols) (axioms : List FormTree) whe
       let h = ends_in qs hs new t path.1 (law.table sig s r (has_tuple xss) path.0 fits) b.1 in
       record { fits = h.fits; sizes = h.sizes }
   ends_in (abort ∷ qs) hs s t path fits e = absurd (cc e)
-
-  -- an element for each havoc, where no relation is havocked
-  pub elements_fit : (qs : List PrimitiveTree) (hs : List Havoc) (s : Tables) (o : Outcome) → FitsSteps sig qs
-      → EndsAtAbort qs → FitsStructure sig s → length hs ≡ havoc_count qs → follow_path axioms qs hs s ≡ Some o
-      → InRange s.sizes (havoc_sorts sig qs) (elements_of hs)
-  elements_fit [] [] s o path last fits count e = tt
-  elements_fit [] (h ∷ hs) s o path last fits count e = absurd (omega (arith, count))
-  elements_fit (assume p ∷ qs) hs s o path last fits count e =
-      let a = tested (is_true s p) (follow_path axioms qs hs s) o e in
-      elements_fit qs hs s o path.1 last.1 fits count a.1
-  elements_fit (set_rel r by ∷ qs) hs s o path last fits count e =
-      let a = tested (satisfies (set_relation s r by) axioms) (follow_path axioms qs hs (set_relation s r by)) o e in
-      elements_fit qs hs (set_relation s r by) o path.1 last.1 (law.relation sig s r by path.0 fits) count a.1
-  elements_fit (set_fun f by ∷ qs) hs s o path last fits count e =
-      let a = tested (satisfies (set_function s f by) axioms) (follow_path axioms qs hs (set_function s f by)) o e in
-      elements_fit qs hs (set_function s f by) o path.1 last.1 (law.function sig s f by path.0 fits) count a.1
-  elements_fit (havoc v ∷ qs) [] s o path last fits count e = absurd (cc e)
-  elements_fit (havoc v ∷ qs) (Element x ∷ hs) s o path last fits count e =
-      let a = tested (nat_lt x (range_of s v))
-      (cond (satisfies (set_variable s v x) axioms) (follow_path axioms qs hs (set_variable s v x)) None) o e in
-      let b = tested (satisfies (set_variable s v x) axioms) (follow_path axioms qs hs (set_variable s v x)) o a.1 in
-      let lt : x < range_of s v = ltb-true x (range_of s v) a.0 in (
-        subst (λ k. x < slice_index s.sizes k) (sym (fits.into_of v path.0.0)) lt,
-        elements_fit qs hs (set_variable s v x) o path.1 last.1 (law.variable sig s v x path.0 lt fits)
-            (omega (arith, count)) b.1,
-      )
-  elements_fit (havoc v ∷ qs) (Tuples xss ∷ hs) s o path last fits count e = absurd (cc e)
-  elements_fit (havoc_rel r ∷ qs) hs s o path last fits count e = absurd path.0
-  elements_fit (abort ∷ qs) hs s o path last fits count e =
-      let none : qs ≡ [] = last.0 refl in
-      after_abort hs (subst (λ (ps : List PrimitiveTree). length hs ≡ havoc_count ps) none count)
-      (ap (havoc_sorts sig) none)
-    where
-      after_abort : (left : List Havoc) → length left ≡ 0 → havoc_sorts sig qs ≡ []
-          → InRange s.sizes (havoc_sorts sig qs) (elements_of left)
-      after_abort [] zero none = subst (λ ks. InRange s.sizes ks []) (sym none) tt
-      after_abort (h ∷ left) zero none = absurd (omega (arith, zero))

@@ -34,7 +34,8 @@ use Rattle.printed_report.specs.declared.printed.PrintedGroup.{PrintedGroup}
 use Rattle.printed_report.specs.declared.printed.PrintedAnswer.{PrintedAnswer}
 use Rattle.printed_report.specs.declared.printed.PrintedAnswer.TheVariants as answer
 use Rattle.report_read.specs.Got.{Got, got, stuck, and_then}
-use Rattle.report_read.specs.LineReading.{on, has_goal, has_goal_among, head_in, head_end, is_axioms_line, verdict_in}
+use Rattle.report_values.specs.ValueReading.{on}
+use Rattle.report_read.specs.LineReading.{has_goal, has_goal_among, head_in, head_end, is_axioms_line, verdict_in}
 use Rattle.report_read.specs.Reading.{passing, read_axioms, read_head, read_answer, read_said, group_of, read_group}
 use Rattle.report_read.specs.Reading.{read_groups, read_verdict, printed_of, read_lines, ended, read_nothing, read_all}
 use Rattle.report_read.specs.Laws.{ReadingIsExact, PrintedIsOne}

@@ -19,7 +19,8 @@ use Rattle.line_scan.specs.Scanning.{behind, number_at, is_end, most}
 use Rattle.line_scan.specs.Laws.{ScansAreExact}
 use Rattle.printed_report.specs.Lines.{IsCause, IsCounted, IsUndecidedLine}
 use Rattle.printed_report.specs.PrintedReports.{head_line}
-use Rattle.report_read.specs.LineReading.{choose, on, behind_counted, behind_cause, ends, is_goal_path, is_goal_at}
+use Rattle.report_values.specs.ValueReading.{choose, on}
+use Rattle.report_read.specs.LineReading.{behind_counted, behind_cause, ends, is_goal_path, is_goal_at}
 use Rattle.report_read.specs.LineReading.{has_goal, is_open_path, head_end, head_in, path_end, path_in, words_in}
 use Rattle.report_read.specs.LineReading.{verdict_in}
 use Rattle.report_read.specs.declared.heads.Standing.{Standing}

@@ -18,9 +18,11 @@ use Rattle.rml_report.specs.declared.report.Axioms.TheVariants as axioms
 use Rattle.line_scan.specs.Scanning.{behind, number_at, most}
 use Rattle.line_scan.specs.Laws.{ScansAreExact}
 use Rattle.printed_report.specs.Lines.{IsCounted, IsLeast, IsLeastLine, IsAxiomsLine}
-use Rattle.report_read.specs.LineReading.{choose, on, behind_counted, ends, is_stop, stops_at, stops_at_some}
-use Rattle.report_read.specs.LineReading.{stops_at_relation, is_stopped, is_least_line, is_axioms_line, elements_in}
-use Rattle.report_read.specs.LineReading.{elements_end}
+use Rattle.report_values.specs.ValueReading.{choose, on}
+use Rattle.report_read.specs.LineReading.{behind_counted, ends, is_stop, stops_at, stops_at_some}
+use Rattle.report_values.specs.ValueReading.{elements_in}
+use Rattle.report_read.specs.LineReading.{stops_at_relation, is_stopped, is_least_line, is_axioms_line}
+use Rattle.report_values.specs.ValueReading.{elements_end}
 use Rattle.report_read.specs.Reading.{passing}
 use Rattle.report_read.proofs.Pieces.{apart6, passed_test, behind_then, number_then}
 use Rattle.report_read.proofs.Parts.{IsLine}

@@ -8,9 +8,10 @@ use Rattle.std.proofs.lemmas.List.Elements.{All-push, All-nil}
 use Rattle.fol_sig.specs.Tables.{tuple_count}
 use Rattle.rml_report.specs.TableText.{tuple_text}
 use Rattle.line_scan.specs.Scanning.{behind, number_at, is_end}
-use Rattle.report_read.specs.LineReading.{choose, on, behind_labelled, value_at, element_at, all_tuples, truths_end}
-use Rattle.report_read.specs.LineReading.{mapped_at, values_end, truth_end, relation_end, truths_in, variable_end}
-use Rattle.report_read.specs.LineReading.{values_in, size_in, size_end}
+use Rattle.report_values.specs.ValueReading.{choose, on, behind_labelled, value_at, element_at, all_tuples, truths_end}
+use Rattle.report_values.specs.ValueReading.{mapped_at, values_end, truth_end, relation_end, truths_in, variable_end}
+use Rattle.report_values.specs.ValueReading.{values_in}
+use Rattle.report_read.specs.LineReading.{size_in, size_end}
 use Rattle.report_read.proofs.LineLaws.{taken, kept}
 use Rattle.report_read.proofs.Tuples.{length-tuples_from}
 

@@ -15,10 +15,12 @@ use Rattle.rml_report.specs.declared.report.Axioms.TheVariants as axioms
 use Rattle.line_scan.specs.Scanning.{behind, number_at, is_end, most}
 use Rattle.line_scan.specs.Laws.{ScansAreExact, ends_number}
 use Rattle.printed_report.specs.Lines.{IsCounted, IsAxioms, IsAxiomsLine}
-use Rattle.report_read.specs.LineReading.{choose, on, behind_number, behind_counted, ends, is_open_axioms}
+use Rattle.report_values.specs.ValueReading.{choose, on}
+use Rattle.report_read.specs.LineReading.{behind_number, behind_counted, ends, is_open_axioms}
 use Rattle.report_read.specs.LineReading.{is_axioms_line}
-use Rattle.report_read.specs.LineReading.{behind_labelled, size_in, size_end, value_at, element_at}
-use Rattle.report_read.specs.LineReading.{elements_end}
+use Rattle.report_values.specs.ValueReading.{behind_labelled, value_at, element_at}
+use Rattle.report_read.specs.LineReading.{size_in, size_end}
+use Rattle.report_values.specs.ValueReading.{elements_end}
 
 pub record Chosen {A : Type 0} (o : Option A) (f : A → Bool) : Type 0 where
   pub value : A

@@ -1,6 +1,6 @@
 -- Lines without a line feed but at their end.
 use Rattle.std.proofs.Common.{◌≡◌, ℕ, zero, suc, ◌+◌, ◌<◌, ◌≤◌, ◌^◌, ◌%◌, Bool, true, false, List, [], ◌∷◌}
-use Rattle.std.proofs.Common.{◌++◌, length}
+use Rattle.std.proofs.Common.{◌++◌, length, Option, Some, None}
 use Rattle.std.proofs.Common.{refl, ap, cond, arith}
 use Rattle.std.specs.Prelude.{codes, decimal, slice_index, ◌==◌}
 use Rattle.std.specs.List.{AllByRecursion}
@@ -11,6 +11,10 @@ use Rattle.base.proofs.Lists.{all_push, all_more}
 use Rattle.fol_sig.specs.Tables.{Tables, IsStructure, IsFullFunction, relation_at, function_at, rel_at, fun_at, size_at}
 use Rattle.fol_sig.specs.Tables.{place_of}
 use Rattle.fol_sig.specs.Tuples.{join_below}
+use Rattle.fol_sig.specs.TupleSets.{has_tuple}
+use Rattle.rml_command.specs.Trees.{PrimitiveTree, assume, set_rel, set_fun, havoc, havoc_rel, abort}
+use Rattle.rml_command.specs.declared.havoc.Havoc.{Havoc}
+use Rattle.rml_command.specs.declared.havoc.Havoc.TheVariants.{Element, Tuples}
 use Rattle.rml_command.specs.declared.names.Names.{Names}
 use Rattle.rml_command.specs.declared.goal.Stage.{Stage}
 use Rattle.rml_command.specs.declared.goal.Stage.TheVariants as stage
@@ -18,7 +22,8 @@ use Rattle.rml_command.specs.declared.goal.About.{About}
 use Rattle.rml_command.specs.declared.goal.About.TheVariants as about
 use Rattle.rml_report.specs.Words.{name_at, labelled, truth_text, cause_text, numbers_text, numbers_line}
 use Rattle.rml_report.specs.TableText.{each_tuple, more_text, listed_text, tuple_text, cell_text}
-use Rattle.rml_report.specs.TableText.{values_text}
+use Rattle.rml_report.specs.TableText.{values_text, bare_text, member_text, set_text}
+use Rattle.rml_report.specs.HavocText.{element_text, relation_text, havocs_text, havoc_line}
 use Rattle.rml_report.specs.TableText.{symbol_label, symbol_line, sort_line, relation_line, function_line}
 use Rattle.rml_report.specs.ReportText.{stage_text, about_text, head_text, path_line, bound_text, stopped_text}
 use Rattle.rml_report.specs.ReportText.{least_text}
@@ -35,6 +40,7 @@ use Rattle.rml_report.specs.declared.report.Verdict.{Verdict}
 use Rattle.rml_report.specs.declared.report.Verdict.TheVariants as verdict
 use Rattle.line_scan.specs.Scanning.{most}
 use Rattle.line_scan.specs.Laws.{is_whole, is_none}
+use Rattle.printed_report.specs.Executions.{AreAsked, AreAskedAlong}
 use Rattle.printed_report.specs.Lines.{IsCause, IsCounted, IsAxioms}
 use Rattle.report_read.specs.Printing.{is_plain, ArePlain, HasPlainNames}
 use Rattle.report_read.proofs.Fitting.{no_function_table}
@@ -146,6 +152,51 @@ plain_truth : (t : Bool) → Plain (truth_text t)
 unfolding truth_text
 plain_truth true = refl
 plain_truth false = refl
+
+-- the line of a path's havocs
+plain_bare : (xs : List ℕ) → AreSmall xs → Plain (bare_text xs)
+unfolding bare_text
+plain_bare xs all =
+    plain_append (codes "(" ++ listed_text xs) (codes ")")
+    (plain_append (codes "(") (listed_text xs) refl (plain_listed xs all)) refl
+
+plain_set : (sizes : List ℕ) → ((k : ℕ) → slice_index sizes k ≤ most) → (ks : List ℕ) (xss : List (List ℕ))
+    → Plain (set_text sizes ks xss)
+plain_set sizes small [] xss = plain_truth (has_tuple xss [])
+plain_set sizes small (k ∷ ks) xss =
+    plain_append (codes "{" ++ each_tuple sizes (member_text xss) (k ∷ ks) []) (codes "}")
+    (plain_append (codes "{") (each_tuple sizes (member_text xss) (k ∷ ks) []) refl
+    (plain_each sizes small (member_text xss)
+    (λ xs all. plain_if (has_tuple xss xs) (bare_text xs) (plain_bare xs all)) (k ∷ ks) [] tt)) refl
+
+module _ (s : Tables) (small : (k : ℕ) → slice_index s.sizes k ≤ most) where
+  plain_havocs : (path : List PrimitiveTree) (hs : List Havoc) → AreAsked s path hs → Plain (havocs_text s path hs)
+  unfolding element_text relation_text
+  plain_havocs [] hs is = refl
+  plain_havocs (assume p ∷ qs) hs is = plain_havocs qs hs is.1
+  plain_havocs (set_rel r by ∷ qs) hs is = plain_havocs qs hs is.1
+  plain_havocs (set_fun f by ∷ qs) hs is = plain_havocs qs hs is.1
+  plain_havocs (havoc v ∷ qs) [] is = absurd is.0
+  plain_havocs (havoc v ∷ qs) (Element x ∷ hs) is =
+      plain_append (codes " " ++ decimal x) (havocs_text s qs hs)
+      (plain_append (codes " ") (decimal x) refl
+      (plain_decimal x (omega (arith, is.0, small (function_at s v).into)))) (plain_havocs qs hs is.1)
+  plain_havocs (havoc v ∷ qs) (Tuples xss ∷ hs) is = absurd is.0
+  plain_havocs (havoc_rel r ∷ qs) [] is = absurd is.0
+  plain_havocs (havoc_rel r ∷ qs) (Element x ∷ hs) is = absurd is.0
+  plain_havocs (havoc_rel r ∷ qs) (Tuples xss ∷ hs) is =
+      plain_append (codes " " ++ set_text s.sizes (relation_at s r).sorts xss) (havocs_text s qs hs)
+      (plain_append (codes " ") (set_text s.sizes (relation_at s r).sorts xss) refl
+      (plain_set s.sizes small (relation_at s r).sorts xss)) (plain_havocs qs hs is.1)
+  plain_havocs (abort ∷ qs) hs is = plain_havocs qs hs is.1
+
+  pub whole_havocs : (path : Option (List PrimitiveTree)) (hs : List Havoc) → AreAskedAlong s path hs
+      → Whole (havoc_line s path hs)
+  unfolding havoc_line
+  whole_havocs None hs is = absurd is
+  whole_havocs (Some path) hs is =
+      whole_line (codes "  havoc:" ++ havocs_text s path hs)
+      (plain_append (codes "  havoc:") (havocs_text s path hs) refl (plain_havocs path hs is))
 
 -- the lines of a structure
 module _ (names : Names) (plain : HasPlainNames names) (s : Tables) (whole : IsStructure s)

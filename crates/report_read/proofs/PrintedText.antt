@@ -9,13 +9,12 @@ use Rattle.base.specs.Lists.{count_from}
 use Rattle.base.proofs.Lists.{all_append}
 use Rattle.fol_sig.specs.Tables.{Tables, InRange, size_at}
 use Rattle.fol_sig.specs.Symbols.{FitsStructure, symbols}
-use Rattle.fol_sig.specs.Tuples.{join_below}
+use Rattle.fol_sig.specs.Tuples.{join_below, TuplesAreNumbered}
+use Rattle.fol_sig.specs.TupleSets.{TablesAreTuples}
 use Rattle.rml_command.specs.Trees.{PrimitiveTree}
-use Rattle.rml_command.specs.Models.{ModelTree, FitsPath, FitsSteps}
-use Rattle.rml_command.specs.Elements.{elements_of, havocs_of, TracesAreElements}
-use Rattle.rml_command.specs.Paths.{havoc_count}
+use Rattle.rml_command.specs.Models.{ModelTree, FitsPath}
 use Rattle.rml_command.specs.Fragment.{IsChecked}
-use Rattle.rml_command.specs.Outcomes.{Outcome, ended, aborted, follow_path}
+use Rattle.rml_command.specs.Outcomes.{Outcome, ended, follow_path}
 use Rattle.rml_command.specs.Goals.{stage_paths, goal_path, leading_sorts, IsGoal, FailsGoal}
 use Rattle.rml_command.specs.Laws.{UpdatesKeepSymbols, GoalPathsFit, PathsEndAtAbort}
 use Rattle.rml_command.specs.declared.names.Names.{Names}
@@ -25,6 +24,7 @@ use Rattle.rml_command.specs.declared.goal.About.{About}
 use Rattle.rml_command.specs.declared.goal.About.TheVariants as about
 use Rattle.rml_exec.specs.declared.trace.Counterexample.{Counterexample}
 use Rattle.rml_report.specs.Words.{numbers_line}
+use Rattle.rml_report.specs.HavocText.{havoc_line}
 use Rattle.rml_report.specs.TableText.{sort_line, relation_line, function_line, tables_text, sorts_text}
 use Rattle.rml_report.specs.ReportText.{head_text, path_line, least_line, undecided_text, axioms_text}
 use Rattle.rml_report.specs.ReportText.{verdict_text, outcome_of, followed, end_tables, end_text, outcome_text}
@@ -40,18 +40,19 @@ use Rattle.rml_report.specs.declared.report.Report.{Report}
 use Rattle.line_scan.specs.Lines.{lines_of}
 use Rattle.line_scan.specs.Scanning.{most}
 use Rattle.line_scan.specs.Laws.{join, LinesAreCut}
-use Rattle.printed_report.specs.Executions.{IsSize, sorts_along, HasEnd, IsExecution}
+use Rattle.printed_report.specs.Executions.{IsSize, HasEnd, IsExecution}
 use Rattle.printed_report.specs.Lines.{IsLeast, sort_lines, table_lines, end_lines, block_lines}
 use Rattle.printed_report.specs.PrintedReports.{Says, AreGroups, IsPrinted}
 use Rattle.report_read.specs.Printing.{end_of, printed_answer, answer_lines, group_lines, printed_groups, printed}
-use Rattle.report_read.specs.Printing.{HasPlainNames, CanPrint, CanBeRead, ReportsArePrinted}
+use Rattle.report_read.specs.Printing.{printed_shown, HasPlainNames, CanPrint, CanBeRead, ReportsArePrinted}
 use Rattle.report_read.proofs.Pieces.{apart4, apart5, numbered_below}
 use Rattle.report_read.proofs.LeastLines.{small_at}
 use Rattle.report_read.proofs.GroupLines.{few_paths}
-use Rattle.report_read.proofs.Following.{IsEndOf, ends_in, elements_fit}
+use Rattle.report_read.proofs.Following.{IsEndOf, ends_in}
+use Rattle.report_read.proofs.InOrder.{asked_along, same_line}
 use Rattle.report_read.proofs.Plain.{Whole, AreSmall, whole_numbers, whole_relation, whole_function, whole_sort}
 use Rattle.report_read.proofs.Plain.{whole_axioms, whole_verdict, whole_path, whole_head, whole_least, plain_stopped}
-use Rattle.report_read.proofs.Plain.{whole_undecided}
+use Rattle.report_read.proofs.Plain.{whole_undecided, whole_havocs}
 
 abbrev Lines : Type 0
 Lines = List (List ℕ)
@@ -109,7 +110,7 @@ in_range_small sizes small (k ∷ ks) [] h = absurd h
 in_range_small sizes small (k ∷ ks) (x ∷ xs) h = (omega (arith, h.0, small k), in_range_small sizes small ks xs h.1)
 
 module _ (cuts : LinesAreCut) (updates : UpdatesKeepSymbols) (law : GoalPathsFit) (ends : PathsEndAtAbort)
-    (traces : TracesAreElements) (m : ModelTree) (ok : IsChecked m) (plain : HasPlainNames m.names) where
+    (numbered : TuplesAreNumbered) (tables : TablesAreTuples) (m : ModelTree) (ok : IsChecked m) (plain : HasPlainNames m.names) where
   -- a structure's lines
   module _ (s : Tables) (fits : FitsStructure (symbols m.signature) s) (sizes : All IsSize s.sizes) where
     small : (k : ℕ) → slice_index s.sizes k ≤ most
@@ -134,9 +135,6 @@ module _ (cuts : LinesAreCut) (updates : UpdatesKeepSymbols) (law : GoalPathsFit
     abbrev path : List PrimitiveTree
     path = is.refutation.refutes.path
 
-    steps_fit : FitsSteps (symbols m.signature) is.refutation.refutes.path
-    steps_fit = law.steps_fit m shown.goal is.refutation.refutes.path ok.model.fits is.refutation.refutes.is_path
-
     path_fits : FitsPath (symbols m.signature) is.refutation.refutes.path
     path_fits = law.symbols_fit m shown.goal is.refutation.refutes.path ok.model.fits is.refutation.refutes.is_path
 
@@ -151,32 +149,6 @@ module _ (cuts : LinesAreCut) (updates : UpdatesKeepSymbols) (law : GoalPathsFit
     fails =
         subst (λ a. FailsGoal m a shown.values (outcome_of m shown)) same_about
         (subst (FailsGoal m shown.goal.about shown.values) (sym outcome) is.refutation.refutes.fails)
-
-    has_outcome : (a : About) (o : Option Outcome) → FailsGoal m a shown.values o → (r : Outcome) × (o ≡ Some r)
-    has_outcome about.Abort o f = (aborted, f.0)
-    has_outcome (about.Conjecture k) o f = (ended f.1, f.3)
-
-    taken : havocs_of (elements_of shown.trace.havoc) ≡ shown.trace.havoc
-    taken =
-        let o = has_outcome group.about (outcome_of m shown) fails in
-        traces.taken (symbols m.signature) m.axioms is.refutation.refutes.path shown.trace.havoc shown.structure o.0
-        steps_fit (ends.goals m shown.goal is.refutation.refutes.path is.refutation.refutes.is_path)
-        is.refutation.refutes.count (sym outcome ∙ o.1)
-
-    in_range : InRange shown.structure.sizes
-        (sorts_along (symbols m.signature) (goal_path m shown.goal)) (elements_of shown.trace.havoc)
-    in_range =
-        let o = has_outcome group.about (outcome_of m shown) fails in
-        subst (λ p. InRange shown.structure.sizes (sorts_along (symbols m.signature) p)
-        (elements_of shown.trace.havoc)) (sym is.refutation.refutes.is_path)
-        (elements_fit (symbols m.signature) updates m.axioms is.refutation.refutes.path shown.trace.havoc
-        shown.structure o.0 steps_fit
-        (ends.goals m shown.goal is.refutation.refutes.path is.refutation.refutes.is_path)
-        is.refutation.refutes.structure is.refutation.refutes.count (sym outcome ∙ o.1))
-
-    -- the path is that of the goal
-    same_path : is.refutation.refutes.path ≡ is.refutation.goal.path
-    same_path = let e = sym is.refutation.refutes.is_path ∙ is.refutation.goal.is_path in cc e
 
     -- how it ends
     end_is : (t : Tables) → outcome_of m shown ≡ Some (ended t) → IsEndOf (symbols m.signature) shown.structure t
@@ -199,16 +171,14 @@ module _ (cuts : LinesAreCut) (updates : UpdatesKeepSymbols) (law : GoalPathsFit
           subst (λ z. InRange z (leading_sorts f.0) shown.values) end.sizes f.4.in_range,
         )
 
-    execution : IsExecution m group paths shown (end_of group.about (outcome_of m shown))
+    execution : IsExecution m group paths (printed_shown m shown) (end_of group.about (outcome_of m shown))
     execution = record {
       goal = is.goal;
       is_goal = is.refutation.goal;
       count = count;
       structure = is.refutation.refutes.structure;
       sizes = sizes;
-      taken = is.refutation.refutes.count ∙ ap havoc_count same_path;
-      entries = taken;
-      havoc = in_range;
+      trace = asked_along numbered tables updates law ends m ok shown is.refutation.refutes;
       end = has_end group.about (outcome_of m shown) refl fails;
     }
 
@@ -231,14 +201,15 @@ module _ (cuts : LinesAreCut) (updates : UpdatesKeepSymbols) (law : GoalPathsFit
     abbrev after : Option Tables
     after = end_of group.about (outcome_of m shown)
 
-    join_block : (l : Least) → join (block_lines m.names group.about paths (least_line m.names l) shown
+    join_block : (l : Least) → join (block_lines m group.about paths (least_line m.names l) (printed_shown m shown)
         (end_of group.about (outcome_of m shown)))
         ≡ path_line shown.trace.path paths ++ (least_line m.names l ++ (codes "  before\n"
         ++ (sorts_text m.names shown.structure ++ (tables_text m.names shown.structure
-        ++ (numbers_line (codes "  havoc:") (elements_of shown.trace.havoc) ++ outcome_text m group.about shown)))))
+        ++ (havoc_line shown.structure (goal_path m shown.goal) shown.trace.havoc
+        ++ outcome_text m group.about shown)))))
     join_block l =
         let s : Tables = shown.structure in
-        let havoc : List ℕ = numbers_line (codes "  havoc:") (elements_of shown.trace.havoc) in
+        let havoc : List ℕ = havoc_line s (goal_path m shown.goal) (printed_shown m shown).trace.havoc in
         let last : Lines = end_lines m.names group.about shown.values (end_of group.about (outcome_of m shown)) in
         ap (λ t. path_line shown.trace.path paths ++ (least_line m.names l ++ (codes "  before\n" ++ t)))
         (join_append (sort_lines m.names s) (table_lines m.names s ++ havoc ∷ last)
@@ -247,15 +218,17 @@ module _ (cuts : LinesAreCut) (updates : UpdatesKeepSymbols) (law : GoalPathsFit
         (join_append (table_lines m.names s) (havoc ∷ last)
         ∙ ap (λ t. t ++ (havoc ++ join last)) (join_tables m.names s)
         ∙ ap (λ t. tables_text m.names s ++ (havoc ++ t))
-        (join_end group.about (outcome_of m shown) refl fails)))
+        (join_end group.about (outcome_of m shown) refl fails)
+        ∙ ap (λ t. tables_text m.names s ++ (t ++ outcome_text m group.about shown))
+        (same_line numbered tables updates law ends m ok shown is.refutation.refutes)))
 
     block_is : (l : Least) → block_text m group.about paths l shown
-        ≡ codes ": fails\n" ++ join (block_lines m.names group.about paths (least_line m.names l) shown
+        ≡ codes ": fails\n" ++ join (block_lines m group.about paths (least_line m.names l) (printed_shown m shown)
         (end_of group.about (outcome_of m shown)))
     unfolding block_text execution_text
     block_is l =
         let s : Tables = shown.structure in
-        let havoc : List ℕ = numbers_line (codes "  havoc:") (elements_of shown.trace.havoc) in
+        let havoc : List ℕ = havoc_line s (goal_path m shown.goal) shown.trace.havoc in
         apart4 (codes ": fails\n") (path_line shown.trace.path paths) (least_line m.names l)
         ((((codes "  before\n" ++ sorts_text m.names s) ++ tables_text m.names s) ++ havoc)
         ++ outcome_text m group.about shown)
@@ -298,11 +271,12 @@ module _ (cuts : LinesAreCut) (updates : UpdatesKeepSymbols) (law : GoalPathsFit
         )
 
     whole_block : (line : List ℕ) → Whole line
-        → AllByRecursion Whole (block_lines m.names group.about paths line shown
+        → AllByRecursion Whole (block_lines m group.about paths line (printed_shown m shown)
         (end_of group.about (outcome_of m shown)))
     whole_block line h =
         let s : Tables = shown.structure in
         let fs = is.refutation.refutes.structure in
+        let havoc : List ℕ = havoc_line s (goal_path m shown.goal) (printed_shown m shown).trace.havoc in
         let last : Lines = end_lines m.names group.about shown.values (end_of group.about (outcome_of m shown)) in (
           whole_path shown.trace.path paths small_path small_paths,
           (
@@ -310,15 +284,12 @@ module _ (cuts : LinesAreCut) (updates : UpdatesKeepSymbols) (law : GoalPathsFit
             (
               refl,
               all_append Whole (sort_lines m.names s)
-                  (table_lines m.names s ++ numbers_line (codes "  havoc:") (elements_of shown.trace.havoc) ∷ last)
+                  (table_lines m.names s ++ havoc ∷ last)
                   (whole_sorts s fs sizes)
-                  (all_append Whole (table_lines m.names s)
-                  (numbers_line (codes "  havoc:") (elements_of shown.trace.havoc) ∷ last)
+                  (all_append Whole (table_lines m.names s) (havoc ∷ last)
                   (whole_tables s fs sizes) (
-                    whole_numbers (codes "  havoc:") (elements_of shown.trace.havoc) refl
-                        (in_range_small s.sizes (small s fs sizes)
-                        (sorts_along (symbols m.signature) (goal_path m shown.goal))
-                        (elements_of shown.trace.havoc) in_range),
+                    whole_havocs s (small s fs sizes) (goal_path m shown.goal) (printed_shown m shown).trace.havoc
+                        (asked_along numbered tables updates law ends m ok shown is.refutation.refutes),
                     whole_end group.about (outcome_of m shown) refl fails (values_small group.about execution.end),
                   )),
             ),
@@ -340,7 +311,7 @@ module _ (cuts : LinesAreCut) (updates : UpdatesKeepSymbols) (law : GoalPathsFit
       (answer_lines m group.about (head_text m.names group.stage group.about) a)
   says reported.Holds group right can = refl
   says (reported.Fails paths l shown) group right can = (
-    block_lines m.names group.about paths (least_line m.names l) shown
+    block_lines m group.about paths (least_line m.names l) (printed_shown m shown)
         (end_of group.about (outcome_of m shown)),
     record {
       execution = execution group paths shown right.0 right.1 can.0;
@@ -380,7 +351,7 @@ module _ (cuts : LinesAreCut) (updates : UpdatesKeepSymbols) (law : GoalPathsFit
       → join (answer_lines m group.about head a) ≡ head ++ answer_text m group.about a
   answer_joined reported.Holds group right can head = append-nil (head ++ codes ": holds\n")
   answer_joined (reported.Fails paths l shown) group right can head =
-      append_assoc head (codes ": fails\n") (join (block_lines m.names group.about paths (least_line m.names l) shown
+      append_assoc head (codes ": fails\n") (join (block_lines m group.about paths (least_line m.names l) (printed_shown m shown)
       (end_of group.about (outcome_of m shown))))
       ∙ ap (λ t. head ++ t) (sym (block_is group paths shown right.0 right.1 can.0 l))
   answer_joined (reported.Undecided path cause) group right can head = append-nil (head ++ undecided_text path cause)
@@ -455,7 +426,7 @@ module _ (cuts : LinesAreCut) (updates : UpdatesKeepSymbols) (law : GoalPathsFit
       (sym (cuts.cut (report_lines r) (report_whole r right can)) ∙ ap lines_of (report_joined r right can))
       (report_printed r right can)
 
-pub are_printed : LinesAreCut → UpdatesKeepSymbols → GoalPathsFit → PathsEndAtAbort → TracesAreElements
-    → ReportsArePrinted
-are_printed cuts updates law ends traces = λ m r ok right can.
-    text_printed cuts updates law ends traces m ok can.names r right can
+pub are_printed : LinesAreCut → UpdatesKeepSymbols → GoalPathsFit → PathsEndAtAbort → TuplesAreNumbered
+    → TablesAreTuples → ReportsArePrinted
+are_printed cuts updates law ends numbered tables = λ m r ok right can.
+    text_printed cuts updates law ends numbered tables m ok can.names r right can

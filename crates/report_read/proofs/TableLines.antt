@@ -16,9 +16,9 @@ use Rattle.rml_report.specs.TableText.{symbol_label}
 use Rattle.fol_sig.specs.declared.symbol.Symbol.TheVariants as symbol
 use Rattle.line_scan.specs.Scanning.{behind, is_end, most}
 use Rattle.line_scan.specs.Laws.{ScansAreExact, ends_number}
-use Rattle.report_read.specs.LineReading.{choose, on, behind_labelled, value_at, element_at, all_tuples, truths_end}
-use Rattle.report_read.specs.LineReading.{mapped_at, values_end, truth_end, relation_end, truths_in, variable_end}
-use Rattle.report_read.specs.LineReading.{values_in}
+use Rattle.report_values.specs.ValueReading.{choose, on, behind_labelled, value_at, element_at, all_tuples, truths_end}
+use Rattle.report_values.specs.ValueReading.{mapped_at, values_end, truth_end, relation_end, truths_in, variable_end}
+use Rattle.report_values.specs.ValueReading.{values_in}
 use Rattle.report_read.proofs.Pieces.{apart5, behind_then}
 use Rattle.report_read.proofs.Parts.{IsLine}
 use Rattle.report_read.proofs.LineLaws.{taken, kept, are_words, labelled_there, labelled_sound, value_there}

@@ -21,7 +21,7 @@ use Rattle.rml_report.specs.TableText.{relation_line, function_line}
 use Rattle.line_scan.specs.Scanning.{most}
 use Rattle.line_scan.specs.Laws.{ScansAreExact}
 use Rattle.printed_report.specs.Lines.{table_lines}
-use Rattle.report_read.specs.LineReading.{truths_in, values_in}
+use Rattle.report_values.specs.ValueReading.{truths_in, values_in}
 use Rattle.report_read.specs.Reading.{read_truths, read_images, read_relations, read_functions, read_tables, AreSizes}
 use Rattle.report_read.specs.Reading.{HasTables}
 use Rattle.report_read.proofs.Parts.{Lines, IsPart, IsOne, IsBoth, part_as, nothing, one_part, both_part}

@@ -14,7 +14,7 @@ use Rattle.fol_sig.specs.Tuples.{join_below, tuples, tuple_at, AreNumbered}
 use Rattle.rml_report.specs.TableText.{each_tuple, more_text, tuple_text}
 use Rattle.line_scan.specs.Scanning.{behind, number_at, most}
 use Rattle.line_scan.specs.Laws.{ScansAreExact, ends_number}
-use Rattle.report_read.specs.LineReading.{tuples_from, all_tuples}
+use Rattle.report_values.specs.ValueReading.{tuples_from, all_tuples}
 
 -- the texts of those tuples that are true
 abbrev pub truths_text : List (List ℕ) → List Bool → List ℕ
@@ -73,7 +73,7 @@ module _ (x : ScansAreExact) (sizes : List ℕ) (small : (k : ℕ) → slice_ind
       (ends_more ys r) (ends_more zs s) a in
       ap (λ n. n ∷ ys) b.0 ∙ ap (λ (l : List ℕ). z ∷ l) (more_same ks ys zs r s h.1 k.1 b.1)
 
-  tuple_same : (ks xs ys r s : List ℕ) → InRange sizes ks xs → InRange sizes ks ys
+  pub tuple_same : (ks xs ys r s : List ℕ) → InRange sizes ks xs → InRange sizes ks ys
       → tuple_text xs ++ r ≡ tuple_text ys ++ s → xs ≡ ys
   unfolding tuple_text
   tuple_same [] [] [] r s h k e = refl
@@ -158,7 +158,7 @@ list_is (x ∷ xs) d f k (suc n) len h =
     (λ i lt. let s : k + suc i ≡ suc k + i = omega arith in h (suc i) (omega arith) ∙ ap f s) in
     ap (λ y. y ∷ xs) first ∙ ap (λ l. f k ∷ l) more
 
-tuples_are : (sizes ks : List ℕ) → AreNumbered sizes ks → tuples sizes ks ≡ all_tuples sizes ks
+pub tuples_are : (sizes ks : List ℕ) → AreNumbered sizes ks → tuples sizes ks ≡ all_tuples sizes ks
 tuples_are sizes ks num = list_is (tuples sizes ks) [] (tuple_at sizes ks) 0 (tuple_count sizes ks) num.count
     (λ i lt. let s : i ≡ 0 + i = omega arith in num.listed i lt ∙ ap (tuple_at sizes ks) s)
 

@@ -6,9 +6,9 @@ use Rattle.fol_sig.specs.Symbols.{FitsStructure, symbols}
 use Rattle.fol_sig.specs.Updates.{with_relation_cells, with_function_cells}
 use Rattle.fol_formula.specs.Syntax.{FormTree}
 use Rattle.rml_command.specs.Models.{ModelTree}
-use Rattle.rml_command.specs.Elements.{havocs_of}
 use Rattle.rml_command.specs.Goals.{stage_paths, goal_path, leading_sorts, groups_of}
 use Rattle.rml_command.specs.declared.names.Names.{Names}
+use Rattle.rml_command.specs.declared.havoc.Havoc.{Havoc}
 use Rattle.rml_command.specs.declared.goal.Head.{Head}
 use Rattle.rml_command.specs.declared.goal.Goal.{Goal}
 use Rattle.rml_command.specs.declared.goal.Stage.{Stage}
@@ -22,15 +22,17 @@ use Rattle.base.specs.declared.refused.Refused.{Refused}
 use Rattle.base.specs.declared.refused.Refused.TheVariants.{For, NoMemory}
 use Rattle.line_scan.specs.Lines.{first_of, LinesLeft}
 use Rattle.line_scan.specs.Scanning.{name_at}
-use Rattle.printed_report.specs.Executions.{sorts_along}
 use Rattle.printed_report.specs.declared.printed.Unread.{Unread}
 use Rattle.printed_report.specs.declared.printed.Printed.{Printed}
 use Rattle.printed_report.specs.declared.printed.PrintedGroup.{PrintedGroup}
 use Rattle.printed_report.specs.declared.printed.PrintedAnswer.{PrintedAnswer}
 use Rattle.printed_report.specs.declared.printed.PrintedAnswer.TheVariants as answer
 use Rattle.report_read.specs.Got.{Got, got, stuck, one, and_then}
-use Rattle.report_read.specs.LineReading.{is_axioms_line, is_least_line, head_in, path_in, size_in, elements_in}
-use Rattle.report_read.specs.LineReading.{truths_in, values_in, words_in, verdict_in}
+use Rattle.report_values.specs.ValueReading.{elements_in}
+use Rattle.report_read.specs.LineReading.{is_axioms_line, is_least_line, head_in, path_in, size_in}
+use Rattle.report_values.specs.ValueReading.{truths_in, values_in}
+use Rattle.report_read.specs.LineReading.{words_in, verdict_in}
+use Rattle.report_values.specs.HavocReading.{entries_along}
 use Rattle.report_read.specs.declared.heads.Standing.{Standing}
 use Rattle.report_read.specs.declared.heads.Standing.TheVariants as head
 use Rattle.report_read.specs.declared.block.End.{End}
@@ -92,8 +94,8 @@ read_structure m left = and_then (read_sizes m.names 0 m.signature.sorts [] left
 abbrev pub read_elements : List ℕ → List ℕ → List ℕ → LinesLeft → Got (List ℕ)
 read_elements sizes ks word left = one (elements_in sizes ks word (first_of left.lines)) left
 
-abbrev pub read_havoc : ModelTree → Goal → Tables → LinesLeft → Got (List ℕ)
-read_havoc m goal s = read_elements s.sizes (sorts_along (symbols m.signature) (goal_path m goal)) (codes "  havoc:")
+abbrev pub read_havoc : ModelTree → Goal → Tables → LinesLeft → Got (List Havoc)
+read_havoc m goal s left = one (entries_along s (goal_path m goal) (first_of left.lines)) left
 
 -- the sorts of the values of a conjecture
 abbrev pub value_sorts : Option FormTree → List ℕ
@@ -140,7 +142,7 @@ read_opening m group paths left =
     and_then (read_path m group paths left) (λ path more. and_then (read_least m more)
     (λ _ next. and_then (read_words (codes "  before\n") next) (λ _ rest. got path rest)))
 
--- the elements and the end
+-- the entries of the trace and the end
 abbrev pub read_course : ModelTree → Goal → Tables → LinesLeft → Got Course
 read_course m goal s left =
     and_then (read_havoc m goal s left) (λ havoc more. and_then (read_end m goal.about s more)
@@ -149,7 +151,7 @@ read_course m goal s left =
 abbrev pub shown_of : Head → ℕ → Tables → Course → Counterexample
 shown_of group path s course = record {
   structure = s;
-  trace = record { path = path; havoc = havocs_of course.havoc };
+  trace = record { path = path; havoc = course.havoc };
   goal = goal_at group path;
   values = course.end.values;
 }
@@ -157,7 +159,7 @@ shown_of group path s course = record {
 abbrev pub fails_of : Head → ℕ → ℕ → Tables → Course → PrintedAnswer
 fails_of group paths path s course = answer.Fails paths (shown_of group path s course) course.end.after
 
--- the structure, the elements and the end
+-- the structure, the trace and the end
 abbrev pub read_execution : ModelTree → Head → ℕ → ℕ → LinesLeft → Got PrintedAnswer
 read_execution m group paths path left =
     and_then (read_structure m left) (λ s more. and_then (read_course m (goal_at group path) s more)

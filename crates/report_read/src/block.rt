@@ -3,23 +3,28 @@ ghost use Rattle.std.specs.Prelude.{◌≡◌, ◌<◌, ◌≤◌, codes, All, l
 ghost use Rattle.fol_sig.specs.Tables.{numbers};
 ghost use Rattle.fol_sig.specs.Symbols.{FitsStructure, symbols};
 ghost use Rattle.rml_command.specs.Goals.{HasAbout, IsGoal, stage_paths};
+ghost use Rattle.rml_command.specs.Models.{FitsPath};
 ghost use Rattle.rml_report.specs.Reports.{goal_at};
+ghost use Rattle.line_scan.specs.Lines.{first_of};
+ghost use Rattle.report_read.specs.Got.{one};
+ghost use Rattle.report_values.specs.HavocReading.{entries_in};
 ghost use Rattle.report_read.specs.LineReading.{path_end, path_in};
 ghost use Rattle.report_read.specs.Reading.{Reads, read_words, read_path, read_least, read_opening};
 ghost use Rattle.report_read.specs.Reading.{read_structure, read_elements, read_havoc, read_values};
 ghost use Rattle.report_read.specs.Reading.{read_end_tables, read_after, read_abort, read_end, read_course};
 ghost use Rattle.report_read.specs.Reading.{fails_of, read_execution, read_block};
 
-use crate::elements::{elements_in, havoc_sorts, value_sorts};
 use crate::goals::{is_goal, path_count};
 use crate::opening::is_least_line;
 use crate::reader::Reader;
-use crate::tables::{read_sizes, read_tables};
+use crate::tables::{cells_along, read_sizes, read_tables};
+use crate::values::value_sorts;
 use base::{Mem, Refused, Row};
 use fol_sig::{Sort, Structure};
 use line_scan::Scan;
 use printed_report::{PrintedAnswer, Unread};
-use rml_command::{About, Checked, Goal, Stage, havocs_of};
+use report_values::{elements_in, entries_in};
+use rml_command::{About, Checked, Goal, Havoc, Path, Stage};
 use rml_exec::{Counterexample, Trace};
 use std::alloc::Global;
 
@@ -131,19 +136,49 @@ fn read_elements(
     Ok(elements)
 }
 
+// The entries of the path's havocs.
+fn read_entries(
+    reader: &mut Reader,
+    checked: &Checked,
+    path: &Path,
+    structure: &Structure,
+    sizes: &[u32],
+) -> Result<Row<Havoc>, Refused<Unread>>
+    requires path { FitsPath (symbols checked.now.signature) path.now }
+    requires structure { FitsStructure (symbols checked.now.signature) structure.now }
+    requires sizes { sizes.now ≡ structure.now.sizes }
+    ensures { Reads (one (entries_in structure.now path.now (first_of reader.old.lines)) reader.old) reader.new result }
+{
+    let Some(entries) = entries_in(
+        reader.alloc(),
+        reader.first(),
+        checked,
+        path,
+        structure,
+        sizes,
+    )?
+    else {
+        return Err(reader.unread());
+    };
+    reader.pass();
+    Ok(entries)
+}
+
 fn read_havoc(
     reader: &mut Reader,
     checked: &Checked,
     goal: &Goal,
     structure: &Structure,
-) -> Result<Row<u32>, Refused<Unread>>
+) -> Result<Row<Havoc>, Refused<Unread>>
     requires goal { IsGoal checked.now goal.now }
     requires structure { FitsStructure (symbols checked.now.signature) structure.now }
     ensures { Reads (read_havoc checked.now goal.now structure.now reader.old) reader.new result }
 {
-    let sorts = havoc_sorts(reader.alloc(), checked, &checked.path(goal), structure)?;
-    let elements = read_elements(reader, "  havoc:", structure, sorts.as_slice())?;
-    Ok(elements)
+    let path = checked.path(goal);
+    let sizes = sizes_of(reader.alloc(), checked, structure)?;
+    reader.take_room(cells_along(checked, &path, sizes.as_slice()))?;
+    let entries = read_entries(reader, checked, &path, structure, sizes.as_slice())?;
+    Ok(entries)
 }
 
 fn read_values(
@@ -245,10 +280,10 @@ fn read_end(
     }
 }
 
-/// The elements of the havocs, and how the path ends.
+/// The trace of the path, and how it ends.
 #[derive(Drop)]
 struct Course {
-    havoc: Row<u32>,
+    havoc: Row<Havoc>,
     end: End,
 }
 
@@ -269,39 +304,27 @@ fn read_course(
 }
 
 // What is shown of a group that fails.
-fn fails_of(
-    alloc: Global,
-    goal: &Goal,
-    paths: u32,
-    structure: Structure,
-    course: Course,
-) -> Mem<PrintedAnswer>
-    ensures { IfOk result (λ answer. answer ≡ fails_of (record { stage = goal.now.stage; about = goal.now.about })
-        paths goal.now.path structure course) }
+fn fails_of(goal: &Goal, paths: u32, structure: Structure, course: Course) -> PrintedAnswer
+    ensures { result ≡ fails_of
+        (record { stage = goal.now.stage; about = goal.now.about }) paths goal.now.path structure
+        course }
 {
-    match havocs_of(alloc, course.havoc.as_slice()) {
-        Ok(havoc) => Ok(PrintedAnswer::Fails {
-            paths,
-            shown: Counterexample {
-                structure,
-                trace: Trace {
-                    path: goal.path,
-                    havoc,
-                },
-                goal: *goal,
-                values: course.end.values,
+    PrintedAnswer::Fails {
+        paths,
+        shown: Counterexample {
+            structure,
+            trace: Trace {
+                path: goal.path,
+                havoc: course.havoc,
             },
-            after: course.end.after,
-        }),
-        Err(wanting) => {
-            drop(structure);
-            drop(course);
-            Err(wanting)
-        }
+            goal: *goal,
+            values: course.end.values,
+        },
+        after: course.end.after,
     }
 }
 
-// The structure, the elements and the end.
+// The structure, the trace and the end.
 fn read_execution(
     reader: &mut Reader,
     checked: &Checked,
@@ -314,10 +337,7 @@ fn read_execution(
 {
     let structure = read_structure(reader, checked)?;
     match read_course(reader, checked, goal, &structure) {
-        Ok(course) => {
-            let answer = fails_of(reader.alloc(), goal, paths, structure, course)?;
-            Ok(answer)
-        }
+        Ok(course) => Ok(fails_of(goal, paths, structure, course)),
         Err(refused) => {
             drop(structure);
             Err(refused)

@@ -3,8 +3,6 @@
 #![tactic(auto)]
 
 mod block;
-mod cells;
-mod elements;
 mod goals;
 mod groups;
 mod heads;
@@ -13,6 +11,7 @@ mod opening;
 mod reader;
 mod reading;
 mod tables;
+mod values;
 
 pub use laws::print_laws;
 pub use reading::read_report;

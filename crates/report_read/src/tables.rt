@@ -2,19 +2,20 @@
 ghost use Rattle.std.specs.Prelude.{◌≡◌, ◌<◌, ◌≤◌, [], All, length, IfOk};
 ghost use Rattle.fol_sig.specs.Tables.{blank, relation_at, function_at, tuple_count, size_at, IsStructure};
 ghost use Rattle.fol_sig.specs.Symbols.{FitsStructure, symbols};
+ghost use Rattle.rml_command.specs.Models.{FitsPath};
 ghost use Rattle.line_scan.specs.Scanning.{name_at};
 ghost use Rattle.report_read.specs.LineReading.{size_end, size_in};
 ghost use Rattle.report_read.specs.Reading.{Reads, read_sizes, read_truths, read_images, read_relations};
 ghost use Rattle.report_read.specs.Reading.{read_functions, read_tables, AreSizes, HasTables};
 
-use crate::cells::{behind_labelled, truths_in, values_in};
 use crate::opening::is_up_to;
 use crate::reader::Reader;
 use base::{Refused, Row};
 use fol_sig::{FunId, RelId, Sort, Structure};
 use line_scan::Scan;
 use printed_report::Unread;
-use rml_command::{Checked, Name};
+use report_values::{behind_labelled, truths_in, values_in};
+use rml_command::{Checked, Name, Path, Primitive};
 
 fn size_end(scan: &Scan) -> Option<u32>
     ensures { result ≡ size_end scan.now }
@@ -75,6 +76,20 @@ fn cells_of(checked: &Checked, sizes: &[u32]) -> u64 {
     }
     for fun in 0..signature.function_count() {
         count = count.saturating_add(tuples_of(sizes, signature.from_of(FunId(fun))));
+    }
+    count
+}
+
+/// How many cells the tables have that a path's havocs give, as far as a number goes.
+pub fn cells_along(checked: &Checked, path: &Path, sizes: &[u32]) -> u64
+    requires { FitsPath (symbols checked.now.signature) path.now }
+{
+    let signature = checked.model().signature();
+    let mut count = 0u64;
+    for primitive in path.primitives() {
+        if let Primitive::HavocRel(rel) = primitive {
+            count = count.saturating_add(tuples_of(sizes, signature.sorts_of(*rel)));
+        }
     }
     count
 }

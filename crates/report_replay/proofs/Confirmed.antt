@@ -9,7 +9,7 @@ use Rattle.fol_sig.specs.Tables.{reading}
 use Rattle.fol_sig.specs.Tuples.{tuple_at, TuplesAreNumbered}
 use Rattle.fol_formula.specs.Syntax.{FormTree}
 use Rattle.fol_formula.specs.Truth.{truth, all_below, same_truth}
-use Rattle.rml_command.specs.Trees.{PrimitiveTree}
+use Rattle.rml_command.specs.Trees.{PrimitiveTree, assume, set_rel, set_fun, havoc, havoc_rel, abort}
 use Rattle.base.specs.Lists.{count_from}
 use Rattle.rml_command.specs.Outcomes.{Outcome, ended, aborted, satisfies, follow_path}
 use Rattle.rml_command.specs.Paths.{has_abort, havoc_count}
@@ -19,6 +19,7 @@ use Rattle.rml_command.specs.Goals.{leading_sorts, body_of}
 use Rattle.rml_command.specs.Laws.{PathHasFollowedOutcomes, PathsKeepKind}
 use Rattle.rml_command.specs.declared.goal.Goal.{Goal}
 use Rattle.rml_command.specs.declared.havoc.Havoc.{Havoc}
+use Rattle.rml_command.specs.declared.havoc.Havoc.TheVariants.{Element, Tuples}
 use Rattle.rml_command.specs.declared.goal.Stage.{Stage}
 use Rattle.rml_command.specs.declared.goal.Stage.TheVariants as stage
 use Rattle.rml_command.specs.declared.goal.About.{About}
@@ -27,7 +28,7 @@ use Rattle.rml_exec.specs.declared.trace.Counterexample.{Counterexample}
 use Rattle.rml_report.specs.ReportText.{outcome_of, followed}
 use Rattle.rml_report.specs.declared.report.Verdict.{Verdict}
 use Rattle.rml_report.specs.declared.report.Verdict.TheVariants as verdict
-use Rattle.printed_report.specs.Executions.{IsExecution, HasEnd}
+use Rattle.printed_report.specs.Executions.{AreAsked, AreAskedAlong, IsExecution, HasEnd}
 use Rattle.printed_report.specs.declared.printed.Printed.{Printed}
 use Rattle.printed_report.specs.declared.printed.PrintedGroup.{PrintedGroup}
 use Rattle.printed_report.specs.declared.printed.PrintedAnswer.{PrintedAnswer}
@@ -160,6 +161,21 @@ module _ (numbered : TuplesAreNumbered) (t s : Tables) where
             (function_demands t s (line + length m.signature.relations) 0 (length m.signature.functions)) e) lt)) xs
             range;
       }
+
+-- what a path asks for is an entry for each havoc
+asked_count : (s : Tables) (path : List PrimitiveTree) (hs : List Havoc) → AreAsked s path hs
+    → length hs ≡ havoc_count path
+asked_count s [] hs is = ap (length {A = Havoc}) is
+asked_count s (assume p ∷ qs) hs is = asked_count s qs hs is.1
+asked_count s (set_rel r by ∷ qs) hs is = asked_count s qs hs is.1
+asked_count s (set_fun f by ∷ qs) hs is = asked_count s qs hs is.1
+asked_count s (havoc v ∷ qs) [] is = absurd is.0
+asked_count s (havoc v ∷ qs) (Element x ∷ hs) is = ap suc (asked_count s qs hs is.1)
+asked_count s (havoc v ∷ qs) (Tuples xss ∷ hs) is = absurd is.0
+asked_count s (havoc_rel r ∷ qs) [] is = absurd is.0
+asked_count s (havoc_rel r ∷ qs) (Element x ∷ hs) is = absurd is.0
+asked_count s (havoc_rel r ∷ qs) (Tuples xss ∷ hs) is = ap suc (asked_count s qs hs is.1)
+asked_count s (abort ∷ qs) hs is = asked_count s qs hs is.1
 
 -- a path of this kind, followed with an entry for each havoc
 module _ (by_paths : PathHasFollowedOutcomes) (kinds : PathsKeepKind) (ax : List FormTree) (path : List PrimitiveTree)
@@ -312,7 +328,9 @@ module _ (numbered : TuplesAreNumbered) (by_paths : PathHasFollowedOutcomes) (ki
         let about_is : shown.goal.about ≡ g.about = ap (λ (x : Goal). x.about) exec.goal in
         let out : outcome_of m shown ≡ follow_path m.axioms exec.is_goal.path shown.trace.havoc shown.structure =
         ap (λ o. followed m o shown) is_path in
-        let count : length shown.trace.havoc ≡ havoc_count exec.is_goal.path = exec.taken in
+        let count : length shown.trace.havoc ≡ havoc_count exec.is_goal.path =
+        asked_count shown.structure exec.is_goal.path shown.trace.havoc
+        (subst (λ o. AreAskedAlong shown.structure o shown.trace.havoc) is_path exec.trace) in
         let so = are_met m g shown after met in
         let ends = ends_so numbered m g shown g.about after (outcome_of m shown) exec.is_goal.path
         (subst (λ a. is_for a exec.is_goal.path ≡ true) about_is exec.is_goal.kind)

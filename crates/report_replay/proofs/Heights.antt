@@ -6,14 +6,14 @@ use Rattle.base.specs.Lists.{count_from}
 use Rattle.fol_sig.specs.Tables.{Tables, size_at}
 use Rattle.fol_sig.specs.Symbols.{FitsStructure, symbols}
 use Rattle.rml_command.specs.Models.{ModelTree}
-use Rattle.rml_command.specs.Elements.{elements_of}
-use Rattle.rml_command.specs.Goals.{groups_of}
+use Rattle.rml_command.specs.Goals.{groups_of, goal_path}
 use Rattle.rml_command.specs.declared.names.Names.{Names}
 use Rattle.rml_command.specs.declared.goal.Head.{Head}
 use Rattle.rml_command.specs.declared.goal.About.{About}
 use Rattle.rml_command.specs.declared.goal.About.TheVariants as about
 use Rattle.rml_exec.specs.declared.trace.Counterexample.{Counterexample}
 use Rattle.rml_report.specs.Words.{numbers_line}
+use Rattle.rml_report.specs.HavocText.{havoc_line}
 use Rattle.rml_report.specs.TableText.{sort_line, relation_line, function_line}
 use Rattle.rml_report.specs.ReportText.{verdict_text}
 use Rattle.printed_report.specs.Executions.{IsExecution, HasEnd}
@@ -67,7 +67,7 @@ fails_takes m (about.Conjecture k) = omega arith
 
 block_takes : (m : ModelTree) (group : Head) (paths : ℕ) (least : List ℕ) (shown : Counterexample)
     (after : Option Tables) → IsExecution m group paths shown after
-    → 1 + length (block_lines m.names group.about paths least shown after) ≡ fails_height m group.about
+    → 1 + length (block_lines m group.about paths least shown after) ≡ fails_height m group.about
 block_takes m group paths least shown after exec =
     let end_of : List (List ℕ) = end_lines m.names group.about shown.values after in
     let sorts = sorts_take m.names shown.structure in
@@ -75,12 +75,12 @@ block_takes m group paths least shown after exec =
     let tables = tables_take m shown.structure exec.structure in
     let last = end_takes m group.about shown.structure shown.values after exec.end in
     let inner = length-append (table_lines m.names shown.structure)
-    (numbers_line (codes "  havoc:") (elements_of shown.trace.havoc) ∷ end_lines m.names group.about shown.values
+    (havoc_line shown.structure (goal_path m shown.goal) shown.trace.havoc ∷ end_lines m.names group.about shown.values
     after) in
     let outer = length-append (sort_lines m.names shown.structure)
     (table_lines m.names shown.structure
-    ++ numbers_line (codes "  havoc:") (elements_of shown.trace.havoc) ∷ end_lines m.names group.about shown.values
-    after) in
+    ++ havoc_line shown.structure (goal_path m shown.goal) shown.trace.havoc ∷ end_lines m.names group.about
+    shown.values after) in
     let whole = fails_takes m group.about in
     omega (arith, sorts, of_sig, tables, last, inner, outer, whole)
 

@@ -1,7 +1,8 @@
--- Each tuple of a symbol's arguments is one of its cells.
+-- Each tuple of a symbol's arguments is one of its cells, and each sort of them has a size.
 use Rattle.std.proofs.Common.{ℕ, suc, ◌<◌, List, [], ◌∷◌, ◌++◌, length, All, append_assoc, append-nil, slice_index}
 use Rattle.std.proofs.Common.{arith}
-use Rattle.std.proofs.lemmas.List.Elements.{All-get_or}
+use Rattle.std.specs.List.{AllByRecursion}
+use Rattle.std.proofs.lemmas.List.Elements.{All-get_or, recursion_from_All}
 use Rattle.fol_sig.specs.Tables.{Tables, InRange, IsStructure, IsFullRelation, IsFullFunction, relation_at, function_at}
 use Rattle.fol_sig.specs.declared.symbol.Symbol.{Symbol}
 use Rattle.fol_sig.specs.declared.symbol.Symbol.TheVariants as symbol
@@ -36,3 +37,10 @@ module _ (s : Tables) where
       each_in_range (IsCell s (symbol.Function f)) (function_at s f.0).sorts [] []
       (All-get_or (IsFullFunction s.sizes) s.functions f.0 (record { sorts = []; into = 0; cells = [] }) lt
       whole.functions_full).sorted tt (λ xs h. (lt, h))
+
+  pub sorts_known : (r : ℕ) → IsStructure s → r < length s.relations
+      → AllByRecursion (λ k. k < length s.sizes) (relation_at s r).sorts
+  sorts_known r whole lt =
+      recursion_from_All (λ k. k < length s.sizes) (relation_at s r).sorts
+      (All-get_or (IsFullRelation s.sizes) s.relations r (record { sorts = []; cells = [] }) lt
+      whole.relations_full).sorted

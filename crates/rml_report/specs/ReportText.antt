@@ -5,7 +5,6 @@ use Rattle.std.specs.Fmt.{decimal}
 use Rattle.rml_command.specs.Trees.{PrimitiveTree}
 use Rattle.rml_command.specs.Outcomes.{Outcome, ended, aborted, follow_path}
 use Rattle.rml_command.specs.Models.{ModelTree}
-use Rattle.rml_command.specs.Elements.{elements_of}
 use Rattle.rml_command.specs.Goals.{goal_path}
 use Rattle.rml_command.specs.declared.names.Names.{Names}
 use Rattle.rml_command.specs.declared.goal.Stage.{Stage}
@@ -15,6 +14,7 @@ use Rattle.rml_command.specs.declared.goal.About.TheVariants as about
 use Rattle.rml_exec.specs.declared.trace.Counterexample.{Counterexample}
 use Rattle.rml_report.specs.Words.{name_at, labelled, cause_text, numbers_line}
 use Rattle.rml_report.specs.TableText.{tables_text, sorts_text}
+use Rattle.rml_report.specs.HavocText.{havoc_line}
 use Rattle.rml_report.specs.declared.cause.Bound.{Bound}
 use Rattle.rml_report.specs.declared.cause.Bound.TheVariants as at
 use Rattle.rml_report.specs.declared.cause.Cause.{Cause}
@@ -84,12 +84,11 @@ abbrev pub outcome_text : ModelTree → About → Counterexample → List ℕ
 outcome_text m about.Abort shown = codes "  aborts\n"
 outcome_text m (about.Conjecture k) shown = end_text m shown
 
--- An execution: the structure in which it begins, the elements of its havocs, and how it ends. No model havocs a
--- relation, so its havocs have elements alone.
+-- An execution: the structure in which it begins, the elements and tables of its havocs, and how it ends.
 unfoldable pub execution_text : ModelTree → About → Counterexample → List ℕ
 execution_text m a shown =
     codes "  before\n" ++ sorts_text m.names shown.structure ++ tables_text m.names shown.structure
-    ++ numbers_line (codes "  havoc:") (elements_of shown.trace.havoc) ++ outcome_text m a shown
+    ++ havoc_line shown.structure (goal_path m shown.goal) shown.trace.havoc ++ outcome_text m a shown
 
 unfoldable pub block_text : ModelTree → About → ℕ → Least → Counterexample → List ℕ
 block_text m a paths l shown =

@@ -6,6 +6,7 @@ use Rattle.fol_sig.specs.declared.symbol.Symbol.TheVariants as symbol
 use Rattle.fol_sig.specs.Tables.{Tables, size_at, rel_at, fun_at}
 use Rattle.fol_sig.specs.SymbolTables.{arguments_of}
 use Rattle.fol_sig.specs.Tuples.{join_below}
+use Rattle.fol_sig.specs.TupleSets.{has_tuple}
 use Rattle.rml_command.specs.declared.names.Names.{Names}
 use Rattle.rml_report.specs.Words.{name_at, labelled, truth_text}
 
@@ -28,6 +29,20 @@ listed_text (x ∷ xs) = decimal x ++ more_text xs
 -- a blank, and a tuple as (0,1)
 unfoldable pub tuple_text : List ℕ → List ℕ
 tuple_text xs = codes " (" ++ listed_text xs ++ codes ")"
+
+-- a tuple as (0,1), without the blank
+unfoldable pub bare_text : List ℕ → List ℕ
+bare_text xs = codes "(" ++ listed_text xs ++ codes ")"
+
+-- a tuple, where it is one of these
+abbrev pub member_text : List (List ℕ) → List ℕ → List ℕ
+member_text xss xs = if has_tuple xss xs then bare_text xs else []
+
+-- The table of a relation over these sorts that is true of these tuples: without arguments whether it is true, else the
+-- tuples in braces, in lexicographic order.
+abbrev pub set_text : List ℕ → List ℕ → List (List ℕ) → List ℕ
+set_text sizes [] xss = truth_text (has_tuple xss [])
+set_text sizes (k ∷ ks) xss = codes "{" ++ each_tuple sizes (member_text xss) (k ∷ ks) [] ++ codes "}"
 
 -- a true tuple of a relation; each tuple of a function, with the value there
 abbrev pub cell_text : Tables → Symbol → List ℕ → List ℕ

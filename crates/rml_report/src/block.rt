@@ -6,10 +6,11 @@ ghost use Rattle.rml_report.specs.ReportText.{least_line, outcome_of, end_tables
 ghost use Rattle.rml_report.specs.ReportText.{end_text, outcome_text, execution_text, block_text};
 
 use crate::cause::{Bound, Cause, Least};
+use crate::havocs::push_havoc_line;
 use crate::structures::{push_sorts, push_tables};
 use crate::words::{push_cause, push_labelled, push_name, push_numbers_line};
 use base::{Mem, push_number, push_text};
-use rml_command::{About, Checked, Names, elements_of};
+use rml_command::{About, Checked, Names};
 use rml_exec::{Counterexample, Followed, follow};
 use std::alloc::Global;
 
@@ -119,7 +120,8 @@ fn push_outcome(
     }
 }
 
-/// Adds the lines of an execution: the structure in which it begins, the elements of its havocs, and how it ends.
+/// Adds the lines of an execution: the structure in which it begins, the elements and tables of its havocs, and how it
+/// ends.
 #[tactic(auto, using(std::proofs::Common::append_assoc), unfolding(crate::specs::ReportText::execution_text))]
 pub fn push_execution(
     alloc: Global,
@@ -132,11 +134,17 @@ pub fn push_execution(
     ensures { OnOk result (out.new.items ≡ out.old.items ++ execution_text checked.now about shown.now) }
 {
     let model = checked.model();
-    let elements = elements_of(alloc, shown.trace.havoc.as_slice())?;
     push_text(out, "  before\n")?;
     push_sorts(out, model, &shown.structure)?;
     push_tables(alloc, out, model, &shown.structure)?;
-    push_numbers_line(out, "  havoc:", elements.as_slice())?;
+    push_havoc_line(
+        alloc,
+        out,
+        checked,
+        &checked.path(&shown.goal),
+        &shown.structure,
+        shown.trace.havoc.as_slice(),
+    )?;
     push_outcome(alloc, out, checked, about, shown)?;
     Ok(())
 }

@@ -3,6 +3,7 @@
 
 mod block;
 mod cause;
+mod havocs;
 mod laws;
 mod rendering;
 mod report;
@@ -11,6 +12,7 @@ mod words;
 
 pub use block::{push_execution, push_path_line};
 pub use cause::{Bound, Cause, Least};
+pub use havocs::push_havoc_line;
 pub use laws::{rendering_law, report_law};
 pub use rendering::{push_head, push_stage, render};
 pub use report::{Answer, Axioms, Group, Report, Verdict};

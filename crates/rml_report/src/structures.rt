@@ -31,7 +31,7 @@ fn push_more(out: &mut Vec<u8>, elements: &[u32]) -> Mem<()>
 
 // The numbers, with a comma between them.
 #[tactic(auto, using(std::proofs::Common::append_assoc))]
-fn push_listed(out: &mut Vec<u8>, elements: &[u32]) -> Mem<()>
+pub(crate) fn push_listed(out: &mut Vec<u8>, elements: &[u32]) -> Mem<()>
     ensures { OnOk result (out.new.items ≡ out.old.items ++ listed_text elements.now) }
 {
     if let [first, more @ ..] = elements {

@@ -1,0 +1,2 @@
+pub mod ValueReading
+pub mod HavocReading
