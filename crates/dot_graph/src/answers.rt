@@ -1,13 +1,18 @@
-// The graphs of a report.
+// The graphs of what is answered: of a report, of what is dropped, and of a run.
 ghost use Rattle.std.specs.Prelude.{◌≡◌, ◌++◌, OnOk, IfOk};
 ghost use Rattle.std.specs.List.{AllByRecursion};
 ghost use Rattle.rml_report.specs.Reports.{CanRender};
-ghost use Rattle.dot_graph.specs.AnswerGraphs.{group_graph, group_graphs};
+ghost use Rattle.rml_houdini.specs.HoudiniText as dropping;
+ghost use Rattle.bounded_text.specs.BoundedText.{EndFits, CanShow};
+ghost use Rattle.dot_graph.specs.AnswerGraphs.{group_graph, group_graphs, drop_graphs};
+ghost use Rattle.dot_graph.specs.AnswerGraphs.{end_graph, part_graphs, run_graphs};
 
-use crate::graphs::push_counterexample_graph;
+use crate::graphs::{push_counterexample_graph, push_state_graph};
 use base::Mem;
+use rml_bmc::{Part, Run};
 use rml_command::Checked;
-use rml_report::{Answer, Group};
+use rml_houdini::Dropped;
+use rml_report::{Answer, Group, push_stage};
 use std::alloc::Global;
 
 // A group that fails.
@@ -47,5 +52,83 @@ pub fn report_graphs(alloc: Global, checked: &Checked, groups: &[Group]) -> Mem<
         number += 1;
         rest = after;
     }
+    Ok(out)
+}
+
+/// The executions that break the conjectures that were dropped. Each has the number of its drop, from 1.
+#[tactic(auto, using(std::proofs::Common::append_assoc))]
+pub fn drops_graphs(alloc: Global, checked: &Checked, drops: &[Dropped]) -> Mem<Vec<u8>>
+    requires { AllByRecursion (dropping.CanRender checked.now) drops.now }
+    ensures { IfOk result (λ text. text.items ≡ drop_graphs 1 checked.now drops.now) }
+{
+    // That their number is one of 63 bits is known where it is looked at.
+    let _count = drops.len();
+    let mut out = Vec::new(alloc);
+    let mut number: u64 = 1;
+    let mut rest = drops;
+    while let [drop, after @ ..] = rest {
+        push_counterexample_graph(alloc, &mut out, number, checked, &drop.shown)?;
+        number += 1;
+        rest = after;
+    }
+    Ok(out)
+}
+
+// Where a part ends.
+fn push_end(
+    alloc: Global,
+    out: &mut Vec<u8>,
+    number: u64,
+    checked: &Checked,
+    part: &Part,
+) -> Mem<()>
+    requires { EndFits checked.now part.now.end }
+    ensures { OnOk result (out.new.items ≡ out.old.items
+        ++ end_graph number checked.now.names part.now.stage part.now.end) }
+{
+    match &part.end {
+        None => Ok(()),
+        Some(end) => {
+            let mut title = Vec::new(alloc);
+            push_stage(&mut title, checked.model().names(), part.stage)?;
+            push_state_graph(alloc, out, number, &title, checked.model(), end)?;
+            Ok(())
+        }
+    }
+}
+
+#[tactic(auto, using(std::proofs::Common::append_assoc))]
+fn push_ends(alloc: Global, out: &mut Vec<u8>, checked: &Checked, parts: &[Part]) -> Mem<()>
+    requires { AllByRecursion (λ part. EndFits checked.now part.end) parts.now }
+    ensures { OnOk result (out.new.items ≡ out.old.items ++ part_graphs 1 checked.now parts.now) }
+{
+    // That their number is one of 63 bits is known where it is looked at.
+    let _count = parts.len();
+    let mut number: u64 = 1;
+    let mut rest = parts;
+    while let [part, after @ ..] = rest {
+        push_end(alloc, out, number, checked, part)?;
+        number += 1;
+        rest = after;
+    }
+    Ok(())
+}
+
+/// The states of a run: its start, and the end of each part under the stage that leads there.
+#[tactic(auto, using(std::proofs::Common::append_assoc), unfolding(crate::specs::AnswerGraphs::run_graphs))]
+pub fn run_graphs(alloc: Global, checked: &Checked, run: &Run) -> Mem<Vec<u8>>
+    requires { CanShow checked.now run.now }
+    ensures { IfOk result (λ text. text.items ≡ run_graphs checked.now run.now) }
+{
+    let mut out = Vec::new(alloc);
+    push_state_graph(
+        alloc,
+        &mut out,
+        0,
+        "start".as_bytes(),
+        checked.model(),
+        &run.start,
+    )?;
+    push_ends(alloc, &mut out, checked, run.parts.as_slice())?;
     Ok(out)
 }

@@ -1,7 +1,8 @@
 //! Pictures of states and steps, as graphs in the language of Graphviz. An element is a node in the frame of its sort,
 //! marked with the relations that are true of it alone and with the variables that are it; a pair of elements is an
 //! edge, and a longer tuple a small node with edges. A step has its two structures side by side, and in red what
-//! differs. Of a report all counterexamples are drawn, each under a name of its own.
+//! differs. Of a report all counterexamples are drawn, of what is dropped each execution that breaks a conjecture, and
+//! of a run each state; the graphs of one text have names of their own.
 //!
 //! Labels stand between `<` and `>` and are not escaped: the names of a model are letters, digits and `_`.
 #![tactic(auto)]
@@ -12,5 +13,5 @@ mod graphs;
 mod lines;
 mod nodes;
 
-pub use answers::report_graphs;
+pub use answers::{drops_graphs, report_graphs, run_graphs};
 pub use graphs::{push_counterexample_graph, push_state_graph, push_step_graph};

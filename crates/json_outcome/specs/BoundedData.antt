@@ -5,7 +5,6 @@ use Rattle.base.specs.Lists.{numbered}
 use Rattle.fol_sig.specs.Tables.{Tables}
 use Rattle.rml_command.specs.Trees.{PrimitiveTree}
 use Rattle.rml_command.specs.Models.{ModelTree}
-use Rattle.rml_command.specs.Elements.{elements_of}
 use Rattle.rml_command.specs.Goals.{stage_paths}
 use Rattle.rml_command.specs.declared.names.Names.{Names}
 use Rattle.rml_bmc.specs.Lengths.{verdict_of}
@@ -18,9 +17,9 @@ use Rattle.rml_bmc.specs.declared.answer.Bounded.{Bounded}
 use Rattle.rml_bmc.specs.declared.answer.Verdict.{Verdict}
 use Rattle.rml_bmc.specs.declared.answer.Verdict.TheVariants as verdict
 use Rattle.json_values.specs.Values.{list_data, number_data, numbers_data, counted_data, object_of, set_each}
-use Rattle.json_report.specs.GroupData.{stage_data, about_data, cause_data}
-use Rattle.json_report.specs.StructureData.{structure_data}
-use Rattle.json_report.specs.ExecutionData.{takes_along}
+use Rattle.json_outcome.specs.GroupData.{stage_data, about_data, cause_data}
+use Rattle.json_outcome.specs.StructureData.{structure_data}
+use Rattle.json_outcome.specs.ExecutionData.{takes_along}
 
 -- the structure in which a part ends; null where it aborts
 abbrev pub end_data : Names → Option Tables → Data
@@ -31,12 +30,13 @@ end_data names (Some end) = structure_data names end
 abbrev pub part_path : ModelTree → Part → Option (List PrimitiveTree)
 part_path m part = numbered (stage_paths m part.stage) part.trace.path
 
--- its number, what its havocs take, and how it ends
-unfoldable pub part_data : ModelTree → Part → Data
-part_data m part =
+-- its number, what its havocs take, and how it ends; each structure of a run has the sizes of the one in which it
+-- begins
+unfoldable pub part_data : ModelTree → Tables → Part → Data
+part_data m start part =
     object_of ((codes "stage", stage_data m.names part.stage) ∷ (codes "path", number_data part.trace.path)
     ∷ (codes "paths", number_data (length (stage_paths m part.stage)))
-    ∷ (codes "takes", takes_along m.names (part_path m part) (elements_of part.trace.havoc))
+    ∷ (codes "takes", takes_along m.names start (part_path m part) part.trace.havoc)
     ∷ (codes "end", end_data m.names part.end) ∷ [])
 
 abbrev pub bound_cause_data : BoundCause → Data
@@ -50,7 +50,8 @@ length_members m (answer.Undecided c) =
     (codes "answer", string (codes "undecided")) ∷ (codes "cause", bound_cause_data c) ∷ []
 length_members m (answer.Broken run) =
     (codes "answer", string (codes "broken")) ∷ (codes "about", about_data m.names run.about)
-    ∷ (codes "start", structure_data m.names run.start) ∷ (codes "parts", list_data (map (part_data m) run.parts))
+    ∷ (codes "start", structure_data m.names run.start) ∷
+    (codes "parts", list_data (map (part_data m run.start) run.parts))
     ∷ (codes "values", numbers_data run.values) ∷ []
 
 unfoldable pub length_data : ModelTree → ℕ → Length → Data

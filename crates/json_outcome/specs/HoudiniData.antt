@@ -9,9 +9,9 @@ use Rattle.rml_report.specs.declared.cause.Cause.{Cause}
 use Rattle.rml_houdini.specs.declared.houdini.Dropped.{Dropped}
 use Rattle.rml_houdini.specs.declared.houdini.Houdini.{Houdini}
 use Rattle.json_values.specs.Values.{list_data, number_data, object_of, set_each}
-use Rattle.json_report.specs.GroupData.{name_data, stage_data, about_data, cause_data}
-use Rattle.json_report.specs.ExecutionData.{execution_data}
-use Rattle.json_report.specs.ReportData.{first_or_null}
+use Rattle.json_outcome.specs.GroupData.{name_data, stage_data, about_data, cause_data}
+use Rattle.json_outcome.specs.ExecutionData.{execution_data}
+use Rattle.json_outcome.specs.ReportData.{first_or_null}
 
 -- the names of conjectures
 unfoldable pub names_data : Names → List ℕ → Data

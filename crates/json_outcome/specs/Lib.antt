@@ -1,4 +1,9 @@
-pub mod HoudiniData
+pub mod StructureData
+pub mod ExecutionData
+pub mod GroupData
+pub mod ReportData
+pub mod FaultData
 pub mod BoundedData
+pub mod HoudiniData
 pub mod ReasonsData
 pub mod ReplayData

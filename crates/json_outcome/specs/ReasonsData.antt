@@ -10,12 +10,12 @@ use Rattle.rml_reasons.specs.declared.reason.Carried.TheVariants.{By, Not}
 use Rattle.model_reasons.specs.declared.reason.Reason.{Reason}
 use Rattle.model_reasons.specs.Idle.{idle_conjectures}
 use Rattle.json_values.specs.Values.{list_data, number_data, object_of, set_each}
-use Rattle.json_report.specs.ExecutionData.{execution_data}
-use Rattle.json_report.specs.GroupData.{stage_data, about_data, cause_data, name_data}
+use Rattle.json_outcome.specs.ExecutionData.{execution_data}
+use Rattle.json_outcome.specs.GroupData.{stage_data, about_data, cause_data, name_data}
 use Rattle.json_outcome.specs.HoudiniData.{names_data}
 
--- What a group lacks: a path that fails, with the execution that shows it, or one that is left open, with the cause. The
--- branches of the path are not told.
+-- What a group lacks: a path that fails, with the execution that shows it, or one that is left open, with the cause.
+-- The branches of the path are not told.
 unfoldable pub lack_data : ModelTree → Lack → Data
 lack_data m (Fails shown) =
     object_of ((codes "execution", execution_data m shown null) ∷ (codes "answer", string (codes "fails"))

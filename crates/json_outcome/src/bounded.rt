@@ -1,19 +1,23 @@
 // Bounded runs.
 ghost use Rattle.std.specs.Prelude.{◌≡◌, map, IfOk};
 ghost use Rattle.std.specs.List.{AllByRecursion};
-ghost use Rattle.rml_command.specs.Elements.{elements_of};
+ghost use Rattle.fol_sig.specs.Symbols.{FitsStructure, symbols};
 ghost use Rattle.bounded_text.specs.BoundedText.{EndFits, CanShow, CanRender};
 ghost use Rattle.json_values.specs.Values.{list_data};
-ghost use Rattle.json_report.specs.ExecutionData.{takes_along};
+ghost use Rattle.json_outcome.specs.ExecutionData.{takes_along};
 ghost use Rattle.json_outcome.specs.BoundedData.{end_data, part_path, part_data, bound_cause_data};
 ghost use Rattle.json_outcome.specs.BoundedData.{length_data, lengths_data, verdict_data, bounded_members};
 
+use crate::execution::havocs_list;
+use crate::group::{about_value, cause_value, stage_value};
+use crate::structure::structure_value;
 use base::Mem;
-use json_report::{about_value, cause_value, havocs, stage_value, structure_value};
+use fol_sig::Structure;
 use json_values::{Json, JsonList, JsonObject, ObjectBuilder, counted, numbers};
 use rml_bmc::{BoundCause, Bounded, Length, Part, Run, Verdict, verdict_for};
-use rml_command::{Checked, elements_of};
+use rml_command::Checked;
 use std::alloc::Global;
+use told_states::path_at;
 
 // The structure in which a part ends; null where it aborts.
 fn end_value(alloc: Global, checked: &Checked, part: &Part) -> Mem<Json>
@@ -27,26 +31,25 @@ fn end_value(alloc: Global, checked: &Checked, part: &Part) -> Mem<Json>
 }
 
 // What the havocs of the part's path take.
-fn takes_value(alloc: Global, checked: &Checked, part: &Part) -> Mem<Json>
+fn takes_value(alloc: Global, checked: &Checked, start: &Structure, part: &Part) -> Mem<Json>
+    requires { FitsStructure (symbols checked.now.signature) start.now }
     ensures { IfOk result
-        (λ j. j ≡ takes_along checked.now.names (part_path checked.now part.now)
-        (elements_of part.now.trace.havoc)) }
+        (λ j. j ≡ takes_along checked.now.names start.now (part_path checked.now part.now) part.now.trace.havoc) }
 {
-    let paths = checked.stage_paths(part.stage);
-    let number = part.trace.path as usize;
-    if number == 0 || number > paths.len() {
-        return Ok(JsonList::new(alloc).into_json());
+    match path_at(checked, part.stage, part.trace.path) {
+        None => Ok(JsonList::new(alloc).into_json()),
+        Some(path) => {
+            let list = havocs_list(alloc, checked, start, &path, part.trace.havoc.as_slice())?;
+            Ok(list.into_json())
+        }
     }
-    let path = paths.path(number - 1);
-    let elements = elements_of(alloc, part.trace.havoc.as_slice())?;
-    let list = havocs(alloc, checked, &path, elements.as_slice())?;
-    Ok(list.into_json())
 }
 
 #[tactic(auto, unfolding(crate::specs::BoundedData::part_data))]
-fn part_value(alloc: Global, checked: &Checked, part: &Part) -> Mem<Json>
-    requires { EndFits checked.now part.now.end }
-    ensures { IfOk result (λ j. j ≡ part_data checked.now part.now) }
+fn part_value(alloc: Global, checked: &Checked, start: &Structure, part: &Part) -> Mem<Json>
+    requires start { FitsStructure (symbols checked.now.signature) start.now }
+    requires end { EndFits checked.now part.now.end }
+    ensures { IfOk result (λ j. j ≡ part_data checked.now start.now part.now) }
 {
     let paths = checked.stage_paths(part.stage).len();
     let stage = stage_value(alloc, checked.model().names(), part.stage);
@@ -54,20 +57,21 @@ fn part_value(alloc: Global, checked: &Checked, part: &Part) -> Mem<Json>
         .with("stage", stage)
         .with_number("path", part.trace.path as u64)
         .with_number("paths", paths as u64)
-        .with("takes", takes_value(alloc, checked, part))
+        .with("takes", takes_value(alloc, checked, start, part))
         .with("end", end_value(alloc, checked, part))
         .into_json()
 }
 
 #[tactic(auto, using(std::proofs::Common::append_assoc))]
-fn part_values(alloc: Global, checked: &Checked, parts: &[Part]) -> Mem<Json>
-    requires { AllByRecursion (λ part. EndFits checked.now part.end) parts.now }
-    ensures { IfOk result (λ j. j ≡ list_data (map (part_data checked.now) parts.now)) }
+fn part_values(alloc: Global, checked: &Checked, start: &Structure, parts: &[Part]) -> Mem<Json>
+    requires start { FitsStructure (symbols checked.now.signature) start.now }
+    requires ends { AllByRecursion (λ part. EndFits checked.now part.end) parts.now }
+    ensures { IfOk result (λ j. j ≡ list_data (map (part_data checked.now start.now) parts.now)) }
 {
     let mut list = JsonList::new(alloc);
     let mut rest = parts;
     while let [part, after @ ..] = rest {
-        list.push(part_value(alloc, checked, part))?;
+        list.push(part_value(alloc, checked, start, part))?;
         rest = after;
     }
     Ok(list.into_json())
@@ -114,7 +118,10 @@ fn run_value(alloc: Global, checked: &Checked, steps: u64, run: &Run) -> Mem<Jso
         .with_word("answer", "broken")
         .with("about", about_value(alloc, model.names(), run.about))
         .with("start", structure_value(alloc, model, &run.start))
-        .with("parts", part_values(alloc, checked, run.parts.as_slice()))
+        .with(
+            "parts",
+            part_values(alloc, checked, &run.start, run.parts.as_slice()),
+        )
         .with("values", numbers(alloc, run.values.as_slice()))
         .into_json()
 }

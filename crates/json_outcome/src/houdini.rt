@@ -6,10 +6,10 @@ ghost use Rattle.json_values.specs.Values.{list_data};
 ghost use Rattle.json_outcome.specs.HoudiniData.{names_data, dropped_data, drops_data, open_data, unsettled_data};
 ghost use Rattle.json_outcome.specs.HoudiniData.{verdict_data, houdini_members};
 
+use crate::execution::execution_value;
+use crate::group::{cause_value, name_value, with_group};
+use crate::report::{behind_first, first_given};
 use base::Mem;
-use json_report::{
-    behind_first, cause_value, execution_value, first_given, name_value, with_group,
-};
 use json_values::{Json, JsonList, JsonObject, ObjectBuilder};
 use rml_command::{Checked, Goal, Names};
 use rml_houdini::{Dropped, Houdini};

@@ -6,9 +6,10 @@ ghost use Rattle.model_reasons.specs.Laws.{LackIsShown, CarriedIsShown};
 ghost use Rattle.json_values.specs.Values.{IsBuiltBy, list_data};
 ghost use Rattle.json_outcome.specs.ReasonsData.{lack_data, need_data, carried_members, reason_data, reasons_members};
 
+use crate::execution::execution_value;
+use crate::group::{cause_value, name_value, with_group};
 use crate::houdini::names_value;
 use base::Mem;
-use json_report::{cause_value, execution_value, name_value, with_group};
 use json_values::{Json, JsonList, JsonObject, ObjectBuilder};
 use model_reasons::{Reason, idle};
 use rml_command::{Checked, Goal};

@@ -1,1 +1,3 @@
+pub mod Diagnostics
+pub mod Hints
 pub mod Readings

@@ -8,13 +8,14 @@ use Rattle.rml_lex.specs.Tokens.{AreTokens}
 use Rattle.rml_lex.specs.Tokens as bytes
 use Rattle.rml_syntax.specs.Tree.{file_tree}
 use Rattle.rml_syntax.specs.Within.{TreeWithin}
+use Rattle.rml_syntax.specs.Shape.{IsShaped}
 use Rattle.rml_syntax.specs.Faults.{IsTree}
 use Rattle.rml_syntax.specs.Faults as grammar
-use Rattle.diagnostics.specs.Diagnostics.{diagnostic_text}
+use Rattle.told_fault.specs.Diagnostics.{diagnostic_text}
 use Rattle.expectations.specs.Expectations.{AreExpected}
 use Rattle.expectations.specs.Text.{expected_text}
-use Rattle.hints.specs.Hints.{byte_hint, token_hint, fault_hint, words_of}
-use Rattle.hints.specs.declared.hint.Hint.{Hint}
+use Rattle.told_fault.specs.Hints.{byte_hint, token_hint, fault_hint, words_of}
+use Rattle.told_fault.specs.declared.hint.Hint.{Hint}
 use Rattle.told_fault.specs.declared.reading.Reading.{Reading}
 use Rattle.told_fault.specs.declared.reading.Reading.TheVariants.{NoTokens, Unexpected, TooDeep, Parsed}
 
@@ -27,7 +28,7 @@ abbrev pub byte_advice : List ℕ → Fault → Option Hint
 byte_advice text fault = advice_at fault.code text fault.at
 
 -- The bytes have this fault; or they are tokens, and these have this fault, where these kinds may stand; or the tokens
--- are this tree's, whose names and words stand within the text.
+-- are this tree's, whose names and words stand within the text, and which nests as far as a tree may.
 abbrev pub IsReading : List ℕ → Reading → Type 0
 IsReading text (NoTokens hint) = (fault : Fault) × bytes.IsFault text fault × (hint ≡ byte_advice text fault)
 IsReading text (Unexpected kinds hint) =
@@ -39,7 +40,7 @@ IsReading text TooDeep =
     × (fault.code ≡ code.DeepNesting)
 IsReading text (Parsed tree) =
     (tokens : List Token) × AreTokens text tokens × IsTree text tokens (file_tree tree)
-    × TreeWithin (length text) (file_tree tree)
+    × TreeWithin (length text) (file_tree tree) × IsShaped (file_tree tree)
 
 -- `  = hint: ..`, and nothing without one
 abbrev pub hint_line : Option Hint → List ℕ

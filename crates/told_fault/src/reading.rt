@@ -5,9 +5,10 @@ ghost use Rattle.rml_lex.specs.Tokens.{AreTokens, EndsBy, IsFault, StandsBy};
 ghost use Rattle.rml_syntax.specs.Faults as grammar;
 ghost use Rattle.told_fault.specs.Readings.{IsReading, byte_advice};
 
+use crate::hint::Hint;
+use crate::looking::{byte_hint, token_hint};
 use base::{Mem, Refused, Row};
 use expectations::expected;
-use hints::{Hint, byte_hint, token_hint};
 use rml_lex::{Fault, FaultCode, Kind, Token, lex};
 use rml_syntax::{Tree, parse};
 use std::alloc::{AllocError, Global};

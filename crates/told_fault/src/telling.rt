@@ -1,12 +1,13 @@
-// The text of a fault.
+// The text of a fault, with what is told beside it.
 ghost use Rattle.std.specs.Prelude.{◌≡◌, ◌≤◌, ◌++◌, length, IfOk, OnOk};
 ghost use Rattle.told_fault.specs.Readings.{hint_line, advice_text, fault_text};
 
+use crate::hint::Hint;
+use crate::looking::fault_hint;
 use crate::reading::Reading;
+use crate::rendering::diagnostic;
 use base::{Mem, push_text};
-use diagnostics::diagnostic;
 use expectations::expected_text;
-use hints::{Hint, fault_hint};
 use rml_lex::Fault;
 use std::alloc::Global;
 

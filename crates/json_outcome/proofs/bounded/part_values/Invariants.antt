@@ -7,7 +7,7 @@ use Rattle.json_outcome.proofs.bounded.part_values.Given as goal
 abbrev pub invariant-loop-rest : goal.invariant-loop-rest
 invariant-loop-rest l = record {
   fit : AllByRecursion (λ part. EndFits l.checked part.end) l.rest;
-  parts : l.list ++ map (part_data l.checked) l.rest ≡ map (part_data l.checked) l.parts;
+  parts : l.list ++ map (part_data l.checked l.start) l.rest ≡ map (part_data l.checked l.start) l.parts;
 }
 
 abbrev pub decreases-loop-rest : goal.decreases-loop-rest

@@ -1,5 +1,5 @@
 use Rattle.std.proofs.Common.{◌≡◌, ◌++◌, map, length}
-use Rattle.json_report.specs.GroupData.{name_data}
+use Rattle.json_outcome.specs.GroupData.{name_data}
 use Rattle.json_outcome.proofs.houdini.names_value.Given as goal
 
 abbrev pub invariant-loop-rest : goal.invariant-loop-rest

@@ -1,0 +1,15 @@
+use Rattle.std.proofs.Common.{◌≡◌, ◌+◌, ◌++◌, length}
+use Rattle.std.specs.List.{AllByRecursion}
+use Rattle.bounded_text.specs.BoundedText.{EndFits}
+use Rattle.dot_graph.specs.AnswerGraphs.{part_graphs}
+use Rattle.dot_graph.proofs.answers.push_ends.Given as goal
+
+abbrev pub invariant-loop-rest : goal.invariant-loop-rest
+invariant-loop-rest l = record {
+  ends : AllByRecursion (λ part. EndFits l.checked part.end) l.rest;
+  place : l.number + length l.rest ≡ length l.parts + 1;
+  text : l.out.items ++ part_graphs l.number l.checked l.rest ≡ l.fn.out.items ++ part_graphs 1 l.checked l.parts;
+}
+
+abbrev pub decreases-loop-rest : goal.decreases-loop-rest
+decreases-loop-rest l = length l.rest

@@ -1,6 +1,0 @@
-use Rattle.std.proofs.Common.{◌∙◌, ap}
-use Rattle.hints.specs.Hints.{hint_of}
-use Rattle.hints.proofs.looking.token_hint.Goals as goal
-
-pub returns : goal.returns
-returns c = c.hint_of.ensures ∙ ap (λ round. hint_of round c.args.kinds.now) c.words_round-round.ensures

@@ -1,7 +1,0 @@
-use Rattle.std.proofs.Common.{◌≡◌, [], ◌∷◌}
-use Rattle.fol_sig.specs.Tuples.{join_below}
-use Rattle.json_report.specs.StructureData.{item_data}
-use Rattle.json_report.proofs.structure.items_value.Given as goal
-
-abbrev pub invariant-loop-number : goal.invariant-loop-number
-invariant-loop-number l = l.list ≡ join_below l.number (λ k. item_data l.names l.structure l.listed k ∷ [])

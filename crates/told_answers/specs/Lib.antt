@@ -1,0 +1,4 @@
+pub mod RunsText
+pub mod Laws
+pub mod SubsetText
+pub mod ReasonsText

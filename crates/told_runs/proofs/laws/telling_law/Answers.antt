@@ -1,5 +1,0 @@
-use Rattle.told_runs.proofs.Told.{told}
-use Rattle.told_runs.proofs.laws.telling_law.Goals as goal
-
-pub returns : goal.returns
-returns c = told c.rendering_law.ensures c.end_law.ensures

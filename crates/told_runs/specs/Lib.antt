@@ -1,2 +1,0 @@
-pub mod RunsText
-pub mod Laws
