@@ -9,8 +9,9 @@ use Rattle.rml_syntax.specs.Tree.{CommandTree, Block, Blocks, Skip, Abort, Assum
 use Rattle.rml_syntax.specs.Tree.{Put, Assign, no_command, and_command, no_block, and_block}
 use Rattle.rml_command.specs.Trees.{PrimitiveTree, assume}
 use Rattle.rml_command.specs.Paths.{has_abort}
-use Rattle.rml_command.specs.Models.{ModelTree}
 use Rattle.rml_terms.specs.Tree.{ExprTree}
+use Rattle.rml_syntax.specs.declared.tree.Format.{Format}
+use Rattle.rml_names.specs.Drafts.{DraftTree}
 use Rattle.rml_elaborate.specs.Formulas.{formula_of}
 use Rattle.rml_sort_check.specs.declared.wanted.Wanted.TheVariants as wanted
 use Rattle.rml_sort_check.specs.Demands.{first_fault, demands, command_demands, block_demands, blocks_demands}
@@ -87,37 +88,37 @@ assert_found fails passes n k h = elim (cases_lt k 1) as
           ∙ sym (cond_above k 1 _ _ later ∙ cond_below (k - 1) n _ _ (omega (arith, h, later)))
     ]
 
-module _ (text : List ℕ) (m : ModelTree) where
+module _ (text : List ℕ) (format : Format) (d : DraftTree) where
   abbrev paths : CommandTree → List MarkedPath
-  paths c = marked_paths text m c
+  paths c = marked_paths text d c
 
   abbrev block : Block → List MarkedPath
-  block b = marked_block text m b
+  block b = marked_block text d b
 
   abbrev IsMet : CommandTree → Type 0
-  IsMet c = first_fault (command_demands text m c) ≡ None
+  IsMet c = first_fault (command_demands text d.vocabulary format c) ≡ None
 
   abbrev IsBlockMet : Block → Type 0
-  IsBlockMet b = first_fault (block_demands text m b) ≡ None
+  IsBlockMet b = first_fault (block_demands text d.vocabulary format b) ≡ None
 
   abbrev AreBlocksMet : Blocks → Type 0
-  AreBlocksMet bs = first_fault (blocks_demands text m bs) ≡ None
+  AreBlocksMet bs = first_fault (blocks_demands text d.vocabulary format bs) ≡ None
 
   first_met : (e : ExprTree) (a b : Block) (at : ℕ) → IsMet (If at e a b) → IsBlockMet a
   first_met e a b at h =
-      met_left (block_demands text m a) (block_demands text m b)
-      (met_right (demands text m [] wanted.Formula e) (block_demands text m a ++ block_demands text m b) h)
+      met_left (block_demands text d.vocabulary format a) (block_demands text d.vocabulary format b)
+      (met_right (demands text d.vocabulary [] wanted.Formula e) (block_demands text d.vocabulary format a ++ block_demands text d.vocabulary format b) h)
 
   second_met : (e : ExprTree) (a b : Block) (at : ℕ) → IsMet (If at e a b) → IsBlockMet b
   second_met e a b at h =
-      met_right (block_demands text m a) (block_demands text m b)
-      (met_right (demands text m [] wanted.Formula e) (block_demands text m a ++ block_demands text m b) h)
+      met_right (block_demands text d.vocabulary format a) (block_demands text d.vocabulary format b)
+      (met_right (demands text d.vocabulary [] wanted.Formula e) (block_demands text d.vocabulary format a ++ block_demands text d.vocabulary format b) h)
 
   abbrev holds : ℕ → ExprTree → MarkedPath
-  holds at e = marked at turns.IfHolds (assume (formula_of text m [] e) ∷ [])
+  holds at e = marked at turns.IfHolds (assume (formula_of text d.vocabulary d.bodies [] e) ∷ [])
 
   abbrev fails : ℕ → ExprTree → MarkedPath
-  fails at e = marked at turns.IfFails (assume (negation (formula_of text m [] e)) ∷ [])
+  fails at e = marked at turns.IfFails (assume (negation (formula_of text d.vocabulary d.bodies [] e)) ∷ [])
 
   abbrev takes : ℕ → ℕ → ℕ → MarkedPath
   takes at i count = marked at (turns.Takes (record { number = i; count = count })) []
@@ -128,7 +129,7 @@ module _ (text : List ℕ) (m : ModelTree) where
     pub counted : (c : CommandTree) (n : ℕ) → IsMet c → count_through c (capped n) ≡ capped (weight (paths c) n)
     counted (Skip at) n ok = one_counted [] n refl
     counted (Abort at) n ok = omega arith
-    counted (Assume at e) n ok = one_counted (assume (formula_of text m [] e) ∷ []) n refl
+    counted (Assume at e) n ok = one_counted (assume (formula_of text d.vocabulary d.bodies [] e) ∷ []) n refl
     counted (Assert at e) n ok = omega arith
     counted (If at e a b) n ok =
         let first = counted_block a n (first_met e a b at ok) in
@@ -137,33 +138,33 @@ module _ (text : List ℕ) (m : ModelTree) where
         let last = weight-joined (fails at e) refl (block b) n in
         omega (arith, first, second, all, last)
     counted (Choose at bs) n ok =
-        let w = weight (marked_branches text m at 1 (branch_count bs) bs) n in
+        let w = weight (marked_branches text d at 1 (branch_count bs) bs) n in
         let none : 0 + w ≡ w = omega arith in
         counted_each at 1 (branch_count bs) bs n 0 ok ∙ ap capped none
     counted (Insert at name args) n ok =
-        one_counted (insert_path text m name args) n (inserted_on text m at name args ok)
+        one_counted (insert_path text format d name args) n (inserted_on text format d at name args ok)
     counted (Remove at name args) n ok =
-        one_counted (remove_path text m name args) n (removed_on text m at name args ok)
+        one_counted (remove_path text format d name args) n (removed_on text format d at name args ok)
     counted (Put at name args e) n ok =
-        one_counted (put_path text m name args e) n (put_on text m at name args e ok)
+        one_counted (put_path text format d name args e) n (put_on text format d at name args e ok)
     counted (Assign name ps value) n ok =
-        one_counted (assign_path text m name ps value) n (assigned_on text m name ps value ok)
+        one_counted (assign_path text format d name ps value) n (assigned_on text format d name ps value ok)
 
     pub counted_block : (b : Block) (n : ℕ) → IsBlockMet b
         → count_through_block b (capped n) ≡ capped (weight (block b) n)
     counted_block no_command n ok = one_counted [] n refl
     counted_block (and_command c cs) n ok =
-        ap (count_through c) (counted_block cs n (met_right (command_demands text m c) (block_demands text m cs) ok))
-        ∙ counted c (weight (block cs) n) (met_left (command_demands text m c) (block_demands text m cs) ok)
+        ap (count_through c) (counted_block cs n (met_right (command_demands text d.vocabulary format c) (block_demands text d.vocabulary format cs) ok))
+        ∙ counted c (weight (block cs) n) (met_left (command_demands text d.vocabulary format c) (block_demands text d.vocabulary format cs) ok)
         ∙ ap capped (sym (weight-all_on (block cs) n (paths c)))
 
     counted_each : (at i count : ℕ) (bs : Blocks) (n before : ℕ) → AreBlocksMet bs
         → count_through_each bs (capped n) (capped before)
-        ≡ capped (before + weight (marked_branches text m at i count bs) n)
+        ≡ capped (before + weight (marked_branches text d at i count bs) n)
     counted_each at i count no_block n before ok = omega arith
     counted_each at i count (and_block b bs) n before ok =
-        let h = counted_block b n (met_left (block_demands text m b) (blocks_demands text m bs) ok) in
-        let rest = marked_branches text m at (i + 1) count bs in
+        let h = counted_block b n (met_left (block_demands text d.vocabulary format b) (blocks_demands text d.vocabulary format bs) ok) in
+        let rest = marked_branches text d at (i + 1) count bs in
         let first : sum (capped before) (count_through_block b (capped n)) ≡ capped (before + weight (block b) n) =
         omega (arith, h) in
         let all = weight-both (takes at i count) refl (block b) rest n 0 in
@@ -171,7 +172,7 @@ module _ (text : List ℕ) (m : ModelTree) where
         ≡ before + weight (map (joined (takes at i count)) (block b) ++ rest) n = omega (arith, all) in
         ap (count_through_each bs (capped n)) first
         ∙ counted_each at (i + 1) count bs n (before + weight (block b) n)
-        (met_right (block_demands text m b) (blocks_demands text m bs) ok)
+        (met_right (block_demands text d.vocabulary format b) (blocks_demands text d.vocabulary format bs) ok)
         ∙ ap capped more
 
   -- ---- what is found
@@ -181,7 +182,7 @@ module _ (text : List ℕ) (m : ModelTree) where
         → along c (capped n) k ≡ pick (paths c) n k
     finds (Skip at) n k ok small h = one_found [] n k refl h
     finds (Abort at) n k ok small h = sym (cond_below k 1 _ _ (omega (arith, h)))
-    finds (Assume at e) n k ok small h = one_found (assume (formula_of text m [] e) ∷ []) n k refl h
+    finds (Assume at e) n k ok small h = one_found (assume (formula_of text d.vocabulary d.bodies [] e) ∷ []) n k refl h
     finds (Assert at e) n k ok small h = assert_found _ _ n k h
     finds (If at e a b) n k ok small h =
         let first = counted_block a n (first_met e a b at ok) in
@@ -201,20 +202,20 @@ module _ (text : List ℕ) (m : ModelTree) where
         ∙ sym (pick-joined (fails at e) refl (block b) n (k - w) lt))
     finds (Choose at bs) n k ok small h = finds_each at 1 (branch_count bs) bs n k ok small h
     finds (Insert at name args) n k ok small h =
-        one_found (insert_path text m name args) n k (inserted_on text m at name args ok) h
+        one_found (insert_path text format d name args) n k (inserted_on text format d at name args ok) h
     finds (Remove at name args) n k ok small h =
-        one_found (remove_path text m name args) n k (removed_on text m at name args ok) h
+        one_found (remove_path text format d name args) n k (removed_on text format d at name args ok) h
     finds (Put at name args e) n k ok small h =
-        one_found (put_path text m name args e) n k (put_on text m at name args e ok) h
+        one_found (put_path text format d name args e) n k (put_on text format d at name args e ok) h
     finds (Assign name ps value) n k ok small h =
-        one_found (assign_path text m name ps value) n k (assigned_on text m name ps value ok) h
+        one_found (assign_path text format d name ps value) n k (assigned_on text format d name ps value ok) h
 
     pub finds_block : (b : Block) (n k : ℕ) → IsBlockMet b → k < most → k < weight (block b) n
         → along_block b (capped n) k ≡ pick (block b) n k
     finds_block no_command n k ok small h = one_found [] n k refl h
     finds_block (and_command c cs) n k ok small h =
-        let ok_c = met_left (command_demands text m c) (block_demands text m cs) ok in
-        let ok_cs = met_right (command_demands text m c) (block_demands text m cs) ok in
+        let ok_c = met_left (command_demands text d.vocabulary format c) (block_demands text d.vocabulary format cs) ok in
+        let ok_cs = met_right (command_demands text d.vocabulary format c) (block_demands text d.vocabulary format cs) ok in
         let all = weight-all_on (block cs) n (paths c) in
         let lt : k < weight (paths c) (weight (block cs) n) = omega (arith, h, all) in
         ap (λ w. then_along (along c w k) (along_block cs (capped n))) (counted_block cs n ok_cs)
@@ -224,13 +225,13 @@ module _ (text : List ℕ) (m : ModelTree) where
         ∙ sym (pick-all_on (block cs) n (paths c) k lt)
 
     finds_each : (at i count : ℕ) (bs : Blocks) (n k : ℕ) → AreBlocksMet bs → k < most
-        → k < weight (marked_branches text m at i count bs) n
-        → along_each at i count bs (capped n) k ≡ pick (marked_branches text m at i count bs) n k
+        → k < weight (marked_branches text d at i count bs) n
+        → along_each at i count bs (capped n) k ≡ pick (marked_branches text d at i count bs) n k
     finds_each at i count no_block n k ok small h = absurd (omega (arith, h))
     finds_each at i count (and_block b bs) n k ok small h =
-        let ok_b = met_left (block_demands text m b) (blocks_demands text m bs) ok in
-        let ok_bs = met_right (block_demands text m b) (blocks_demands text m bs) ok in
-        let rest = marked_branches text m at (i + 1) count bs in
+        let ok_b = met_left (block_demands text d.vocabulary format b) (blocks_demands text d.vocabulary format bs) ok in
+        let ok_bs = met_right (block_demands text d.vocabulary format b) (blocks_demands text d.vocabulary format bs) ok in
+        let rest = marked_branches text d at (i + 1) count bs in
         let first = counted_block b n ok_b in
         let all = weight-both (takes at i count) refl (block b) rest n 0 in
         let w = weight (block b) n in
@@ -270,14 +271,14 @@ numbered-is : (xs : List MarkedPath) (path : ℕ) → 0 < path → numbered xs p
 numbered-is xs zero h = absurd (omega (arith, h))
 numbered-is xs (suc k) h = let e : k ≡ suc k - 1 = omega arith in ap (slice_get xs) e
 
-pub numbered_found : (text : List ℕ) (m : ModelTree) (b : Block) (path : ℕ)
-    → first_fault (block_demands text m b) ≡ None → 0 < path → path - 1 < most → path - 1 < count_through_block b 1
-    → (along_block b 1 (path - 1)).marks ≡ marks_in (numbered (marked_block text m b) path)
-numbered_found text m b path ok some small h =
-    path_found text m b (path - 1) ok small h ∙ ap marks_in (sym (numbered-is (marked_block text m b) path some))
+pub numbered_found : (text : List ℕ) (format : Format) (d : DraftTree) (b : Block) (path : ℕ)
+    → first_fault (block_demands text d.vocabulary format b) ≡ None → 0 < path → path - 1 < most → path - 1 < count_through_block b 1
+    → (along_block b 1 (path - 1)).marks ≡ marks_in (numbered (marked_block text d b) path)
+numbered_found text format d b path ok some small h =
+    path_found text format d b (path - 1) ok small h ∙ ap marks_in (sym (numbered-is (marked_block text d b) path some))
 
-pub none_numbered : (text : List ℕ) (m : ModelTree) (b : Block) (path : ℕ)
-    → first_fault (block_demands text m b) ≡ None → 0 < path → path - 1 < most → count_through_block b 1 ≤ path - 1
-    → marks_in (numbered (marked_block text m b) path) ≡ []
-none_numbered text m b path ok some small h =
-    ap marks_in (numbered-is (marked_block text m b) path some) ∙ no_path text m b (path - 1) ok small h
+pub none_numbered : (text : List ℕ) (format : Format) (d : DraftTree) (b : Block) (path : ℕ)
+    → first_fault (block_demands text d.vocabulary format b) ≡ None → 0 < path → path - 1 < most → count_through_block b 1 ≤ path - 1
+    → marks_in (numbered (marked_block text d b) path) ≡ []
+none_numbered text format d b path ok some small h =
+    ap marks_in (numbered-is (marked_block text d b) path some) ∙ no_path text format d b (path - 1) ok small h

@@ -5,7 +5,7 @@ use Rattle.fol_formula.specs.Syntax.{negation}
 use Rattle.rml_syntax.specs.Tree.{CommandTree, Block, Blocks, Assert, If, Choose}
 use Rattle.rml_syntax.specs.Tree.{no_command, and_command, no_block, and_block}
 use Rattle.rml_command.specs.Trees.{PrimitiveTree, assume, abort}
-use Rattle.rml_command.specs.Models.{ModelTree}
+use Rattle.rml_names.specs.Drafts.{DraftTree}
 use Rattle.rml_command.specs.Paths.{has_abort, paths_of}
 use Rattle.rml_elaborate.specs.Formulas.{formula_of}
 use Rattle.rml_sorts.specs.Commands.{command_of}
@@ -37,19 +37,21 @@ abbrev pub branch_count : Blocks → ℕ
 branch_count no_block = 0
 branch_count (and_block b bs) = suc (branch_count bs)
 
-module _ (text : List ℕ) (m : ModelTree) where
+module _ (text : List ℕ) (d : DraftTree) where
   -- The marked paths of a command, in order. An `assert` first fails and then is passed, whatever its condition; an
   -- `if` is first true and then false; a `choose` takes its branches in turn. All other commands go one way.
   abbrev mutual
     pub marked_paths : CommandTree → List MarkedPath
     marked_paths (Assert at e) =
-        marked at turns.AssertFails (assume (negation (formula_of text m [] e)) ∷ abort ∷ [])
+        marked at turns.AssertFails (assume (negation (formula_of text d.vocabulary d.bodies [] e)) ∷ abort ∷ [])
         ∷ marked at turns.AssertPasses [] ∷ []
     marked_paths (If at e a b) =
-        map (joined (marked at turns.IfHolds (assume (formula_of text m [] e) ∷ []))) (marked_block a)
-        ++ map (joined (marked at turns.IfFails (assume (negation (formula_of text m [] e)) ∷ []))) (marked_block b)
+        map (joined (marked at turns.IfHolds (assume (formula_of text d.vocabulary d.bodies [] e) ∷ [])))
+        (marked_block a)
+        ++ map (joined (marked at turns.IfFails
+        (assume (negation (formula_of text d.vocabulary d.bodies [] e)) ∷ []))) (marked_block b)
     marked_paths (Choose at bs) = marked_branches at 1 (branch_count bs) bs
-    marked_paths c = map unmarked (paths_of (command_of text m c))
+    marked_paths c = map unmarked (paths_of (command_of text d.vocabulary d.bodies c))
 
     pub marked_block : Block → List MarkedPath
     marked_block no_command = unmarked [] ∷ []

@@ -1,5 +1,6 @@
 -- How the path of a number is found without listing the paths before it. No public contract cites it.
-use Rattle.std.specs.Prelude.{◌≡◌, ℕ, ◌+◌, ◌-◌, ◌^◌, ◌==◌, nat_lt, min, if◌then◌else◌, List, [], ◌∷◌, ◌++◌, Option, Some}
+use Rattle.std.specs.Prelude.{◌≡◌, ℕ, ◌+◌, ◌-◌, ◌^◌, ◌==◌, nat_lt, min, if◌then◌else◌, List, [], ◌∷◌, ◌++◌, Option}
+use Rattle.std.specs.Prelude.{Some}
 use Rattle.std.specs.Prelude.{None, slice_get}
 use Rattle.rml_syntax.specs.Tree.{CommandTree, Block, Blocks, Abort, Assert, If, Choose}
 use Rattle.rml_syntax.specs.Tree.{no_command, and_command, no_block, and_block, ItemTree, Init, Action, Final}

@@ -2,58 +2,57 @@
 use Rattle.std.specs.Prelude.{ℕ, List, [], ◌∷◌, ◌++◌, Option, Some, None, slice_get}
 use Rattle.base.specs.Lists.{numbered}
 use Rattle.rml_syntax.specs.Tree.{CommandTree, ItemTree, Init, Action, Final, block_of}
-use Rattle.rml_command.specs.Models.{ModelTree}
 use Rattle.rml_command.specs.declared.goal.Stage.{Stage}
 use Rattle.rml_command.specs.declared.goal.Stage.TheVariants as stage
-use Rattle.rml_names.specs.Growth.{empty_model}
-use Rattle.rml_sorts.specs.Items.{Draft, no_items, with_item}
+use Rattle.rml_names.specs.Drafts.{DraftTree, empty_draft}
+use Rattle.rml_sorts.specs.Items.{draft_with}
 use Rattle.branches.specs.declared.mark.Mark.{Mark}
 use Rattle.branches.specs.Marked.{MarkedPath, marked_block}
 
--- a block's commands, and the model of the items before the block
+-- a block's commands, and the draft of the items before the block
 pub record Located : Type 0 where
-  pub model : ModelTree
+  pub before : DraftTree
   pub commands : List CommandTree
 
-abbrev pub located : ModelTree → List CommandTree → Located
-located m cs = record { model = m; commands = cs }
+abbrev pub located : DraftTree → List CommandTree → Located
+located d cs = record { before = d; commands = cs }
 
 -- an `init` in the place of what stood before
-abbrev pub init_or : Located → ModelTree → ItemTree → Located
-init_or found m (Init at cs) = located m cs
-init_or found m _ = found
+abbrev pub init_or : Located → DraftTree → ItemTree → Located
+init_or found d (Init at cs) = located d cs
+init_or found d _ = found
 
-abbrev pub final_or : Located → ModelTree → ItemTree → Located
-final_or found m (Final at cs) = located m cs
-final_or found m _ = found
+abbrev pub final_or : Located → DraftTree → ItemTree → Located
+final_or found d (Final at cs) = located d cs
+final_or found d _ = found
 
-abbrev pub action_in : ModelTree → ItemTree → List Located
-action_in m (Action name cs) = located m cs ∷ []
-action_in m _ = []
+abbrev pub action_in : DraftTree → ItemTree → List Located
+action_in d (Action name cs) = located d cs ∷ []
+action_in d _ = []
 
 module _ (text : List ℕ) where
   -- the last `init` of the items behind a draft
-  abbrev pub init_behind : Located → Draft → List ItemTree → Located
+  abbrev pub init_behind : Located → DraftTree → List ItemTree → Located
   init_behind found d [] = found
-  init_behind found d (item ∷ items) = init_behind (init_or found d.model item) (with_item text d item) items
+  init_behind found d (item ∷ items) = init_behind (init_or found d item) (draft_with text d item) items
 
-  abbrev pub final_behind : Located → Draft → List ItemTree → Located
+  abbrev pub final_behind : Located → DraftTree → List ItemTree → Located
   final_behind found d [] = found
-  final_behind found d (item ∷ items) = final_behind (final_or found d.model item) (with_item text d item) items
+  final_behind found d (item ∷ items) = final_behind (final_or found d item) (draft_with text d item) items
 
-  abbrev pub actions_behind : Draft → List ItemTree → List Located
+  abbrev pub actions_behind : DraftTree → List ItemTree → List Located
   actions_behind d [] = []
-  actions_behind d (item ∷ items) = action_in d.model item ++ actions_behind (with_item text d item) items
+  actions_behind d (item ∷ items) = action_in d item ++ actions_behind (draft_with text d item) items
 
   -- the block of a stage; `init` and `final` are empty where there is none
   abbrev pub located_block : List ItemTree → Stage → Option Located
-  located_block items stage.Init = Some (init_behind (located empty_model []) no_items items)
-  located_block items (stage.Action a) = slice_get (actions_behind no_items items) a
-  located_block items stage.Final = Some (final_behind (located empty_model []) no_items items)
+  located_block items stage.Init = Some (init_behind (located empty_draft []) empty_draft items)
+  located_block items (stage.Action a) = slice_get (actions_behind empty_draft items) a
+  located_block items stage.Final = Some (final_behind (located empty_draft []) empty_draft items)
 
   abbrev pub marked_of : Option Located → List MarkedPath
   marked_of None = []
-  marked_of (Some b) = marked_block text b.model (block_of b.commands)
+  marked_of (Some b) = marked_block text b.before (block_of b.commands)
 
   -- the marked paths of a stage's block
   abbrev pub stage_marked : List ItemTree → Stage → List MarkedPath

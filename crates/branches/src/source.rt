@@ -2,7 +2,7 @@
 ghost use Rattle.std.specs.Prelude.{◌≡◌, ◌++◌, length, None, IfOk, OnOk};
 ghost use Rattle.rml_syntax.specs.Tree.{file_tree};
 ghost use Rattle.rml_syntax.specs.Within.{TreeWithin};
-ghost use Rattle.rml_sorts.specs.Items.{fault_of};
+ghost use Rattle.rml_items.specs.Items.{fault_of};
 ghost use Rattle.branches.specs.Stages.{marks_of};
 ghost use Rattle.branches.specs.Within.{MarksWithin};
 ghost use Rattle.branches.specs.MarkText.{branch_lines};
@@ -30,7 +30,7 @@ impl<'a> Model for Source<'a> {
     ghost use Rattle.rml_syntax.specs.contracts.tree.Tree as whole;
     ghost use Rattle.rml_syntax.specs.Tree.{file_tree};
     ghost use Rattle.rml_syntax.specs.Within.{TreeWithin};
-    ghost use Rattle.rml_sorts.specs.Items.{fault_of};
+    ghost use Rattle.rml_items.specs.Items.{fault_of};
     ghost use Rattle.branches.specs.Sources.{TextAndTree};
 
     ghost Value = { TextAndTree };
@@ -63,7 +63,7 @@ impl<'a> Source<'a> {
     /// The marks of a path of a stage's block, by its number from 1; none where there is no such path.
     pub fn marks(&self, stage: Stage, path: u32) -> Mem<Vec<Mark>>
         ensures marks { IfOk result (λ marks.
-            marks.items ≡ marks_of self.now.text (file_tree self.now.tree) stage path) }
+            marks.items ≡ marks_of self.now.text (file_tree self.now.tree).items stage path) }
         ensures within { IfOk result (λ marks. MarksWithin (length self.now.text) marks.items) }
     {
         let marks = marks_of(self.alloc, self.tree, stage, path)?;
@@ -74,7 +74,7 @@ impl<'a> Source<'a> {
     /// stands, and which way the path takes. No line where there is no such path.
     pub fn push_lines(&self, out: &mut Vec<u8>, stage: Stage, path: u32) -> Mem<()>
         ensures { OnOk result (out.new.items ≡ out.old.items
-            ++ branch_lines self.now.text (file_tree self.now.tree) stage path) }
+            ++ branch_lines self.now.text (file_tree self.now.tree).items stage path) }
     {
         let marks = marks_of(self.alloc, self.tree, stage, path)?;
         push_marks(out, self.text, &marks)?;

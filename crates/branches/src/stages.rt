@@ -13,7 +13,7 @@ fn init_in<'a>(found: &'a [Command], item: &'a Item) -> &'a [Command]
 {
     match item {
         Item::Init(_, commands) => commands,
-        Item::Sort(_) => found,
+        Item::Sort(_, _) => found,
         Item::Relation(_, _) => found,
         Item::Function(_, _, _) => found,
         Item::Variable(_, _) => found,
@@ -21,6 +21,7 @@ fn init_in<'a>(found: &'a [Command], item: &'a Item) -> &'a [Command]
         Item::Conjecture(_, _) => found,
         Item::Action(_, _) => found,
         Item::Final(_, _) => found,
+        Item::Define(_, _, _) => found,
     }
 }
 
@@ -43,7 +44,7 @@ fn final_in<'a>(found: &'a [Command], item: &'a Item) -> &'a [Command]
 {
     match item {
         Item::Final(_, commands) => commands,
-        Item::Sort(_) => found,
+        Item::Sort(_, _) => found,
         Item::Relation(_, _) => found,
         Item::Function(_, _, _) => found,
         Item::Variable(_, _) => found,
@@ -51,6 +52,7 @@ fn final_in<'a>(found: &'a [Command], item: &'a Item) -> &'a [Command]
         Item::Conjecture(_, _) => found,
         Item::Init(_, _) => found,
         Item::Action(_, _) => found,
+        Item::Define(_, _, _) => found,
     }
 }
 
@@ -73,7 +75,7 @@ fn action_in(item: &Item) -> Option<&[Command]>
 {
     match item {
         Item::Action(_, commands) => Some(commands),
-        Item::Sort(_) => None,
+        Item::Sort(_, _) => None,
         Item::Relation(_, _) => None,
         Item::Function(_, _, _) => None,
         Item::Variable(_, _) => None,
@@ -81,6 +83,7 @@ fn action_in(item: &Item) -> Option<&[Command]>
         Item::Conjecture(_, _) => None,
         Item::Init(_, _) => None,
         Item::Final(_, _) => None,
+        Item::Define(_, _, _) => None,
     }
 }
 
@@ -104,7 +107,7 @@ fn action_commands(items: &[Item], number: u32) -> Option<&[Command]>
 
 // The commands of a stage's block; none of an action that is not there.
 pub fn stage_commands(tree: &Tree, stage: Stage) -> Option<&[Command]>
-    ensures { option_map (λ cs. command_trees cs.now) result ≡ stage_commands (file_tree tree.now) stage }
+    ensures { option_map (λ cs. command_trees cs.now) result ≡ stage_commands (file_tree tree.now).items stage }
 {
     match stage {
         Stage::Init => Some(init_commands(&tree.items)),

@@ -1,4 +1,5 @@
 pub mod NumberText
 pub mod CauseWords
+pub mod InText
 pub mod ExecutionText
 pub mod ToldText

@@ -1,5 +1,5 @@
--- A report as it is told: the verdict, the axioms where they are in doubt, whether nothing but aborts is asked for, each
--- counterexample, and at the end what fails, what is left open, and how much holds.
+-- A report as it is told: the verdict, the axioms where they are in doubt, whether nothing but aborts is asked for,
+-- each counterexample, and at the end what fails, what is left open, and how much holds.
 use Rattle.std.specs.Prelude.{ℕ, ◌+◌, List, [], ◌∷◌, ◌++◌, length, codes}
 use Rattle.std.specs.List.{flat_map}
 use Rattle.fol_formula.specs.Syntax.{FormTree}
@@ -24,6 +24,7 @@ use Rattle.rml_report.specs.declared.report.Group.{Group}
 use Rattle.rml_report.specs.declared.report.Report.{Report}
 use Rattle.told_report.specs.NumberText.{two_numbered}
 use Rattle.told_report.specs.CauseWords.{cause_line, open_at}
+use Rattle.told_report.specs.InText.{TextTold}
 use Rattle.told_report.specs.ExecutionText.{execution_text}
 
 -- what a block does that it must not
@@ -44,18 +45,18 @@ abbrev pub least_text : Least → List ℕ
 least_text least.Yes = []
 least_text (least.Stopped bound size c) = cause_line (codes "  there may be a smaller one: ") c
 
-unfoldable pub failure_text : ModelTree → (Stage → ℕ → List ℕ) → Stage → About → ℕ → Least → Counterexample → List ℕ
-failure_text m lines s a paths l shown =
-    broken_text m.names s a ++ path_text shown.trace.path paths ++ least_text l ++ execution_text m lines a shown
+unfoldable pub failure_text : ModelTree → TextTold → Stage → About → ℕ → Least → Counterexample → List ℕ
+failure_text m told s a paths l shown =
+    broken_text m.names s a ++ path_text shown.trace.path paths ++ least_text l ++ execution_text m told a shown
 
 -- a group that fails, behind an empty line
-abbrev pub failing_text : ModelTree → (Stage → ℕ → List ℕ) → Stage → About → Answer → List ℕ
-failing_text m lines s a answer.Holds = []
-failing_text m lines s a (answer.Fails paths l shown) = failure_text m lines s a paths l shown
-failing_text m lines s a (answer.Undecided path c) = []
+abbrev pub failing_text : ModelTree → TextTold → Stage → About → Answer → List ℕ
+failing_text m told s a answer.Holds = []
+failing_text m told s a (answer.Fails paths l shown) = failure_text m told s a paths l shown
+failing_text m told s a (answer.Undecided path c) = []
 
-abbrev pub group_failing : ModelTree → (Stage → ℕ → List ℕ) → Group → List ℕ
-group_failing m lines g = failing_text m lines g.stage g.about g.answer
+abbrev pub group_failing : ModelTree → TextTold → Group → List ℕ
+group_failing m told g = failing_text m told g.stage g.about g.answer
 
 unfoldable pub undecided_text : Names → Stage → About → ℕ → Cause → List ℕ
 undecided_text names s a path c =
@@ -104,8 +105,9 @@ abbrev pub asked_line : List FormTree → List ℕ
 asked_line [] = codes "the model has no conjectures, so only aborts are asked for\n"
 asked_line (c ∷ cs) = []
 
--- of a model and a report, with the lines of the branches that the path of a stage takes
-unfoldable pub told_text : ModelTree → (Stage → ℕ → List ℕ) → Report → List ℕ
-told_text m lines r =
-    verdict_line r.verdict ++ axioms_line r.axioms ++ asked_line m.conjectures ++ flat_map (group_failing m lines) r.groups
+-- of a model and a report, with what the text of the model tells
+unfoldable pub told_text : ModelTree → TextTold → Report → List ℕ
+told_text m told r =
+    verdict_line r.verdict ++ axioms_line r.axioms ++ asked_line m.conjectures ++ flat_map
+    (group_failing m told) r.groups
     ++ codes "\n" ++ flat_map (group_summary m.names) r.groups ++ count_line r.groups

@@ -1,12 +1,13 @@
 // The groups that fail, and those that are left open: each with its counterexample, and in a line.
 ghost use Rattle.std.specs.Prelude.{◌≡◌, ◌++◌, OnOk};
+ghost use Rattle.fol_sig.specs.Symbols.{symbols};
 ghost use Rattle.rml_report.specs.Reports.{IsRefutation, CanRender};
 ghost use Rattle.told_report.specs.ToldText.{fault_text, broken_text, path_text, least_text, failure_text};
 ghost use Rattle.told_report.specs.ToldText.{group_failing, undecided_text, failed_line, group_summary};
 
-use crate::branches::Branches;
 use crate::causes::{push_cause_line, push_open_at};
 use crate::execution::push_execution;
+use crate::in_text::InText;
 use crate::numbers::push_two_numbered;
 use base::{Mem, push_text};
 use rml_command::{About, Checked, Names, Stage};
@@ -65,39 +66,41 @@ fn push_least(out: &mut Vec<u8>, least: &Least) -> Mem<()>
 }
 
 #[tactic(auto, using(std::proofs::Common::append_assoc), unfolding(crate::specs::ToldText::failure_text))]
-fn push_failure<B: Branches>(
+fn push_failure<T: InText>(
     alloc: Global,
     out: &mut Vec<u8>,
     checked: &Checked,
-    branches: &B,
+    source: &T,
     stage: Stage,
     about: About,
     paths: u32,
     least: &Least,
     shown: &Counterexample,
 ) -> Mem<()>
-    requires { IsRefutation checked.now shown.now }
+    requires source { T.is_over source.now (symbols checked.now.signature) }
+    requires shown { IsRefutation checked.now shown.now }
     ensures { OnOk result (out.new.items ≡ out.old.items
-        ++ failure_text checked.now (B.lines branches.now) stage about paths least.now shown.now) }
+        ++ failure_text checked.now (T.told source.now) stage about paths least.now shown.now) }
 {
     push_broken(out, checked.model().names(), stage, about)?;
     push_path(out, shown.trace.path, paths as u64)?;
     push_least(out, least)?;
-    push_execution(alloc, out, checked, branches, about, shown)?;
+    push_execution(alloc, out, checked, source, about, shown)?;
     Ok(())
 }
 
 /// Adds a group that fails; nothing of another.
-pub fn push_failing<B: Branches>(
+pub fn push_failing<T: InText>(
     alloc: Global,
     out: &mut Vec<u8>,
     checked: &Checked,
-    branches: &B,
+    source: &T,
     group: &Group,
 ) -> Mem<()>
-    requires { CanRender checked.now group.now }
+    requires source { T.is_over source.now (symbols checked.now.signature) }
+    requires group { CanRender checked.now group.now }
     ensures { OnOk result (out.new.items ≡ out.old.items
-        ++ group_failing checked.now (B.lines branches.now) group.now) }
+        ++ group_failing checked.now (T.told source.now) group.now) }
 {
     match &group.answer {
         Answer::Holds | Answer::Undecided { .. } => Ok(()),
@@ -109,7 +112,7 @@ pub fn push_failing<B: Branches>(
             alloc,
             out,
             checked,
-            branches,
+            source,
             group.stage,
             group.about,
             *paths,

@@ -3,16 +3,16 @@
 //! much holds, and which option to raise for what is left open.
 #![tactic(auto)]
 
-mod branches;
 mod causes;
 mod execution;
 mod groups;
+mod in_text;
 mod numbers;
 mod telling;
 
-pub use branches::Branches;
 pub use causes::{push_cause_line, push_cause_words, push_open_at};
-pub use execution::{push_after, push_execution, push_step};
+pub use execution::{push_after, push_differences, push_execution, push_state, push_step};
 pub use groups::{push_fault, push_path, push_undecided};
+pub use in_text::InText;
 pub use numbers::{push_numbered, push_two_numbered};
 pub use telling::tell;

@@ -1,13 +1,14 @@
 // A report as it is told.
 ghost use Rattle.std.specs.Prelude.{◌≡◌, ◌≤◌, ◌++◌, OnOk, IfOk};
 ghost use Rattle.std.specs.List.{AllByRecursion, flat_map};
+ghost use Rattle.fol_sig.specs.Symbols.{symbols};
 ghost use Rattle.rml_report.specs.Reports.{CanRender};
 ghost use Rattle.told_report.specs.ToldText.{group_failing, group_summary, held_by, held, count_line, verdict_line};
 ghost use Rattle.told_report.specs.ToldText.{axioms_line, asked_line, told_text};
 
-use crate::branches::Branches;
 use crate::causes::push_cause_line;
 use crate::groups::{push_failing, push_summary};
+use crate::in_text::InText;
 use crate::numbers::push_two_numbered;
 use base::{Mem, push_text};
 use fol_formula::Sentence;
@@ -60,20 +61,21 @@ fn push_asked(out: &mut Vec<u8>, conjectures: &[Sentence]) -> Mem<()>
 }
 
 #[tactic(auto, using(std::proofs::Common::append_assoc))]
-fn push_all_failing<B: Branches>(
+fn push_all_failing<T: InText>(
     alloc: Global,
     out: &mut Vec<u8>,
     checked: &Checked,
-    branches: &B,
+    source: &T,
     groups: &[Group],
 ) -> Mem<()>
-    requires { AllByRecursion (CanRender checked.now) groups.now }
+    requires source { T.is_over source.now (symbols checked.now.signature) }
+    requires groups { AllByRecursion (CanRender checked.now) groups.now }
     ensures { OnOk result (out.new.items ≡ out.old.items
-        ++ flat_map (group_failing checked.now (B.lines branches.now)) groups.now) }
+        ++ flat_map (group_failing checked.now (T.told source.now)) groups.now) }
 {
     let mut rest = groups;
     while let [group, after @ ..] = rest {
-        push_failing(alloc, out, checked, branches, group)?;
+        push_failing(alloc, out, checked, source, group)?;
         rest = after;
     }
     Ok(())
@@ -129,21 +131,22 @@ fn push_count(out: &mut Vec<u8>, groups: &[Group]) -> Mem<()>
 /// asked for, each group that fails with its counterexample and the branches that it takes, a line for each that fails
 /// or is left open, and how many hold.
 #[tactic(auto, using(std::proofs::Common::append_assoc), unfolding(crate::specs::ToldText::told_text))]
-pub fn tell<B: Branches>(
+pub fn tell<T: InText>(
     alloc: Global,
     checked: &Checked,
-    branches: &B,
+    source: &T,
     report: &Report,
 ) -> Mem<Vec<u8>>
-    requires { AllByRecursion (CanRender checked.now) report.now.groups }
-    ensures { IfOk result (λ text. text.items ≡ told_text checked.now (B.lines branches.now) report.now) }
+    requires source { T.is_over source.now (symbols checked.now.signature) }
+    requires groups { AllByRecursion (CanRender checked.now) report.now.groups }
+    ensures { IfOk result (λ text. text.items ≡ told_text checked.now (T.told source.now) report.now) }
 {
     let groups = report.groups.as_slice();
     let mut out = Vec::new(alloc);
     push_verdict(&mut out, report.verdict)?;
     push_axioms(&mut out, &report.axioms)?;
     push_asked(&mut out, checked.model().conjectures())?;
-    push_all_failing(alloc, &mut out, checked, branches, groups)?;
+    push_all_failing(alloc, &mut out, checked, source, groups)?;
     push_text(&mut out, "\n")?;
     push_summaries(&mut out, checked.model().names(), groups)?;
     push_count(&mut out, groups)?;

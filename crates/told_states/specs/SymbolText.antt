@@ -1,4 +1,4 @@
--- Relations and functions at a tuple.
+-- Relations and functions, and the cells of their tables.
 use Rattle.std.specs.Prelude.{ℕ, Bool, true, false, List, [], ◌∷◌, ◌++◌, length}
 use Rattle.std.specs.List.{flat_map}
 use Rattle.fol_sig.specs.declared.symbol.Symbol.{Symbol}
@@ -8,7 +8,6 @@ use Rattle.fol_sig.specs.SymbolTables.{arguments_of}
 use Rattle.fol_sig.specs.Tuples.{join_below, tuple_at}
 use Rattle.rml_command.specs.declared.names.Names.{Names}
 use Rattle.rml_report.specs.Words.{name_at}
-use Rattle.told_states.specs.ElementText.{arguments_text}
 
 abbrev pub symbol_name : Names → Symbol → List ℕ
 symbol_name names (symbol.Relation r) = name_at names.relations r.0
@@ -19,10 +18,6 @@ abbrev pub is_variable : Symbol → List ℕ → Bool
 is_variable (symbol.Relation r) ks = false
 is_variable (symbol.Function f) [] = true
 is_variable (symbol.Function f) (k ∷ ks) = false
-
--- linked(client0, server0)
-unfoldable pub atom_text : Names → Tables → Symbol → List ℕ → List ℕ
-atom_text names s q xs = symbol_name names q ++ arguments_text names (arguments_of s q) xs
 
 -- a text for each tuple of elements of these sorts, in lexicographic order
 abbrev pub at_tuples : List ℕ → List ℕ → (List ℕ → List ℕ) → List ℕ

@@ -6,12 +6,14 @@ ghost use Rattle.fol_sig.specs.Symbols.{FitsStructure, symbols};
 ghost use Rattle.fol_sig.specs.Tuples.{join_below};
 ghost use Rattle.fol_sig.specs.SymbolTables.{HasSymbol, IsCell};
 ghost use Rattle.told_states.specs.SymbolText.{symbols_of};
+ghost use Rattle.told_states.specs.Labels.{labels_of};
 ghost use Rattle.told_states.specs.BeforeText.{true_text, value_text, cell_text, facts_text, symbol_line};
 ghost use Rattle.told_states.specs.BeforeText.{variable_text, structure_text, separator, sort_text, before_text};
 
 use crate::cells::{OfCells, push_cells};
-use crate::elements::{push_element, push_line};
-use crate::symbols::{all_symbols, is_variable, push_atom, sizes};
+use crate::elements::{push_atom, push_label, push_line};
+use crate::labels::Labels;
+use crate::symbols::{all_symbols, is_variable, sizes};
 use base::{Mem, push_number, push_text};
 use fol_sig::{Sort, Structure, Symbol};
 use rml_command::{Model, Names};
@@ -22,16 +24,16 @@ use std::alloc::Global;
 #[tactic(auto, using(std::proofs::Common::append_assoc), unfolding(crate::specs::BeforeText::true_text))]
 fn push_true(
     out: &mut Vec<u8>,
-    names: &Names,
+    labels: &Labels,
     structure: &Structure,
     symbol: Symbol,
     tuple: &[u32],
 ) -> Mem<()>
     requires { HasSymbol structure.now symbol }
-    ensures { OnOk result (out.new.items ≡ out.old.items ++ true_text names.now structure.now symbol tuple.now) }
+    ensures { OnOk result (out.new.items ≡ out.old.items ++ true_text labels.now structure.now symbol tuple.now) }
 {
     push_text(out, ", ")?;
-    push_atom(out, names, structure, symbol, tuple)?;
+    push_atom(out, labels, structure, symbol, tuple)?;
     Ok(())
 }
 
@@ -39,7 +41,7 @@ fn push_true(
 #[tactic(auto, using(std::proofs::Common::append_assoc), unfolding(crate::specs::BeforeText::value_text))]
 fn push_value(
     out: &mut Vec<u8>,
-    names: &Names,
+    labels: &Labels,
     structure: &Structure,
     symbol: Symbol,
     tuple: &[u32],
@@ -48,29 +50,29 @@ fn push_value(
 ) -> Mem<()>
     requires { HasSymbol structure.now symbol }
     ensures { OnOk result (out.new.items ≡ out.old.items
-        ++ value_text names.now structure.now symbol tuple.now sort.0 value) }
+        ++ value_text labels.now structure.now symbol tuple.now sort.0 value) }
 {
     push_text(out, ", ")?;
-    push_atom(out, names, structure, symbol, tuple)?;
+    push_atom(out, labels, structure, symbol, tuple)?;
     push_text(out, " = ")?;
-    push_element(out, names, sort, value)?;
+    push_label(out, labels, sort, value)?;
     Ok(())
 }
 
 fn push_cell(
     out: &mut Vec<u8>,
-    names: &Names,
+    labels: &Labels,
     structure: &Structure,
     symbol: Symbol,
     tuple: &[u32],
 ) -> Mem<()>
     requires { IsCell structure.now symbol tuple.now }
-    ensures { OnOk result (out.new.items ≡ out.old.items ++ cell_text names.now structure.now symbol tuple.now) }
+    ensures { OnOk result (out.new.items ≡ out.old.items ++ cell_text labels.now structure.now symbol tuple.now) }
 {
     match symbol {
         Symbol::Relation(rel) => {
             if structure.rel(rel, tuple) {
-                push_true(out, names, structure, symbol, tuple)
+                push_true(out, labels, structure, symbol, tuple)
             } else {
                 Ok(())
             }
@@ -78,18 +80,18 @@ fn push_cell(
         Symbol::Function(fun) => {
             let value = structure.fun(fun, tuple);
             let sort = structure.function_into(fun);
-            push_value(out, names, structure, symbol, tuple, sort, value)
+            push_value(out, labels, structure, symbol, tuple, sort, value)
         }
     }
 }
 
 #[derive(Clone, Copy)]
 struct Facts<'a> {
-    names: &'a Names,
+    labels: &'a Labels<'a>,
 }
 
 impl<'a> OfCells for Facts<'a> {
-    ghost text = { λ f s t q xs. cell_text f.names.now s q xs };
+    ghost text = { λ f s t q xs. cell_text f.labels.now s q xs };
 
     fn push(
         &self,
@@ -100,7 +102,7 @@ impl<'a> OfCells for Facts<'a> {
         symbol: Symbol,
         tuple: &[u32],
     ) -> Mem<()> {
-        push_cell(out, self.names, here, symbol, tuple)
+        push_cell(out, self.labels, here, symbol, tuple)
     }
 }
 
@@ -110,7 +112,7 @@ fn push_symbol(
     alloc: Global,
     out: &mut Vec<u8>,
     variables: &mut Vec<u8>,
-    names: &Names,
+    labels: &Labels,
     structure: &Structure,
     sizes: &[u32],
     symbol: Symbol,
@@ -118,11 +120,11 @@ fn push_symbol(
     requires whole { IsStructure structure.now }
     requires sizes { sizes.now ≡ structure.now.sizes }
     requires known { HasSymbol structure.now symbol }
-    ensures line { OnOk result (out.new.items ≡ out.old.items ++ symbol_line names.now structure.now symbol) }
+    ensures line { OnOk result (out.new.items ≡ out.old.items ++ symbol_line labels.now structure.now symbol) }
     ensures variable { OnOk result (variables.new.items ≡ variables.old.items
-        ++ variable_text names.now structure.now symbol) }
+        ++ variable_text labels.now structure.now symbol) }
 {
-    let told = Facts { names };
+    let told = Facts { labels };
     let mut pieces = Vec::new(alloc);
     push_cells(
         alloc,
@@ -133,10 +135,10 @@ fn push_symbol(
         sizes,
         symbol,
     )?;
-    if is_variable(structure, symbol) {
-        variables.extend_from_slice(&pieces)?;
-    } else {
+    if !is_variable(structure, symbol) {
         push_line(out, "    ", &pieces)?;
+    } else if !labels.is_called(symbol) {
+        variables.extend_from_slice(&pieces)?;
     }
     Ok(())
 }
@@ -151,16 +153,16 @@ fn push_symbols(
 ) -> Mem<()>
     requires { FitsStructure (symbols model.now.signature) structure.now }
     ensures lines { OnOk result (out.new.items ≡ out.old.items
-        ++ flat_map (symbol_line model.now.names structure.now) (symbols_of structure.now)) }
+        ++ flat_map (symbol_line (labels_of model.now structure.now) structure.now) (symbols_of structure.now)) }
     ensures variables { OnOk result (variables.new.items ≡ variables.old.items
-        ++ flat_map (variable_text model.now.names structure.now) (symbols_of structure.now)) }
+        ++ flat_map (variable_text (labels_of model.now structure.now) structure.now) (symbols_of structure.now)) }
 {
-    let names = model.names();
+    let labels = Labels::of(alloc, model, structure)?;
     let sizes = sizes(alloc, model, structure)?;
     let symbols = all_symbols(alloc, model, structure)?;
     let mut rest = symbols.as_slice();
     while let [symbol, after @ ..] = rest {
-        push_symbol(alloc, out, variables, names, structure, &sizes, *symbol)?;
+        push_symbol(alloc, out, variables, &labels, structure, &sizes, *symbol)?;
         rest = after;
     }
     Ok(())
@@ -169,7 +171,8 @@ fn push_symbols(
 #[tactic(auto, using(std::proofs::Common::append_assoc), unfolding(crate::specs::BeforeText::structure_text))]
 fn push_structure(alloc: Global, out: &mut Vec<u8>, model: &Model, structure: &Structure) -> Mem<()>
     requires { FitsStructure (symbols model.now.signature) structure.now }
-    ensures { OnOk result (out.new.items ≡ out.old.items ++ structure_text model.now.names structure.now) }
+    ensures { OnOk result
+        (out.new.items ≡ out.old.items ++ structure_text (labels_of model.now structure.now) structure.now) }
 {
     let mut variables = Vec::new(alloc);
     push_symbols(alloc, out, &mut variables, model, structure)?;
@@ -220,7 +223,7 @@ pub fn push_before(
     structure: &Structure,
 ) -> Mem<()>
     requires { FitsStructure (symbols model.now.signature) structure.now }
-    ensures { OnOk result (out.new.items ≡ out.old.items ++ before_text model.now.names structure.now) }
+    ensures { OnOk result (out.new.items ≡ out.old.items ++ before_text model.now structure.now) }
 {
     push_text(out, "  before")?;
     push_sorts(out, model, structure)?;

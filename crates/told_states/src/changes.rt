@@ -7,18 +7,18 @@ ghost use Rattle.told_states.specs.ChangeText.{signed_text, flip_text, moved_tex
 ghost use Rattle.told_states.specs.ChangeText.{below_changes, changes_text};
 
 use crate::cells::{OfCells, push_all_cells};
-use crate::elements::push_element;
-use crate::symbols::push_atom;
+use crate::elements::{push_atom, push_label};
+use crate::labels::Labels;
 use base::{Mem, push_text};
 use fol_sig::{Sort, Structure, Symbol};
-use rml_command::{Model, Names};
+use rml_command::Model;
 use std::alloc::Global;
 
 // A sign, and a symbol with its arguments.
 #[tactic(auto, using(std::proofs::Common::append_assoc), unfolding(crate::specs::ChangeText::signed_text))]
 fn push_signed(
     out: &mut Vec<u8>,
-    names: &Names,
+    labels: &Labels,
     structure: &Structure,
     sign: &str,
     symbol: Symbol,
@@ -26,10 +26,10 @@ fn push_signed(
 ) -> Mem<()>
     requires { HasSymbol structure.now symbol }
     ensures { OnOk result (out.new.items ≡ out.old.items
-        ++ signed_text names.now structure.now sign.now symbol tuple.now) }
+        ++ signed_text labels.now structure.now sign.now symbol tuple.now) }
 {
     push_text(out, sign)?;
-    push_atom(out, names, structure, symbol, tuple)?;
+    push_atom(out, labels, structure, symbol, tuple)?;
     push_text(out, "\n")?;
     Ok(())
 }
@@ -37,7 +37,7 @@ fn push_signed(
 // What a relation was at a tuple, and what it is.
 fn push_flip(
     out: &mut Vec<u8>,
-    names: &Names,
+    labels: &Labels,
     structure: &Structure,
     symbol: Symbol,
     tuple: &[u32],
@@ -46,11 +46,11 @@ fn push_flip(
 ) -> Mem<()>
     requires { HasSymbol structure.now symbol }
     ensures { OnOk result (out.new.items ≡ out.old.items
-        ++ flip_text names.now structure.now symbol tuple.now old new) }
+        ++ flip_text labels.now structure.now symbol tuple.now old new) }
 {
     match (old, new) {
-        (false, true) => push_signed(out, names, structure, "    + ", symbol, tuple),
-        (true, false) => push_signed(out, names, structure, "    - ", symbol, tuple),
+        (false, true) => push_signed(out, labels, structure, "    + ", symbol, tuple),
+        (true, false) => push_signed(out, labels, structure, "    - ", symbol, tuple),
         _ => Ok(()),
     }
 }
@@ -59,7 +59,7 @@ fn push_flip(
 #[tactic(auto, using(std::proofs::Common::append_assoc), unfolding(crate::specs::ChangeText::moved_text))]
 fn push_moved(
     out: &mut Vec<u8>,
-    names: &Names,
+    labels: &Labels,
     structure: &Structure,
     symbol: Symbol,
     tuple: &[u32],
@@ -69,14 +69,14 @@ fn push_moved(
 ) -> Mem<()>
     requires { HasSymbol structure.now symbol }
     ensures { OnOk result (out.new.items ≡ out.old.items
-        ++ moved_text names.now structure.now symbol tuple.now sort.0 old new) }
+        ++ moved_text labels.now structure.now symbol tuple.now sort.0 old new) }
 {
     push_text(out, "    ")?;
-    push_atom(out, names, structure, symbol, tuple)?;
+    push_atom(out, labels, structure, symbol, tuple)?;
     push_text(out, ": ")?;
-    push_element(out, names, sort, old)?;
+    push_label(out, labels, sort, old)?;
     push_text(out, " -> ")?;
-    push_element(out, names, sort, new)?;
+    push_label(out, labels, sort, new)?;
     push_text(out, "\n")?;
     Ok(())
 }
@@ -84,7 +84,7 @@ fn push_moved(
 // The value that a function had at a tuple, and the value that it has.
 fn push_move(
     out: &mut Vec<u8>,
-    names: &Names,
+    labels: &Labels,
     structure: &Structure,
     symbol: Symbol,
     tuple: &[u32],
@@ -94,18 +94,18 @@ fn push_move(
 ) -> Mem<()>
     requires { HasSymbol structure.now symbol }
     ensures { OnOk result (out.new.items ≡ out.old.items
-        ++ move_text names.now structure.now symbol tuple.now sort.0 old new) }
+        ++ move_text labels.now structure.now symbol tuple.now sort.0 old new) }
 {
     if old == new {
         Ok(())
     } else {
-        push_moved(out, names, structure, symbol, tuple, sort, old, new)
+        push_moved(out, labels, structure, symbol, tuple, sort, old, new)
     }
 }
 
 fn push_change(
     out: &mut Vec<u8>,
-    names: &Names,
+    labels: &Labels,
     before: &Structure,
     after: &Structure,
     symbol: Symbol,
@@ -114,30 +114,30 @@ fn push_change(
     requires before { IsCell before.now symbol tuple.now }
     requires after { IsCell after.now symbol tuple.now }
     ensures { OnOk result (out.new.items ≡ out.old.items
-        ++ change_text names.now before.now after.now symbol tuple.now) }
+        ++ change_text labels.now before.now after.now symbol tuple.now) }
 {
     match symbol {
         Symbol::Relation(rel) => {
             let old = before.rel(rel, tuple);
             let new = after.rel(rel, tuple);
-            push_flip(out, names, before, symbol, tuple, old, new)
+            push_flip(out, labels, before, symbol, tuple, old, new)
         }
         Symbol::Function(fun) => {
             let sort = before.function_into(fun);
             let old = before.fun(fun, tuple);
             let new = after.fun(fun, tuple);
-            push_move(out, names, before, symbol, tuple, sort, old, new)
+            push_move(out, labels, before, symbol, tuple, sort, old, new)
         }
     }
 }
 
 #[derive(Clone, Copy)]
 struct Changes<'a> {
-    names: &'a Names,
+    labels: &'a Labels<'a>,
 }
 
 impl<'a> OfCells for Changes<'a> {
-    ghost text = { λ c s t q xs. change_text c.names.now s t q xs };
+    ghost text = { λ c s t q xs. change_text c.labels.now s t q xs };
 
     fn push(
         &self,
@@ -148,7 +148,7 @@ impl<'a> OfCells for Changes<'a> {
         symbol: Symbol,
         tuple: &[u32],
     ) -> Mem<()> {
-        push_change(out, self.names, here, there, symbol, tuple)
+        push_change(out, self.labels, here, there, symbol, tuple)
     }
 }
 
@@ -176,11 +176,10 @@ pub fn push_changes(
 ) -> Mem<()>
     requires structure { FitsStructure (symbols model.now.signature) before.now }
     requires alike { AreAlike before.now after.now }
-    ensures { OnOk result (out.new.items ≡ out.old.items ++ changes_text model.now.names before.now after.now) }
+    ensures { OnOk result (out.new.items ≡ out.old.items ++ changes_text model.now before.now after.now) }
 {
-    let told = Changes {
-        names: model.names(),
-    };
+    let labels = Labels::of(alloc, model, before)?;
+    let told = Changes { labels: &labels };
     let mut lines = Vec::new(alloc);
     push_all_cells(alloc, &mut lines, &told, model, before, after)?;
     push_below(out, &lines)?;

@@ -4,10 +4,9 @@ ghost use Rattle.fol_sig.specs.Symbols.{FitsStructure, symbols};
 ghost use Rattle.std.specs.List.{AllByRecursion};
 ghost use Rattle.fol_sig.specs.Tuples.{join_below};
 ghost use Rattle.fol_sig.specs.SymbolTables.{arguments_of, HasSymbol};
-ghost use Rattle.told_states.specs.SymbolText.{symbol_name, is_variable, atom_text};
+ghost use Rattle.told_states.specs.SymbolText.{symbol_name, is_variable};
 ghost use Rattle.told_states.specs.SymbolText.{relation_symbol, function_symbol, symbols_of};
 
-use crate::elements::push_arguments;
 use base::Mem;
 use fol_sig::{FunId, RelId, Sort, Structure, Symbol};
 use rml_command::{Model, Names};
@@ -33,23 +32,6 @@ pub fn push_symbol(out: &mut Vec<u8>, names: &Names, symbol: Symbol) -> Mem<()>
         Symbol::Relation(rel) => push_name(out, names.relations.as_slice(), rel.0),
         Symbol::Function(fun) => push_name(out, names.functions.as_slice(), fun.0),
     }
-}
-
-/// Adds the symbol with its arguments.
-#[tactic(auto, using(std::proofs::Common::append_assoc), unfolding(crate::specs::SymbolText::atom_text))]
-pub fn push_atom(
-    out: &mut Vec<u8>,
-    names: &Names,
-    structure: &Structure,
-    symbol: Symbol,
-    tuple: &[u32],
-) -> Mem<()>
-    requires { HasSymbol structure.now symbol }
-    ensures { OnOk result (out.new.items ≡ out.old.items ++ atom_text names.now structure.now symbol tuple.now) }
-{
-    push_symbol(out, names, symbol)?;
-    push_arguments(out, names, structure.arguments(symbol), tuple)?;
-    Ok(())
 }
 
 /// The sizes of a structure's sorts.

@@ -13,7 +13,7 @@ use command_line::{Asked, Bound, Request, check, read_words};
 use std::alloc::Global;
 
 /// What is asked of a model.
-#[derive(Clone, Copy, Debug)]
+#[derive(Clone, Copy)]
 pub enum Question<'a> {
     /// `check FILE`: whether it is inductive.
     Check(&'a str, Asked),
@@ -28,7 +28,7 @@ pub enum Question<'a> {
 }
 
 /// A command line of `ivyview`.
-#[derive(Clone, Copy, Debug)]
+#[derive(Clone, Copy)]
 pub enum Ask<'a> {
     Help,
     Version,

@@ -4,7 +4,9 @@
 #![tactic(auto)]
 
 mod asking;
+mod manual;
 mod options;
 
 pub use asking::{Ask, Question, read_ask};
+pub use manual::{help, usage};
 pub use options::{Form, Options, other_words};

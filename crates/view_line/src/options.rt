@@ -7,7 +7,7 @@ use base::Mem;
 use std::alloc::Global;
 
 /// How an outcome is shown.
-#[derive(Clone, Copy, Debug, PartialEq, Eq)]
+#[derive(Clone, Copy, PartialEq, Eq)]
 pub enum Form {
     /// As a person reads it.
     Told,
@@ -18,7 +18,7 @@ pub enum Form {
 }
 
 /// What is asked for beside the question.
-#[derive(Clone, Copy, Debug, PartialEq, Eq)]
+#[derive(Clone, Copy)]
 pub struct Options {
     /// Limits are on lean counts.
     pub lean: bool,

@@ -8,7 +8,7 @@ use Rattle.commands.specs.declared.command.Done.{Done}
 use Rattle.view_line.specs.Asking.{AskLine}
 use Rattle.view_run.specs.declared.ended.Answer.{Answer}
 use Rattle.view_run.specs.Variants.{done_as}
-use Rattle.view_run.specs.Views.{answer_due, due_of}
+use Rattle.view_run.specs.Questions.{answer_due, due_of}
 
 module _ {A : Type 0} (variant : A → Answer) (Is : List ℕ → List ℕ → Done A → Type 0) where
   module _ (Of : List ℕ → List ℕ → Answer → Type 0)

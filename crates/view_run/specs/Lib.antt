@@ -1,3 +1,10 @@
-pub mod Words
 pub mod Views
+pub mod WayData
+pub mod Check
+pub mod Houdini
+pub mod Bmc
+pub mod Why
+pub mod Replay
+pub mod Words
+pub mod Questions
 pub mod Variants

@@ -1,136 +1,61 @@
--- The one page that names every question: whose answer is whose, and what is due.
-use Rattle.std.specs.Prelude.{◌≡◌, ℕ, if◌then◌else◌, List, [], Option, Some, None, Result, Ok, Err}
-use Rattle.rml_bytes.specs.declared.outside.LoadError.{LoadError}
-use Rattle.rml_bytes.specs.Outside.{Told}
-use Rattle.commands.specs.Ends.{EndsNone, EndsOne, EndsTwo}
-use Rattle.commands.specs.Due.{Due, stop_due}
-use Rattle.command_line.specs.declared.request.Asked.{Asked}
-use Rattle.command_line.specs.declared.request.Bound.{Bound}
-use Rattle.command_parts.specs.ModelTexts.{model_limit}
-use Rattle.command_parts.specs.Limits.{ceilings_of}
-use Rattle.lean_decide.specs.declared.settling.Counted.{Counted}
-use Rattle.lean_decide.specs.declared.settling.Counted.TheVariants.{Whole, Lean}
-use Rattle.model_commands.specs.Check.{IsCheckAnswerBy}
-use Rattle.model_commands.specs.Houdini.{IsHoudiniAnswerBy}
-use Rattle.model_commands.specs.Bmc.{IsBmcAnswerBy}
-use Rattle.model_commands.specs.declared.check.CheckAnswer.{CheckAnswer}
-use Rattle.model_commands.specs.declared.houdini.HoudiniAnswer.{HoudiniAnswer}
-use Rattle.model_commands.specs.declared.bmc.BmcAnswer.{BmcAnswer}
-use Rattle.replay_command.specs.Replay.{IsReplayAnswer, report_limit}
+-- What all questions share: an answer with the text as far as it can be read, the branches of a path, and faults.
+use Rattle.std.specs.Prelude.{ℕ, List, [], Option, Some, None, codes}
+use Rattle.serde_json.specs.Data.{Members, object, string}
+use Rattle.rml_lex.specs.declared.token.Fault.{Fault}
+use Rattle.rml_syntax.specs.Tree.{file_tree}
+use Rattle.rml_command.specs.declared.goal.Stage.{Stage}
+use Rattle.branches.specs.Sources.{TextAndTree}
+use Rattle.branches.specs.MarkText.{branch_lines}
+use Rattle.json_values.specs.Values.{with_member, line_text}
+use Rattle.json_outcome.specs.FaultData.{faulty_members}
+use Rattle.commands.specs.Due.{Due}
+use Rattle.command_parts.specs.Saying.{on_out, on_err}
+use Rattle.told_fault.specs.declared.reading.Reading.{Reading}
+use Rattle.told_fault.specs.declared.reading.Reading.TheVariants.{NoTokens, Unexpected, TooDeep, Parsed}
+use Rattle.told_fault.specs.Readings.{IsReading, fault_text}
+use Rattle.told_report.specs.InText.{TextTold}
+use Rattle.told_derived.specs.Definitions.{Definitions, definitions_of, no_definitions}
+use Rattle.told_derived.specs.DerivedText.{facts_text, changes_text}
 use Rattle.view_line.specs.declared.options.Form.{Form}
-use Rattle.view_line.specs.declared.options.Form.TheVariants as form
-use Rattle.view_line.specs.declared.options.Options.{Options}
-use Rattle.view_line.specs.Asking.{Query, AskLine, of_check, of_houdini, of_bmc, of_why, of_replay, help, version, show}
-use Rattle.view_commands.specs.declared.viewed.Viewed.{Viewed}
-use Rattle.view_commands.specs.declared.why.WhyAnswer.{WhyAnswer}
-use Rattle.replay_command.specs.declared.replay.ReplayAnswer.{ReplayAnswer}
-use Rattle.view_commands.specs.Views.{IsViewed}
-use Rattle.view_commands.specs.Check.{check_view}
-use Rattle.view_commands.specs.Houdini.{houdini_view}
-use Rattle.view_commands.specs.Bmc.{bmc_view}
-use Rattle.view_commands.specs.Why.{IsWhyAnswer, why_view}
-use Rattle.view_commands.specs.Replay.{replay_view}
-use Rattle.view_run.specs.declared.ended.Answer.{Answer}
-use Rattle.view_run.specs.declared.ended.Answer.TheVariants as answer
-use Rattle.view_run.specs.declared.words.Words.{Words}
-use Rattle.view_run.specs.declared.words.Words.TheVariants as words
-use Rattle.view_run.specs.Words.{words_due}
+use Rattle.view_line.specs.declared.options.Form.TheVariants.{Told, Dot, Json}
+use Rattle.view_run.specs.declared.viewed.Viewed.{Viewed}
 
--- which words are asked for
-abbrev pub words_of : Option AskLine → Words
-words_of (Some help) = words.Help
-words_of (Some version) = words.Version
-words_of _ = words.Usage
+-- the answer is so, and the text is read as far as it can be
+abbrev pub IsViewed : {A : Type 0} → (A → Type 0) → List ℕ → Viewed A → Type 0
+IsViewed P text v = P v.answer × IsReading text v.reading
 
--- on which counts limits are
-abbrev pub counted_by : Options → Counted
-counted_by options = if options.lean then Lean else Whole
+-- the source of a text that has a tree
+abbrev pub source_of : List ℕ → Reading → Option TextAndTree
+source_of text (NoTokens hint) = None
+source_of text (Unexpected kinds hint) = None
+source_of text TooDeep = None
+source_of text (Parsed tree) = Some (record { text = text; tree = tree })
 
--- the answer to words alone
-abbrev pub IsWords : Answer → Type 0
-IsWords a = a ≡ answer.Words
+-- the lines of the branches that a path takes
+abbrev pub ways_at : Option TextAndTree → Stage → ℕ → List ℕ
+ways_at None s path = []
+ways_at (Some source) s path = branch_lines source.text (file_tree source.tree).items s path
 
--- an answer of `check` of which P holds
-abbrev pub OfCheck : (Viewed CheckAnswer → Type 0) → Answer → Type 0
-OfCheck P (answer.Check v) = P v
-OfCheck P _ = ⊥
+-- the derived relations of a text that has a tree
+abbrev pub definitions_in : List ℕ → Reading → Definitions
+definitions_in text (NoTokens hint) = no_definitions
+definitions_in text (Unexpected kinds hint) = no_definitions
+definitions_in text TooDeep = no_definitions
+definitions_in text (Parsed tree) = definitions_of text (file_tree tree)
 
--- an answer of `houdini` of which P holds
-abbrev pub OfHoudini : (Viewed HoudiniAnswer → Type 0) → Answer → Type 0
-OfHoudini P (answer.Houdini v) = P v
-OfHoudini P _ = ⊥
+-- what is told by the text beside its model
+abbrev pub told_by : Option TextAndTree → Definitions → TextTold
+told_by source d = record { lines = ways_at source; facts = facts_text d; changes = changes_text d }
 
--- an answer of `bmc` of which P holds
-abbrev pub OfBmc : (Viewed BmcAnswer → Type 0) → Answer → Type 0
-OfBmc P (answer.Bmc v) = P v
-OfBmc P _ = ⊥
+abbrev pub text_told : List ℕ → Reading → TextTold
+text_told text reading = told_by (source_of text reading) (definitions_in text reading)
 
--- an answer of `why` of which P holds
-abbrev pub OfWhy : (Viewed WhyAnswer → Type 0) → Answer → Type 0
-OfWhy P (answer.Why v) = P v
-OfWhy P _ = ⊥
+-- the line of a JSON value with the name of the file
+unfoldable pub line_of : List ℕ → Members → List ℕ
+line_of file members = line_text (object (with_member members (codes "file") (string file)))
 
--- an answer of `replay` of which P holds
-abbrev pub OfReplay : (Viewed ReplayAnswer → Type 0) → Answer → Type 0
-OfReplay P (answer.Replay v) = P v
-OfReplay P _ = ⊥
-
--- How each command line ends: what of its files was loaded, and of what the answer is the answer. Words that are no
--- command line, or ask for help or for the version, load nothing. What `check`, `houdini`, `bmc` and `replay` answer is
--- what they answer in `ivycheck`, with limits on lean counts where `--lean` stands.
-abbrev pub EndsAsAsked : Option AskLine → (List ℕ → Told) → ℕ → ℕ → List ℕ → List ℕ → Result Answer LoadError → Type 0
-EndsAsAsked None told before now first second end = EndsNone before now first second (λ text other a. IsWords a) end
-EndsAsAsked (Some help) told before now first second end =
-    EndsNone before now first second (λ text other a. IsWords a) end
-EndsAsAsked (Some version) told before now first second end =
-    EndsNone before now first second (λ text other a. IsWords a) end
-EndsAsAsked (Some (show (of_check file asked) options)) told before now first second end =
-    EndsOne (told file) model_limit before now first second
-    (λ text other a. OfCheck (IsViewed (IsCheckAnswerBy (counted_by options) (ceilings_of asked) text) text) a) end
-EndsAsAsked (Some (show (of_houdini file asked) options)) told before now first second end =
-    EndsOne (told file) model_limit before now first second
-    (λ text other a. OfHoudini (IsViewed (IsHoudiniAnswerBy (counted_by options) (ceilings_of asked) text) text) a) end
-EndsAsAsked (Some (show (of_bmc file bound) options)) told before now first second end =
-    EndsOne (told file) model_limit before now first second
-    (λ text other a. OfBmc (IsViewed (IsBmcAnswerBy (counted_by options) bound text) text) a) end
-EndsAsAsked (Some (show (of_why file asked) options)) told before now first second end =
-    EndsOne (told file) model_limit before now first second
-    (λ text other a. OfWhy (IsViewed (IsWhyAnswer (ceilings_of asked) text) text) a) end
-EndsAsAsked (Some (show (of_replay model report) options)) told before now first second end =
-    EndsTwo (told model) (told report) model_limit report_limit before now first second
-    (λ text other a. OfReplay (IsViewed (IsReplayAnswer text other) text) a) end
-
--- how the answer is to be shown
-abbrev pub form_of : Option AskLine → Form
-form_of (Some (show q options)) = options.form
-form_of _ = form.Told
-
--- the name of the model's file
-abbrev pub file_of : Query → List ℕ
-file_of (of_check file asked) = file
-file_of (of_houdini file asked) = file
-file_of (of_bmc file bound) = file
-file_of (of_why file asked) = file
-file_of (of_replay model report) = model
-
-abbrev pub model_of : Option AskLine → List ℕ
-model_of (Some (show q options)) = file_of q
-model_of _ = []
-
--- that of the report's
-abbrev pub report_of : Option AskLine → List ℕ
-report_of (Some (show (of_replay model report) options)) = report
-report_of _ = []
-
-abbrev pub answer_due : Option AskLine → List ℕ → List ℕ → Answer → Due
-answer_due ask first second answer.Words = words_due (words_of ask)
-answer_due ask first second (answer.Check v) = check_view (form_of ask) (model_of ask) first v
-answer_due ask first second (answer.Houdini v) = houdini_view (form_of ask) (model_of ask) first v
-answer_due ask first second (answer.Bmc v) = bmc_view (form_of ask) (model_of ask) first v
-answer_due ask first second (answer.Why v) = why_view (form_of ask) (model_of ask) first v
-answer_due ask first second (answer.Replay v) = replay_view (form_of ask) (model_of ask) (report_of ask) first v
-
--- what is due, by the command line, the texts and the outcome
-abbrev pub due_of : Option AskLine → List ℕ → List ℕ → Result Answer LoadError → Due
-due_of ask first second (Ok a) = answer_due ask first second a
-due_of ask first second (Err why) = stop_due why
+-- a fault is told on the sink of complaints, or is a JSON value
+abbrev pub fault_view : Form → List ℕ → List ℕ → List ℕ → Fault → Reading → Due
+fault_view Told command file text fault reading = on_err (fault_text file text fault reading) 4
+fault_view Dot command file text fault reading = on_err (fault_text file text fault reading) 4
+fault_view Json command file text fault reading = on_out (line_of file (faulty_members command text fault)) 4

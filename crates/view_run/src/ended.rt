@@ -1,11 +1,12 @@
 // How the top call ends.
 ghost use Rattle.std.specs.Prelude.{◌≡◌};
 
+use crate::viewed::Viewed;
+use crate::why::WhyAnswer;
 use commands::Written;
 use model_commands::{BmcAnswer, CheckAnswer, HoudiniAnswer};
 use replay_command::ReplayAnswer;
 use rml_bytes::{Bytes, LoadError};
-use view_commands::{Viewed, WhyAnswer};
 
 /// What is answered.
 #[derive(Drop)]

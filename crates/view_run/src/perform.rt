@@ -6,12 +6,16 @@ ghost use Rattle.command_parts.specs.ModelTexts.{model_limit};
 ghost use Rattle.replay_command.specs.Replay.{IsReplayAnswer, report_limit};
 ghost use Rattle.view_line.specs.Asking.{AskLine, show, ask_of, ask_line, HasAskRanges, HasQuestionRanges};
 ghost use Rattle.view_line.specs.Asking.{question_line};
-ghost use Rattle.view_commands.specs.Views.{IsViewed};
-ghost use Rattle.view_commands.specs.Replay.{replay_view};
-ghost use Rattle.view_run.specs.Views.{EndsAsAsked, IsWords, counted_by, due_of, words_of};
+ghost use Rattle.view_run.specs.Views.{IsViewed};
+ghost use Rattle.view_run.specs.Replay.{replay_view};
+ghost use Rattle.view_run.specs.Questions.{EndsAsAsked, IsWords, counted_by, due_of, words_of};
 
 use crate::ended::Answer;
+use crate::replay::ReplayOf;
+use crate::showing::{Show, View};
 use crate::variant::as_variant;
+use crate::viewed::Viewed;
+use crate::why::Why;
 use crate::words::Words;
 use commands::{Done, no_file, one_file, two_files};
 use lean_decide::Counted;
@@ -20,7 +24,6 @@ use progress::Progress;
 use replay_command::ReplayAnswer;
 use rml_bytes::{Files, LoadError};
 use std::alloc::Global;
-use view_commands::{ReplayOf, Show, View, Viewed, Why};
 use view_line::{Ask, Form, Options, Question, other_words, read_ask};
 
 const MODEL_LIMIT: u64 = 1048576;

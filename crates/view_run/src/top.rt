@@ -2,7 +2,7 @@
 ghost use Rattle.std.specs.Prelude.{◌≡◌, ℕ, List, map, string_bytes};
 ghost use Rattle.commands.specs.Due.{IsWritten};
 ghost use Rattle.view_line.specs.Asking.{ask_of};
-ghost use Rattle.view_run.specs.Views.{EndsAsAsked, due_of};
+ghost use Rattle.view_run.specs.Questions.{EndsAsAsked, due_of};
 
 use crate::ended::{Ended, Loaded};
 use crate::perform::work;

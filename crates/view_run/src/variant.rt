@@ -4,11 +4,12 @@ ghost use Rattle.view_run.specs.declared.ended.Answer.{Answer};
 ghost use Rattle.view_run.specs.Variants.{done_as};
 
 use crate::ended::Answer;
+use crate::viewed::Viewed;
+use crate::why::WhyAnswer;
 use commands::Done;
 use model_commands::{BmcAnswer, CheckAnswer, HoudiniAnswer};
 use replay_command::ReplayAnswer;
 use rml_bytes::LoadError;
-use view_commands::{Viewed, WhyAnswer};
 
 /// What one question is answered with.
 pub trait Variant: Drop {

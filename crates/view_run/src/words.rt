@@ -1,76 +1,20 @@
 // What is answered with words alone: what the words of a command line are, which version this is, and that these are
 // none.
-ghost use Rattle.std.specs.Prelude.{◌≡◌, ◌++◌, IfOk, OnOk};
-ghost use Rattle.view_run.specs.Words.{words_due, help_text, head_text, options_text, status_text, usage_text};
+ghost use Rattle.view_run.specs.Words.{words_due};
 
-use base::{Mem, push_text};
+use base::Mem;
 use command_parts::{complaint, shown};
 use commands::{Command, Said};
 use progress::Progress;
 use std::alloc::Global;
+use view_line::{help, usage};
 
 /// Which words are asked for.
-#[derive(Clone, Copy, Debug, PartialEq, Eq)]
+#[derive(Clone, Copy)]
 pub enum Words {
     Help,
     Version,
     Usage,
-}
-
-const HEAD: &str = "ivyview: what ivycheck finds of a protocol's model, as a person wants to see it
-
-    ivyview check FILE              is the model inductive?
-    ivyview bmc FILE --steps K      does a run with at most K actions (0 to 12) go wrong?
-    ivyview houdini FILE            which of the conjectures are inductive together?
-    ivyview why FILE                which conjectures carry which group of goals?
-    ivyview replay MODEL REPORT     is a report that `ivycheck check` printed right?
-
-";
-
-const OPTIONS: &str = "A FILE may be -, for standard input. Options, anywhere among the words:
-
-    --terms N       a goal may have so many ground terms (400, up to 100000)
-    --ground N      its ground formulas may have this size (2000000, up to 50000000)
-    --conflicts N   so many clauses may be learnt for it (100000, up to 100000000)
-    --lean          the first two are on lean counts (check, bmc, houdini)
-    --dot           pictures (check, bmc, houdini): ivyview check FILE --dot >F.dot; dot -Tsvg -O F.dot
-    --json          the whole outcome as one JSON value
-    --help, --version
-
-";
-
-const STATUS: &str =
-    "The status is 0 where all is well, 1 where something fails, 2 for words that are no command line,
-3 where something is left open, 4 for a faulty or too long file, 5 where a file or a stream fails,
-7 for want of memory.
-";
-
-#[tactic(auto, using(std::proofs::Common::append_assoc), unfolding(crate::specs::Words::help_text))]
-fn push_help(out: &mut Vec<u8>) -> Mem<()>
-    ensures { OnOk result (out.new.items ≡ out.old.items ++ help_text) }
-{
-    push_text(out, HEAD)?;
-    push_text(out, OPTIONS)?;
-    push_text(out, STATUS)?;
-    Ok(())
-}
-
-fn help(alloc: Global) -> Mem<Vec<u8>>
-    ensures { IfOk result (λ text. text.items ≡ help_text) }
-{
-    let mut out = Vec::new(alloc);
-    push_help(&mut out)?;
-    Ok(out)
-}
-
-#[tactic(auto, using(std::proofs::Common::append_assoc), unfolding(crate::specs::Words::usage_text))]
-fn usage(alloc: Global) -> Mem<Vec<u8>>
-    ensures { IfOk result (λ text. text.items ≡ usage_text) }
-{
-    let mut out = Vec::new(alloc);
-    push_text(&mut out, "ivyview: these words are no command line\n\n")?;
-    push_help(&mut out)?;
-    Ok(out)
 }
 
 impl Command for Words {
@@ -94,7 +38,9 @@ impl Command for Words {
         match self {
             Words::Help => Ok(shown(help(alloc)?, 0)),
             Words::Version => Ok(shown(
-                "ivyview 1, for models of rml 1\n".as_bytes().to_vec(alloc)?,
+                "ivyview 1, for models of rml 1 and 2\n"
+                    .as_bytes()
+                    .to_vec(alloc)?,
                 0,
             )),
             Words::Usage => Ok(complaint(usage(alloc)?, 2)),

@@ -13,12 +13,14 @@ returns-clause-marks c = λ text ok. elim c.match-stage_commands.branch [
   | in-Some+in_ok-push_path w ↦
       let cs = command_trees w.in-Some.commands.now in
       stage_marks text (file_tree c.args.tree.now) c.args.stage c.args.path cs c.match-stage_commands.marks.items
-      (ap (option_map (λ r. command_trees r.now)) (sym w.in-Some.is) ∙ c.stage_commands.ensures) ok
-      (λ m met. ap (λ v. v.items) w.marks-is ∙ w.in_ok-push_path.ensures text m met
-      ∙ ap (λ z. z ++ marks_in (numbered (marked_block text m (block_of cs)) c.args.path)) c.new-marks.ensures.items)
+      (ap (option_map (λ r. command_trees r.now)) (sym w.in-Some.is) ∙ c.stage_commands.ensures)
+      (c.met_law.ensures text (file_tree c.args.tree.now) ok)
+      (λ d met. ap (λ v. v.items) w.marks-is
+      ∙ w.in_ok-push_path.ensures text (file_tree c.args.tree.now).format d met
+      ∙ ap (λ z. z ++ marks_in (numbered (marked_block text d (block_of cs)) c.args.path)) c.new-marks.ensures.items)
   | in_default w ↦
       ap (λ v. v.items) w.marks-is ∙ c.new-marks.ensures.items
-      ∙ sym (no_stage_marks text (file_tree c.args.tree.now) c.args.stage c.args.path
+      ∙ sym (no_stage_marks text (file_tree c.args.tree.now).items c.args.stage c.args.path
       (ap (option_map (λ r. command_trees r.now)) (sym w.in_default.is) ∙ c.stage_commands.ensures))
 ]
 

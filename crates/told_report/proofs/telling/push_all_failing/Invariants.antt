@@ -7,8 +7,8 @@ use Rattle.told_report.proofs.telling.push_all_failing.Given as goal
 abbrev pub invariant-loop-rest : goal.invariant-loop-rest
 invariant-loop-rest g l = record {
   can : AllByRecursion (CanRender l.checked) l.rest;
-  text : l.out.items ++ flat_map (group_failing l.checked (g.B.Branches.lines l.branches)) l.rest ≡ l.fn.out.items
-      ++ flat_map (group_failing l.checked (g.B.Branches.lines l.branches)) l.groups;
+  text : l.out.items ++ flat_map (group_failing l.checked (g.T.InText.told l.source)) l.rest ≡ l.fn.out.items
+      ++ flat_map (group_failing l.checked (g.T.InText.told l.source)) l.groups;
 }
 
 abbrev pub decreases-loop-rest : goal.decreases-loop-rest

@@ -2,16 +2,17 @@ use Rattle.std.proofs.Common.{◌≡◌, ◌++◌, length}
 use Rattle.std.specs.List.{AllByRecursion, flat_map}
 use Rattle.fol_sig.specs.SymbolTables.{HasSymbol}
 use Rattle.told_states.specs.SymbolText.{symbols_of}
+use Rattle.told_states.specs.Labels.{labels_of}
 use Rattle.told_states.specs.BeforeText.{symbol_line, variable_text}
 use Rattle.told_states.proofs.before.push_symbols.Given as goal
 
 abbrev pub invariant-loop-rest : goal.invariant-loop-rest
 invariant-loop-rest l = record {
   known : AllByRecursion (HasSymbol l.structure) l.rest;
-  lines : l.out.items ++ flat_map (symbol_line l.model.names l.structure) l.rest
-      ≡ l.fn.out.items ++ flat_map (symbol_line l.model.names l.structure) (symbols_of l.structure);
-  variables : l.variables.items ++ flat_map (variable_text l.model.names l.structure) l.rest
-      ≡ l.fn.variables.items ++ flat_map (variable_text l.model.names l.structure) (symbols_of l.structure);
+  lines : l.out.items ++ flat_map (symbol_line (labels_of l.model l.structure) l.structure) l.rest
+      ≡ l.fn.out.items ++ flat_map (symbol_line (labels_of l.model l.structure) l.structure) (symbols_of l.structure);
+  variables : l.variables.items ++ flat_map (variable_text (labels_of l.model l.structure) l.structure) l.rest
+      ≡ l.fn.variables.items ++ flat_map (variable_text (labels_of l.model l.structure) l.structure) (symbols_of l.structure);
 }
 
 abbrev pub decreases-loop-rest : goal.decreases-loop-rest

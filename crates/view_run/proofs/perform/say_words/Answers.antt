@@ -2,7 +2,7 @@
 use Rattle.std.proofs.Common.{refl, sym, ap, ◌∙◌}
 use Rattle.view_run.specs.declared.ended.Answer.TheVariants as answer
 use Rattle.view_run.specs.Words.{words_due}
-use Rattle.view_run.specs.Views.{IsWords}
+use Rattle.view_run.specs.Questions.{IsWords}
 use Rattle.view_run.proofs.CarriedOver.{none_ends, none_due}
 use Rattle.view_run.proofs.perform.say_words.Goals as goal
 

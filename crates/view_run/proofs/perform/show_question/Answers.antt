@@ -7,7 +7,7 @@ use Rattle.model_commands.specs.Check.{IsCheckAnswerBy}
 use Rattle.model_commands.specs.Houdini.{IsHoudiniAnswerBy}
 use Rattle.model_commands.specs.Bmc.{IsBmcAnswerBy}
 use Rattle.view_line.specs.Asking.{of_check, of_houdini, of_bmc, of_why, of_replay, show}
-use Rattle.view_commands.specs.Views.{IsViewed}
+use Rattle.view_run.specs.Views.{IsViewed}
 use Rattle.view_run.proofs.CarriedOver.{one_ends, two_ends, one_due, two_due}
 use Rattle.view_run.proofs.perform.show_question.Goals as goal
 

@@ -1,7 +1,7 @@
 -- The three parts of the help, one behind another.
 use Rattle.std.proofs.Common.{◌≡◌, ℕ, List, ◌++◌, append_assoc}
-use Rattle.view_run.specs.Words.{head_text, options_text, status_text, help_text}
-use Rattle.view_run.proofs.words.push_help.Goals as goal
+use Rattle.view_line.specs.HelpText.{head_text, options_text, status_text, help_text}
+use Rattle.view_line.proofs.manual.push_help.Goals as goal
 
 three : (a b c x y z w : List ℕ) → x ≡ w ++ a → y ≡ x ++ b → z ≡ y ++ c → z ≡ w ++ (a ++ b ++ c)
 three a b c x y z w p q r = rw (r, q, p) (simp append_assoc)

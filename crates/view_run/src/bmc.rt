@@ -1,0 +1,152 @@
+// `bmc FILE --steps K`: whether a run with at most K actions goes wrong.
+ghost use Rattle.std.specs.Prelude.{◌≡◌, ◌++◌, IfOk, OnOk};
+ghost use Rattle.std.specs.List.{AllByRecursion, flat_map};
+ghost use Rattle.bounded_text.specs.BoundedText.{CanRender};
+ghost use Rattle.told_answers.specs.RunsText.{CanTell, runs_text};
+ghost use Rattle.command_parts.specs.ModelTexts.{IsTheModel};
+ghost use Rattle.model_commands.specs.Bmc.{IsBmcAnswerBy};
+ghost use Rattle.told_fault.specs.Readings.{IsReading};
+ghost use Rattle.view_run.specs.Views.{text_told};
+ghost use Rattle.view_run.specs.Bmc.{answer_view, length_graphs, bounded_line, bounded_view};
+
+use crate::faults::{line_of, say_fault};
+use crate::showing::Show;
+use crate::telling::telling_of;
+use base::Mem;
+use command_parts::shown;
+use commands::{Command, Said};
+use dot_graph::run_graphs;
+use json_outcome::bounded_object;
+use model_commands::{Bmc, BmcAnswer, bounded_status};
+use progress::Progress;
+use rml_bmc::{Bounded, Length, verdict_for};
+use rml_command::Checked;
+use std::alloc::Global;
+use told_fault::Reading;
+use view_line::Form;
+
+// The states of a run that goes wrong.
+fn push_length(alloc: Global, out: &mut Vec<u8>, model: &Checked, length: &Length) -> Mem<()>
+    requires { CanRender model.now length.now }
+    ensures { OnOk result (out.new.items ≡ out.old.items ++ length_graphs model.now length.now) }
+{
+    match length {
+        Length::Safe | Length::Undecided(_) => Ok(()),
+        Length::Broken(run) => {
+            let graphs = run_graphs(alloc, model, run)?;
+            out.extend_from_slice(&graphs)?;
+            Ok(())
+        }
+    }
+}
+
+// The pictures of the lengths.
+#[tactic(auto, using(std::proofs::Common::append_assoc))]
+fn lengths_graphs(alloc: Global, model: &Checked, lengths: &[Length]) -> Mem<Vec<u8>>
+    requires { AllByRecursion (CanRender model.now) lengths.now }
+    ensures { IfOk result (λ out. out.items ≡ flat_map (length_graphs model.now) lengths.now) }
+{
+    let mut out = Vec::new(alloc);
+    let mut rest = lengths;
+    while let [length, after @ ..] = rest {
+        push_length(alloc, &mut out, model, length)?;
+        rest = after;
+    }
+    Ok(out)
+}
+
+// The lengths as a JSON value.
+#[tactic(auto, unfolding(crate::specs::Bmc::bounded_line))]
+fn bounded_line(alloc: Global, file: &str, model: &Checked, bounded: &Bounded) -> Mem<Vec<u8>>
+    requires { AllByRecursion (CanRender model.now) bounded.now.lengths }
+    ensures { IfOk result (λ out. out.items ≡ bounded_line file.now model.now bounded.now) }
+{
+    let object = bounded_object(alloc, model, bounded)?;
+    let line = line_of(alloc, file, object)?;
+    Ok(line)
+}
+
+// The text for a person, with what the text of the model tells.
+fn told(
+    alloc: Global,
+    text: &[u8],
+    reading: &Reading,
+    model: &Checked,
+    bounded: &Bounded,
+) -> Mem<Vec<u8>>
+    requires reading { IsReading text.now reading.now }
+    requires model { IsTheModel text.now model.now }
+    requires can { AllByRecursion (CanTell model.now) bounded.now.lengths }
+    ensures { IfOk result (λ out. out.items
+        ≡ runs_text model.now (text_told text.now reading.now) bounded.now) }
+{
+    let telling = telling_of(alloc, text, reading, model)?;
+    let out = told_answers::tell_runs(alloc, model, &telling, bounded)?;
+    Ok(out)
+}
+
+// What is shown of the lengths.
+fn bounded_view(
+    alloc: Global,
+    form: Form,
+    file: &str,
+    text: &[u8],
+    reading: &Reading,
+    model: &Checked,
+    bounded: &Bounded,
+) -> Mem<Vec<u8>>
+    requires reading { IsReading text.now reading.now }
+    requires model { IsTheModel text.now model.now }
+    requires can_tell { AllByRecursion (CanTell model.now) bounded.now.lengths }
+    requires can_render { AllByRecursion (CanRender model.now) bounded.now.lengths }
+    ensures { IfOk result (λ out. out.items
+        ≡ bounded_view form file.now text.now reading.now model.now bounded.now) }
+{
+    match form {
+        Form::Told => told(alloc, text, reading, model, bounded),
+        Form::Dot => lengths_graphs(alloc, model, bounded.lengths.as_slice()),
+        Form::Json => bounded_line(alloc, file, model, bounded),
+    }
+}
+
+impl Show for Bmc {
+    type Answer = BmcAnswer;
+
+    ghost is_answer = { λ c text other a. IsBmcAnswerBy c.counted c.bound text a };
+
+    ghost shown = { λ c form file text reading a. answer_view form file text reading a };
+
+    fn answer<P: Progress>(
+        &self,
+        alloc: Global,
+        text: &[u8],
+        other: &[u8],
+        progress: &mut P,
+    ) -> Mem<BmcAnswer> {
+        self.judge(alloc, text, other, progress)
+    }
+
+    fn show(
+        &self,
+        alloc: Global,
+        form: Form,
+        file: &str,
+        text: &[u8],
+        other: &[u8],
+        reading: &Reading,
+        answer: &BmcAnswer,
+    ) -> Mem<Said> {
+        bounded_text::rendering_law();
+        told_answers::telling_law();
+        match answer {
+            BmcAnswer::Answered { model, bounded } => {
+                // That the model is in the fragment is known where it is looked at.
+                let _model = model.model();
+                let out = bounded_view(alloc, form, file, text, reading, model, bounded)?;
+                let verdict = verdict_for(bounded.lengths.as_slice());
+                Ok(shown(out, bounded_status(verdict)))
+            }
+            BmcAnswer::Fault(fault) => say_fault(alloc, form, "bmc", file, text, fault, reading),
+        }
+    }
+}

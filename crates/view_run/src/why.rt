@@ -1,0 +1,185 @@
+// `why FILE`: which conjectures carry which group of goals.
+ghost use Rattle.std.specs.Prelude.{◌≡◌, IfOk};
+ghost use Rattle.std.specs.List.{AllByRecursion, list_any};
+ghost use Rattle.command_line.specs.Asking.{IsInRange};
+ghost use Rattle.command_parts.specs.Limits.{ceilings_of};
+ghost use Rattle.model_reasons.specs.Reasons.{AreReasons};
+ghost use Rattle.model_reasons.specs.Laws.{CarriedIsShown};
+ghost use Rattle.view_run.specs.Why.{IsWhyAnswer, answer_view, fails, is_open, reasons_line, reasons_view};
+ghost use Rattle.view_run.specs.Why.{why_status};
+
+use crate::faults::{line_of, say_fault};
+use crate::showing::Show;
+use base::{Mem, Refused, Row};
+use command_line::Asked;
+use command_parts::{limits_of, read_model, shown};
+use commands::Said;
+use json_outcome::reasons_object;
+use model_reasons::{Reason, reasons};
+use progress::Progress;
+use rml_command::Checked;
+use rml_lex::Fault;
+use rml_reasons::{Carried, Lack};
+use std::alloc::{AllocError, Global};
+use told_fault::Reading;
+use view_line::Form;
+
+/// The question, with what may be spent on each goal.
+#[derive(Drop)]
+pub struct Why {
+    pub asked: Asked,
+    ghost in_range: { IsInRange asked },
+}
+
+/// What is answered.
+#[derive(Drop)]
+pub enum WhyAnswer {
+    /// The file's model, and what carries each of its groups.
+    Reasons {
+        model: Checked,
+        reasons: Row<Reason>,
+    },
+    /// What is wrong with the text.
+    Fault(Fault),
+}
+
+// What carries the groups of a model, under the limits that were asked for.
+fn reasons_of<P: Progress>(
+    alloc: Global,
+    model: &Checked,
+    asked: Asked,
+    progress: &mut P,
+) -> Mem<Row<Reason>>
+    requires { IsInRange asked }
+    ensures { IfOk result (AreReasons (ceilings_of asked) model.now) }
+{
+    let limits = limits_of(asked);
+    let reasons = reasons(alloc, model, &limits, progress)?;
+    Ok(reasons)
+}
+
+// The answer to the text of a model.
+fn judge_groups<P: Progress>(
+    alloc: Global,
+    text: &[u8],
+    asked: Asked,
+    progress: &mut P,
+) -> Mem<WhyAnswer>
+    requires { IsInRange asked }
+    ensures { IfOk result (IsWhyAnswer (ceilings_of asked) text.now) }
+{
+    match read_model(alloc, text) {
+        Ok(model) => match reasons_of(alloc, &model, asked, progress) {
+            Ok(reasons) => Ok(WhyAnswer::Reasons { model, reasons }),
+            Err(wanting) => {
+                drop(model);
+                Err(wanting)
+            }
+        },
+        Err(Refused::For(fault)) => Ok(WhyAnswer::Fault(fault)),
+        Err(Refused::NoMemory) => Err(AllocError),
+    }
+}
+
+fn fails(carried: &Carried) -> bool
+    ensures { result ≡ fails carried.now }
+{
+    matches!(carried, Carried::Not(Lack::Fails(_)))
+}
+
+fn is_open(carried: &Carried) -> bool
+    ensures { result ≡ is_open carried.now }
+{
+    matches!(carried, Carried::Not(Lack::Open(_, _)))
+}
+
+fn some_fails(reasons: &[Reason]) -> bool
+    ensures { result ≡ list_any (λ r. fails r.carried) reasons.now }
+{
+    reasons.iter().any(|reason| fails(&reason.carried))
+}
+
+fn some_is_open(reasons: &[Reason]) -> bool
+    ensures { result ≡ list_any (λ r. is_open r.carried) reasons.now }
+{
+    reasons.iter().any(|reason| is_open(&reason.carried))
+}
+
+// The status that goes with the reasons.
+fn why_status(reasons: &[Reason]) -> u8
+    ensures { result ≡ why_status reasons.now }
+{
+    if some_fails(reasons) {
+        1
+    } else if some_is_open(reasons) {
+        3
+    } else {
+        0
+    }
+}
+
+// The reasons as a JSON value.
+#[tactic(auto, unfolding(crate::specs::Why::reasons_line))]
+fn reasons_line(alloc: Global, file: &str, model: &Checked, reasons: &[Reason]) -> Mem<Vec<u8>>
+    requires { AllByRecursion (λ r. CarriedIsShown model.now r.carried) reasons.now }
+    ensures { IfOk result (λ out. out.items ≡ reasons_line file.now model.now reasons.now) }
+{
+    let object = reasons_object(alloc, model, reasons)?;
+    let line = line_of(alloc, file, object)?;
+    Ok(line)
+}
+
+// What is shown of the reasons.
+fn reasons_view(
+    alloc: Global,
+    form: Form,
+    file: &str,
+    model: &Checked,
+    reasons: &[Reason],
+) -> Mem<Vec<u8>>
+    requires { AllByRecursion (λ r. CarriedIsShown model.now r.carried) reasons.now }
+    ensures { IfOk result (λ out. out.items ≡ reasons_view form file.now model.now reasons.now) }
+{
+    match form {
+        Form::Told | Form::Dot => told_answers::tell_reasons(alloc, model, reasons),
+        Form::Json => reasons_line(alloc, file, model, reasons),
+    }
+}
+
+impl Show for Why {
+    type Answer = WhyAnswer;
+
+    ghost is_answer = { λ c text other a. IsWhyAnswer (ceilings_of c.asked) text a };
+
+    ghost shown = { λ c form file text reading a. answer_view form file text reading a };
+
+    fn answer<P: Progress>(
+        &self,
+        alloc: Global,
+        text: &[u8],
+        other: &[u8],
+        progress: &mut P,
+    ) -> Mem<WhyAnswer> {
+        judge_groups(alloc, text, self.asked, progress)
+    }
+
+    fn show(
+        &self,
+        alloc: Global,
+        form: Form,
+        file: &str,
+        text: &[u8],
+        other: &[u8],
+        reading: &Reading,
+        answer: &WhyAnswer,
+    ) -> Mem<Said> {
+        model_reasons::showing_law();
+        match answer {
+            WhyAnswer::Reasons { model, reasons } => {
+                let out = reasons_view(alloc, form, file, model, reasons.as_slice())?;
+                Ok(shown(out, why_status(reasons.as_slice())))
+            }
+            WhyAnswer::Fault(fault) => say_fault(alloc, form, "why", file, text, fault, reading),
+        }
+    }
+}
