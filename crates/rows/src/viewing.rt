@@ -9,8 +9,7 @@ use replay_command::ReplayAnswer;
 use rml_bytes::{Files, LoadError, MemSink};
 use row_files::Row;
 use std::alloc::Global;
-use view_commands::WhyAnswer;
-use view_run::{Answer, Ended, view};
+use view_run::{Answer, Ended, WhyAnswer, view};
 
 fn name_of_why(answer: &WhyAnswer) -> &'static str {
     match answer {
