@@ -1,15 +1,17 @@
 #!/usr/bin/env python3
-"""Refuses the growths of the program in turn: each run ends with status 7 and nothing on standard output, or as with
+"""Refuses the growths of the programs in turn: each run ends with status 7 and nothing on standard output, or as with
 ample memory.
 
-    bench/growths.py [--steps N] [TITLE ..]    IVYCHECK is the program (the one that ./ivycheck runs)
+    bench/growths.py [--steps N] [TITLE ..]    IVYCHECK and IVYVIEW are the programs (those that ./ivycheck and
+                                               ./ivyview run)
 
 A library that is loaded before the C library's counts the calls of its allocator (malloc, calloc, realloc and the
 aligned ones), and refuses the Nth of them and no other; N goes from 1 to the last that a run with ample memory makes
 (in steps of a fiftieth, past N of them, 2000). Behind that each text is run with its address space held to 2 to 200 MB;
 a limit under which the system's loader does not get the program into memory is passed over, and no other is: a crash is
-told. The texts are rows of crates/rows/data/rows.txt; TITLE takes those whose title has these words. The status is 1
-where a run ended otherwise than so. Needs a C compiler.
+told. The models are those of the rows of `ivyview` (views.py), and a few of its own; TITLE takes the runs whose title
+has these words. The status is 1 where a run ended otherwise than so. It takes the processors that it may run on (all,
+or those of `taskset`). Needs a C compiler.
 """
 import argparse
 import os
@@ -19,7 +21,9 @@ import sys
 import tempfile
 from concurrent.futures import ThreadPoolExecutor
 
-from program import HERE, program
+import long_report
+from program import HERE, lanes, program
+from views import BRANCHES, FLIP, LOCK, NETWORK, REPORT, TWICE, USELESS
 
 REFUSER = r"""
 #include <errno.h>
@@ -78,22 +82,56 @@ REFUTATION = "5 1 0 1 3 0\n6 0 5 2 4 0\n"
 
 
 def texts(folder):
-    """Writes the files, and gives the words of each run with a title."""
+    """Writes the files, and gives each run as its title, the program's name and its words."""
     def put(name, text):
         path = os.path.join(folder, name)
         with open(path, "w") as out:
             out.write(text)
         return path
 
-    ring = f"{HERE}/examples/ring_leader.rml"
-    return [
-        ("a conjecture that breaks", ["check", put("broken.rml", BROKEN)]),
-        ("a function and two variables", ["check", put("function.rml", WITH_A_FUNCTION)]),
-        ("the ring", ["check", ring]),
-        ("the log of a goal of the ring", ["emit", ring, "19", "lrat"]),
-        ("a log that refutes", ["lrat", put("f.cnf", FORMULA), put("f.lrat", REFUTATION)]),
-        ("a sample", ["sample", "3"]),
-    ]
+    ring, network = f"{HERE}/examples/ring_leader.rml", put("network.rml", NETWORK)
+    flip, right = put("flip.rml", FLIP), put("right", REPORT)
+    for title, *words in [
+            ("a conjecture that breaks", "check", put("broken.rml", BROKEN)),
+            ("a function and two variables", "check", put("function.rml", WITH_A_FUNCTION)),
+            ("the ring", "check", ring),
+            ("the log of a goal of the ring", "emit", ring, "19", "lrat"),
+            ("a log that refutes", "lrat", put("f.cnf", FORMULA), put("f.lrat", REFUTATION)),
+            ("a sample", "sample", "3"),
+            ("a network of format 2", "check", network),
+            ("runs of a network", "bmc", network, "--steps", "2"),
+            ("runs of a lock", "bmc", put("twice.rml", TWICE), "--steps", "2"),
+            ("runs of the ring", "bmc", ring, "--steps", "2"),
+            ("what is kept of a network", "houdini", network),
+            ("what is kept of a lock", "houdini", put("lock.rml", LOCK)),
+            ("a right report", "replay", flip, right),
+            ("a wrong report", "replay", flip, put("wrong", REPORT.replace("p: true", "p: false"))),
+            ("a report of a network", "replay", network, put("report", printed("check", network))),
+            ("a long report", "replay", put("long.rml", long_report.MODEL), put("long", long_report.text(200)))]:
+        yield title, "ivycheck", words
+    yield from views(folder, put)
+
+
+def views(folder, put):
+    """Gives the runs of `ivyview`: each command in each form."""
+    files = {name: put(f"seen-{name}.rml", text) for name, text in (
+        ("lock", LOCK), ("network", NETWORK), ("branches", BRANCHES), ("useless", USELESS), ("fault", "relation p(\n"))}
+    seen = [("check", "lock", ["", "--lean"]), ("check", "network", ["", "--dot", "--json"]),
+            ("bmc", "branches", ["", "--dot", "--json"]), ("bmc", "network", ["", "--json"]),
+            ("houdini", "lock", ["", "--dot", "--json"]), ("why", "useless", ["", "--json"]),
+            ("check", "fault", ["", "--json"])]
+    for command, model, forms in seen:
+        for form in forms:
+            words = [command, files[model], *["--steps", "2"] * (command == "bmc"), *form.split()]
+            yield f"view: {' '.join([command, model, *form.split()])}", "ivyview", words
+    yield "view: why the ring", "ivyview", ["why", f"{HERE}/examples/ring_leader.rml"]
+    yield "view: nothing on standard input", "ivyview", ["check", "-"]
+    for form in ([], ["--json"]):
+        yield " ".join(["view: replay", *form]), "ivyview", ["replay", f"{folder}/flip.rml", f"{folder}/right", *form]
+
+
+def printed(*words):
+    return run([program(), *words])[1].decode()
 
 
 def run(words, environment=None, space=None):
@@ -101,7 +139,7 @@ def run(words, environment=None, space=None):
     def held():
         if space:
             resource.setrlimit(resource.RLIMIT_AS, (space, space))
-    done = subprocess.run(words, capture_output=True, env=environment, preexec_fn=held)
+    done = subprocess.run(words, capture_output=True, env=environment, preexec_fn=held, stdin=subprocess.DEVNULL)
     return done.returncode, done.stdout, done.stderr
 
 
@@ -132,22 +170,22 @@ def refuse_in_turn(library, words, ample, limit, folder):
     while number <= count:
         numbers.append(number)
         number += 1 if number < limit else max(1, number // 50)
-    with ThreadPoolExecutor(os.cpu_count()) as pool:
+    with ThreadPoolExecutor(lanes()) as pool:
         done = list(pool.map(one, numbers))
     spent = sum(ended[0] == 7 for _, ended in done)
     return len(numbers), spent, [(at, ended[0]) for at, ended in done if not is_as_wanted(ended, ample)]
 
 
-def is_loaded(space):
+def is_loaded(path, space):
     """Gives whether the system's loader gets the program and its libraries into so much memory, without running it."""
-    return run([program()], {**os.environ, "LD_TRACE_LOADED_OBJECTS": "1"}, space)[0] == 0
+    return run([path], {**os.environ, "LD_TRACE_LOADED_OBJECTS": "1"}, space)[0] == 0
 
 
 def hold_space(words, ample):
     """The same under limits of the address space, in megabytes."""
     spent, wrong = [], []
     for megabytes in [2, 3, 4, 6, 8, 10, 12, 15, 20, 25, 30, 40, 50, 60, 80, 100, 130, 160, 200]:
-        if not is_loaded(megabytes << 20):
+        if not is_loaded(words[0], megabytes << 20):
             continue
         ended = run(words, space=megabytes << 20)
         if ended[0] == 7:
@@ -169,12 +207,13 @@ def main():
         subprocess.run(["cc", "-O1", "-shared", "-fPIC", "-fno-builtin", "-o", library, source], check=True)
         print("| Run | Growths refused | Status 7 | Otherwise | Status 7 at, in MB | Otherwise |")
         print("|---|---|---|---|---|---|")
-        for title, arguments in texts(folder):
+        for title, name, arguments in texts(folder):
             if given.titles and not any(it in title for it in given.titles):
                 continue
-            ample = run([program(), *arguments])
-            tried, spent, wrong = refuse_in_turn(library, [program(), *arguments], ample, given.steps, folder)
-            small, odd = hold_space([program(), *arguments], ample)
+            called = [program(name), *arguments]
+            ample = run(called)
+            tried, spent, wrong = refuse_in_turn(library, called, ample, given.steps, folder)
+            small, odd = hold_space(called, ample)
             span = f"{small[0]} to {small[-1]}" if small else "none"
             print(f"| {title} | {tried} | {spent} | {wrong or 'none'} | {span} | {odd or 'none'} |", flush=True)
             found = found or wrong or odd

@@ -85,9 +85,14 @@ class Text:
         return {"sorts": sorts, **self.tables()}
 
     def takes(self, block, path):
-        """The havocs of a path of the model, with the elements that the line gives."""
-        variables = [p[1] for p in self.paths[block][path - 1] if p[0] == "havoc"]
-        return [{"variable": v, "element": x} for v, x in zip(variables, self.numbers("  havoc:"), strict=True)]
+        """The havocs of a path of the model, with the elements and tables that the line gives."""
+        symbols = [p[1] for p in self.paths[block][path - 1] if p[0] == "havoc"]
+        return [self.taken(symbol, word) for symbol, word in zip(symbols, self.next("  havoc:").split(), strict=True)]
+
+    def taken(self, symbol, word):
+        if symbol in self.model.relations:
+            return {"relation": symbol, "tuples": {"true": [[]], "false": []}.get(word) or self.tuples(word)}
+        return {"variable": symbol, "element": int(word)}
 
     def end(self, sorts):
         """The structure in which a path ends, or none."""

@@ -6,6 +6,7 @@
 Prints the report's bytes, the seconds, and the memory as a multiple of the bytes. The status is 1 where the report is
 not confirmed, where a minute is not enough, or where more than twice its bytes of memory are taken.
 """
+import io
 import os
 import resource
 import subprocess
@@ -25,16 +26,23 @@ conjecture c: ~p
 MOST = 268_435_456
 
 
-def report(size, out):
-    """Writes a report whose structures have so many elements."""
+def report(size, out, is_full=True, takes=""):
+    """Writes a report whose structures have so many elements, all tuples in the relation or none; what havocs take."""
     out.write("axioms: consistent\ninit abort: holds\ninit c: holds\naction t abort: holds\naction t c: fails\n"
               f"  path 1 of 1\n  least: yes\n  before\n    sort a {size}\n")
-    for truth, behind in (("false", "  havoc:\n  after\n"), ("true", "  values:\n")):
+    for truth, behind in (("false", f"  havoc:{takes}\n  after\n"), ("true", "  values:\n")):
         out.write("    relation r:")
-        for x in range(size):
+        for x in range(size if is_full else 0):
             out.write("".join(f" ({x},{y})" for y in range(size)))
         out.write(f"\n    relation p: {truth}\n{behind}")
     out.write("final abort: holds\nverdict: not inductive\n")
+
+
+def text(size, *more):
+    """Gives such a report."""
+    out = io.StringIO()
+    report(size, out, *more)
+    return out.getvalue()
 
 
 def length(size):

@@ -1,8 +1,9 @@
 #!/usr/bin/env python3
-"""Holds `check`, `houdini`, `bmc` and `replay` to brute force: random small models, and every structure of up to three
-elements a sort.
+"""Holds `check`, `houdini`, `bmc`, `replay`, and of ivyview `check --lean` and `why`, to brute force: random small
+models, and every structure of up to three elements a sort.
 
-    bench/models.py [COUNT [SEED]]      IVYCHECK is the program (the one that ./ivycheck runs); 1000 models from seed 1
+    bench/models.py [COUNT [SEED]]      IVYCHECK and IVYVIEW are the programs (those that ./ivycheck and ./ivyview run);
+                                        1000 models from seed 1
 
 The judge knows nothing of the program's way: no precondition, no clause. It makes every structure of every size that
 has at most 20,000 structures, keeps those that satisfy the axioms (and, but for init, the conjectures), and follows
@@ -25,23 +26,35 @@ part by part, is one of the model and does what it is said to do.
 Each report of `check` must be confirmed by `replay`, with as many executions as groups fail; `bench/replays.py` asks
 the same of reports that were changed.
 
+Of `ivyview check --lean` it asks what it asks of `check`, where two gigabytes are enough for it. Of `ivyview why` it
+asks of each group that is carried that no structure it made is a counterexample where the named conjectures hold, and
+that without any one of them the shown execution is one; of a group that is not, that the shown execution is one where
+all conjectures hold; and that those are called idle that carry no group but their own.
+
 The last line says how many groups held, failed and were left open, how many of the failing ones had their sizes among
-those that were made, how many conjectures were dropped, how many lengths were safe and broken, and how many models
-differ. The status is 1 where one differs; such a model is printed.
+those that were made, how many conjectures were dropped, how many lengths were safe and broken, how many groups held by
+lean counts and how many models wanted more memory there, how many groups were carried by how many conjectures, and how
+many models differ. The status is 1 where one differs;
+such a model is printed. It takes the processors that it may run on (all, or those of `taskset`).
 """
 import itertools
+import json
 import multiprocessing
 import random
 import re
+import resource
 import subprocess
 import sys
 import tempfile
 from collections import Counter
 
 import rml
-from program import program
+from program import lanes, program
 
 MOST = 20_000
+
+# The memory that a run of the program may take, in bytes.
+MEMORY = 2 << 30
 
 # Runs are followed through the structures of sizes that have at most so many, up to so many actions.
 MOST_OF_RUNS, STEPS = 1_000, 2
@@ -50,20 +63,35 @@ MOST_OF_RUNS, STEPS = 1_000, 2
 # -- The generator ------------------------------------------------------------
 
 class Maker:
-    """Writes a random model that keeps to the rules of the language."""
+    """Writes a random model that keeps to the rules of the language: of format 1 for odd seeds, of format 2 for even."""
 
     def __init__(self, seed):
         self.random = random.Random(seed)
         pick = self.random
+        self.format = 1 if seed % 2 else 2
+        self.listed, self.derived, self.definitions = {}, {}, []
         self.sorts = ["a", "b"][:pick.choice([1, 1, 2])]
         self.relations = {f"r{i}": [pick.choice(self.sorts) for _ in range(pick.choice([0, 1, 1, 1, 2]))]
                           for i in range(pick.choice([1, 2, 2, 3]))}
         self.functions = {"f": (["a"], "b")} if len(self.sorts) == 2 and pick.random() < 0.5 else {}
         self.variables = {f"v{i}": pick.choice(self.sorts) for i in range(pick.choice([0, 1, 1, 2]))}
+        if self.format == 2:
+            self.list_and_define()
+
+    def list_and_define(self):
+        pick = self.random
+        if pick.random() < 0.5:
+            sort = pick.choice(self.sorts)
+            self.listed = {f"{sort}{i}": sort for i in range(pick.choice([1, 2, 2, 3]))}
+        for d in ["d0", "d1"][:pick.choice([0, 1, 1, 2])]:
+            env = dict(zip(["K", "L"], [pick.choice(self.sorts) for _ in range(pick.choice([0, 1, 2]))]))
+            binders = ", ".join(f"{x}:{sort}" for x, sort in env.items())
+            self.definitions.append(f"define {d}" + (f"({binders})" if env else "") + f" := {self.matrix(env)}")
+            self.derived[d] = list(env.values())
 
     def term(self, sort, env, deep=1):
         pick = self.random
-        found = [x for x, s in env.items() if s == sort] + [v for v, s in self.variables.items() if s == sort]
+        found = [x for x, s in [*env.items(), *self.variables.items(), *self.listed.items()] if s == sort]
         if deep and pick.random() < 0.1 and found:
             return f"ite({self.matrix(env, 0)}, {pick.choice(found)}, {pick.choice(found)})"
         for f, (sorts, into) in self.functions.items():
@@ -82,8 +110,9 @@ class Maker:
                 if None not in sides:
                     return f"{sides[0]} {pick.choice(['=', '~='])} {sides[1]}"
             else:
-                r = pick.choice(list(self.relations))
-                args = [self.term(s, env) for s in self.relations[r]]
+                read = self.relations | self.derived
+                r = pick.choice(list(read))
+                args = [self.term(s, env) for s in read[r]]
                 if None not in args:
                     return pick.choice(["", "~"]) + (f"{r}({', '.join(args)})" if args else r)
         return pick.choice(["true", "false"])
@@ -126,6 +155,8 @@ class Maker:
             if what == "if":
                 return f"if {self.either()} {blocks[0]}" + (f" else {blocks[1]}" if pick.random() < 0.5 else "")
             return f"choose {blocks[0]} or {blocks[1]}"
+        if what == "havoc" and self.format == 2 and pick.random() < 0.6:
+            return f"{self.head(pick.choice(list(self.relations)))} := *"
         if what == "havoc" and self.variables:
             return f"{pick.choice(list(self.variables))} := *"
         if what == "put" and self.functions:
@@ -145,19 +176,25 @@ class Maker:
             v, sort = pick.choice(list(self.variables.items()))
             return f"{v} := {self.term(sort, {})}"
         r = pick.choice(list(self.relations))
+        return f"{self.head(r)} := {self.matrix(dict(zip(['P', 'Q'], self.relations[r])))}"
+
+    def head(self, r):
         names = ["P", "Q"][:len(self.relations[r])]
-        head = f"{r}({', '.join(names)})" if names else r
-        return f"{head} := {self.matrix(dict(zip(names, self.relations[r])))}"
+        return f"{r}({', '.join(names)})" if names else r
 
     def block(self, deep, most=3):
         count = self.random.randint(0 if deep == 0 else 1, most)
         return "{ " + "; ".join(self.command(deep) for _ in range(count)) + " }"
 
     def text(self):
-        lines = [f"sort {s}" for s in self.sorts]
+        lines = ["rml 2"] * (self.format == 2)
+        for sort in self.sorts:
+            names = [x for x, s in self.listed.items() if s == sort]
+            lines.append(f"sort {sort}" + (f" = {{ {', '.join(names)} }}" if names else ""))
         lines += [f"relation {r}" + (f"({', '.join(sorts)})" if sorts else "") for r, sorts in self.relations.items()]
         lines += [f"function {f} : {', '.join(sorts)} -> {into}" for f, (sorts, into) in self.functions.items()]
         lines += [f"variable {v} : {sort}" for v, sort in self.variables.items()]
+        lines += self.definitions
         lines += [f"axiom ax: {self.exists_forall()}"] * (self.random.random() < 0.3)
         lines += [f"init {self.block(1)}"]
         lines += [f"action act{i} {self.block(1)}" for i in range(self.random.choice([1, 1, 2]))]
@@ -191,11 +228,13 @@ class World:
                 return found
         return found
 
+    def tables(self, symbol):
+        """Gives every table of a symbol."""
+        tuples = self.tuples(symbol)
+        return [dict(zip(tuples, values)) for values in itertools.product(self.values(symbol), repeat=len(tuples))]
+
     def structures(self):
-        tables = [[dict(zip(self.tuples(symbol), values))
-                   for values in itertools.product(self.values(symbol), repeat=len(self.tuples(symbol)))]
-                  for symbol in self.takes]
-        for chosen in itertools.product(*tables):
+        for chosen in itertools.product(*map(self.tables, self.takes)):
             yield dict(zip(self.takes, chosen))
 
     def code(self, e):
@@ -231,12 +270,19 @@ class World:
     def holds(self, sentences, s):
         return all(self.function(p)(s) for _, p in sentences)
 
-    def steps(self, primitive, s, elements=None):
+    def table(self, symbol, entry):
+        """Gives the table of a symbol that a printed entry of a havoc is: an element, a truth value or tuples."""
+        sorts, into = self.takes[symbol]
+        if into or not sorts:
+            return {(): int(entry) if into else entry == "true"}
+        told = {tuple(map(int, t.split(","))) for t in re.findall(r"\(([\d,]*)\)", entry)}
+        return {t: t in told for t in self.tuples(symbol)}
+
+    def steps(self, primitive, s, entries=None):
         """Gives the structures behind a primitive that neither assumes nor aborts, and in which the axioms hold."""
         symbol = primitive[1]
         if primitive[0] == "havoc":
-            values = self.values(symbol) if elements is None else [elements.pop(0)]
-            tables = [{(): x} for x in values]
+            tables = self.tables(symbol) if entries is None else [self.table(symbol, entries.pop(0))]
         else:
             side = self.function(primitive[3], primitive[2])
             tables = [{t: side(s, *t) for t in self.tuples(symbol)}]
@@ -245,18 +291,18 @@ class World:
             if self.holds(self.model.axioms, new):
                 yield new
 
-    def ends(self, path, s, elements=None):
-        """Gives the structures where the path ends, and None for an abort; havocs take these elements, or any."""
+    def ends(self, path, s, entries=None):
+        """Gives the structures where the path ends, and None for an abort; havocs take these entries, or any."""
         if not path:
             yield s
         elif path[0][0] == "abort":
             yield None
         elif path[0][0] == "assume":
             if self.function(path[0][1])(s):
-                yield from self.ends(path[1:], s, elements)
+                yield from self.ends(path[1:], s, entries)
         else:
-            for new in self.steps(path[0], s, elements):
-                yield from self.ends(path[1:], new, elements)
+            for new in self.steps(path[0], s, entries):
+                yield from self.ends(path[1:], new, entries)
 
     def tally(self, s):
         return [sum(s[r].values()) for r in self.model.relations]
@@ -289,42 +335,58 @@ def name_of(bound):
     return "x_" + bound.replace("@", "at")
 
 
-def counterexamples(model, held):
-    """Gives for each goal, by stage, path and conjecture, the least numbers of tuples by sizes; and which sizes were
-    made. These conjectures alone are held and asked for."""
-    found, made = {}, []
-    for sizes in itertools.product((1, 2, 3), repeat=len(model.sorts)):
-        world = World(model, sizes)
-        if world.count() > MOST:
-            continue
-        made.append(sizes)
-        for s in world.structures():
-            if world.holds(model.axioms, s):
-                for goal in broken(world, s, held):
-                    least = found.setdefault(goal, {})
-                    least[sizes] = min(least.get(sizes, world.tally(s)), world.tally(s))
-    return found, made
+class Found:
+    """The counterexamples of a model's goals, whatever is held: of each goal, by stage, path and conjecture, the least
+    numbers of tuples, by the conjectures that are true before and by the sizes; and which sizes were made."""
+
+    def __init__(self, model):
+        self.model, self.goals, self.made = model, {}, []
+        for sizes in itertools.product((1, 2, 3), repeat=len(model.sorts)):
+            world = World(model, sizes)
+            if world.count() <= MOST:
+                self.made.append(sizes)
+                for s in world.structures():
+                    if world.holds(model.axioms, s):
+                        self.put(world, sizes, s)
+
+    def put(self, world, sizes, s):
+        goals = set(broken(world, s))
+        if goals:
+            key = frozenset(name for name, c in self.model.conjectures if world.function(c)(s)), sizes
+            tally = world.tally(s)
+            for goal in goals:
+                least = self.goals.setdefault(goal, {})
+                least[key] = min(least.get(key, tally), tally)
+
+    def failing(self, stage, name, held):
+        """Gives for each path of a group that fails where conjectures of these names are held (not of init) the least
+        numbers of tuples by sizes."""
+        found = {}
+        for number in range(1, len(dict(self.model.stages())[stage]) + 1):
+            for (true, sizes), tally in self.goals.get((stage, number, name), {}).items():
+                if stage == "init" or true.issuperset(held):
+                    least = found.setdefault(number, {})
+                    least[sizes] = min(least.get(sizes, tally), tally)
+        return found
 
 
-def broken(world, s, held):
-    """Gives the goals of which a structure is a counterexample, where these conjectures are held."""
-    is_kept = world.holds(held, s)
+def broken(world, s):
+    """Gives the goals of which a structure is a counterexample, where no conjecture is held."""
     for stage, paths in world.model.stages():
-        if stage == "init" or is_kept:
-            for number, path in enumerate(paths, 1):
-                for end in world.ends(path, s):
-                    if end is None:
-                        yield stage, number, "abort"
-                    elif stage != "final":
-                        for name, c in held:
-                            if not world.function(c)(end):
-                                yield stage, number, name
+        for number, path in enumerate(paths, 1):
+            for end in world.ends(path, s):
+                if end is None:
+                    yield stage, number, "abort"
+                elif stage != "final":
+                    for name, c in world.model.conjectures:
+                        if not world.function(c)(end):
+                            yield stage, number, name
 
 
 # -- The report ---------------------------------------------------------------
 
-def groups_of(report):
-    """Gives each group as (stage, conjecture or abort, answer, the lines shown)."""
+def groups_of(model, report):
+    """Gives each group as (stage, conjecture or abort, answer, what is shown)."""
     groups = []
     for line in report.splitlines():
         if line.startswith(" "):
@@ -333,7 +395,19 @@ def groups_of(report):
             head, _, answer = line.partition(": ")
             stage, _, name = head.rpartition(" ")
             groups.append((stage, name, answer, []))
-    return groups
+    return [(*group, Shown(model, lines) if lines else None) for *group, lines in groups]
+
+
+def viewed_groups(model, told):
+    """The same of the JSON value of `check`."""
+    return [(*head_of(group), group["answer"], Viewed(model, group) if "execution" in group else None)
+            for group in told["groups"]]
+
+
+def head_of(group):
+    """Gives stage and conjecture or abort of a group in JSON, as a report has them."""
+    stage, about = group["stage"], group["about"]
+    return " ".join([stage["kind"], *stage.get("name", "").split()]), about.get("name", "abort")
 
 
 class Shown:
@@ -348,7 +422,7 @@ class Shown:
         self.sizes = tuple(int(line.split()[2]) for line in before if line.startswith("sort "))
         self.world = World(model, self.sizes)
         self.before = self.world.read([line for line in before if not line.startswith("sort ")])
-        self.havoc = [int(x) for x in lines[at].split()[1:]]
+        self.havoc = lines[at].split()[1:]
         self.aborts = lines[at + 1] == "aborts"
         self.after = None if self.aborts else self.world.read(lines[at + 2:-1])
         self.values = [] if self.aborts else [int(x) for x in lines[-1].split()[1:]]
@@ -368,8 +442,35 @@ class Shown:
                 yield "the conjecture is true at the printed values"
 
 
+class Viewed(Shown):
+    """A counterexample in JSON, of a group or of what a group lacks."""
+
+    def __init__(self, model, told):
+        shown = told["execution"]
+        self.model, self.path, self.is_least = model, told["path"], told.get("least") is True
+        self.sizes = tuple(sort["size"] for sort in shown["before"]["sorts"])
+        self.world = World(model, self.sizes)
+        self.before = self.tables(shown["before"])
+        self.havoc = [self.entry(havoc) for havoc in shown["takes"]]
+        self.aborts = shown["after"] is None
+        self.after = None if self.aborts else self.tables(shown["after"])
+        self.values = shown["values"]
+
+    def tables(self, told):
+        s = {r["name"]: {t: list(t) in r["tuples"] for t in self.world.tuples(r["name"])} for r in told["relations"]}
+        return s | {f["name"]: {tuple(x["at"]): x["is"] for x in f["values"]} for f in told["functions"]}
+
+    def entry(self, havoc):
+        """Gives what a havoc takes as a report has it."""
+        if "variable" in havoc:
+            return str(havoc["element"])
+        if not self.world.takes[havoc["relation"]][0]:
+            return "true" if havoc["tuples"] else "false"
+        return "{" + "".join(f"({','.join(map(str, t))})" for t in havoc["tuples"]) + "}"
+
+
 class Run:
-    """A printed run: parts of (stage, number of the path, how many paths, elements, structure behind it or None)."""
+    """A printed run: parts of (stage, number of the path, how many paths, entries, structure behind it or None)."""
 
     def __init__(self, model, lines):
         self.model, self.values = model, []
@@ -383,9 +484,9 @@ class Run:
         self.parts = []
         for at, to in zip(heads, [*heads[1:], len(lines)]):
             stage, number, count = re.match(r"(.*) path (\d+) of (\d+)$", lines[at]).groups()
-            elements = [int(x) for x in lines[at + 1].split()[1:]]
+            entries = lines[at + 1].split()[1:]
             after = None if lines[at + 2] == "aborts" else self.world.read(lines[at + 3:to])
-            self.parts.append((stage, int(number), int(count), elements, after))
+            self.parts.append((stage, int(number), int(count), entries, after))
 
     def faults(self, length, what):
         """Gives what is wrong with it as a run of so many actions that does this, if something is."""
@@ -395,9 +496,9 @@ class Run:
             yield f"the parts are {stages}"
         if not world.holds(self.model.axioms, s):
             yield "an axiom is false before"
-        for stage, number, count, elements, after in self.parts:
+        for stage, number, count, entries, after in self.parts:
             paths = paths_of[stage]
-            if s is None or count != len(paths) or list(world.ends(paths[number - 1], s, elements)) != [after]:
+            if s is None or count != len(paths) or list(world.ends(paths[number - 1], s, entries)) != [after]:
                 yield f"{stage} does not end as printed"
             s = after
         if what == "abort":
@@ -455,37 +556,76 @@ def bounded_differences(model, told, tallies):
                 yield f"steps {length}: {answer}: {fault}"
 
 
-def differences(model, report, tallies):
-    """Gives what of the report brute force denies."""
-    found, made = counterexamples(model, model.conjectures)
+def differences(found, groups, tallies, way=""):
+    """Gives what of these groups brute force denies."""
+    model, held = found.model, [name for name, _ in found.model.conjectures]
     paths_of = dict(model.stages())
-    for stage, name, answer, lines in groups_of(report):
-        failing = {number: found[stage, number, name] for number in range(1, len(paths_of[stage]) + 1)
-                   if (stage, number, name) in found}
-        tallies[answer.split()[0]] += 1
+    for stage, name, answer, shown in groups:
+        failing = found.failing(stage, name, held)
+        tallies[way + answer.split()[0]] += 1
         if answer == "holds" and failing:
-            yield f"{stage} {name} holds, and fails on path {min(failing)}: {failing}"
+            yield f"{way}{stage} {name} holds, and fails on path {min(failing)}: {failing}"
         if answer != "fails":
             continue
-        shown = Shown(model, lines)
         for fault in shown.faults(stage, name, paths_of[stage][shown.path - 1], model.conjectures):
-            yield f"{stage} {name}: {fault}"
+            yield f"{way}{stage} {name}: {fault}"
         if min(failing, default=shown.path) < shown.path:
-            yield f"{stage} {name}: path {min(failing)} fails before path {shown.path}"
+            yield f"{way}{stage} {name}: path {min(failing)} fails before path {shown.path}"
         least = failing.get(shown.path, {})
         if least and min(least) < shown.sizes and shown.is_least:
-            yield f"{stage} {name}: sizes {min(least)} fail too"
-        if shown.sizes in made:
-            tallies["compared"] += 1
+            yield f"{way}{stage} {name}: sizes {min(least)} fail too"
+        if shown.sizes in found.made:
+            tallies[way + "compared"] += 1
             if shown.sizes not in least:
-                yield f"{stage} {name}: no structure of sizes {shown.sizes} fails"
+                yield f"{way}{stage} {name}: no structure of sizes {shown.sizes} fails"
             elif shown.is_least and least[shown.sizes] != shown.world.tally(shown.before):
-                yield f"{stage} {name}: {least[shown.sizes]} tuples are enough"
+                yield f"{way}{stage} {name}: {least[shown.sizes]} tuples are enough"
 
 
-def found_differences(model, told, tallies):
+def reason_differences(found, told, tallies):
+    """Gives what of the JSON value of `why` brute force denies."""
+    names, heads, carrying = [name for name, _ in found.model.conjectures], [], set()
+    for reason in told["groups"]:
+        stage, name = head_of(reason)
+        heads.append((stage, name))
+        if not reason["carried"]:
+            yield from lack_differences(found.model, stage, name, names, reason["lack"], tallies)
+            continue
+        needs = [need["conjecture"] for need in reason["needs"]]
+        carrying.update(set(needs) - {name})
+        tallies["carried"] += 1
+        tallies["needs"] += len(needs)
+        if needs != [c for c in names if c in needs]:
+            yield f"why {stage} {name}: {needs} are not in the order of the file"
+        failing = found.failing(stage, name, needs)
+        if failing:
+            yield f"why {stage} {name}: by {needs}, and fails on path {min(failing)}: {failing}"
+        for need in reason["needs"]:
+            others = [c for c in needs if c != need["conjecture"]]
+            yield from lack_differences(found.model, stage, name, others, need["without"], tallies)
+    if heads != [(stage, name) for stage, _ in found.model.stages()
+                 for name in ["abort", *names * (stage != "final")]]:
+        yield f"why: the groups are {heads}"
+    if told["idle"] != [c for c in names if c not in carrying]:
+        yield f"why: idle are {told['idle']}, and {sorted(carrying)} carry a group"
+
+
+def lack_differences(model, stage, name, held, lack, tallies):
+    """Gives what is wrong with what a group is said to lack where conjectures of these names are held."""
+    tallies["lacks" if lack["answer"] == "fails" else "open lacks"] += 1
+    if lack["answer"] == "fails":
+        shown = Viewed(model, lack)
+        sentences = [(other, c) for other, c in model.conjectures if other in held]
+        for fault in shown.faults(stage, name, dict(model.stages())[stage][shown.path - 1], sentences):
+            yield f"why {stage} {name}, where {held} are held: {fault}"
+    elif lack["answer"] != "undecided":
+        yield f"why {stage} {name}: it lacks {lack}"
+
+
+def found_differences(found, told, tallies):
     """Gives what of `houdini`'s answer brute force denies."""
-    held, blocks, kept = list(model.conjectures), [], []
+    model, blocks, kept = found.model, [], []
+    held = list(model.conjectures)
     for line in told.splitlines():
         if line.startswith(" "):
             blocks[-1][2].append(line.strip())
@@ -504,54 +644,74 @@ def found_differences(model, told, tallies):
     if [name for name, _ in held] != kept:
         yield f"kept are {kept}, and not dropped {[name for name, _ in held]}"
     if told.endswith("verdict: greatest\n"):
-        found, _ = counterexamples(model, held)
-        for stage, number, name in found:
-            if name != "abort":
-                yield f"kept are {kept}, and path {number} of {stage} breaks {name}"
+        for stage, _ in model.stages():
+            for name in kept:
+                for number in found.failing(stage, name, kept):
+                    yield f"kept are {kept}, and path {number} of {stage} breaks {name}"
 
 
-def answer(command, text, *options, report=None):
+def answer(command, text, *options, report=None, name="ivycheck"):
     with tempfile.NamedTemporaryFile("w", suffix=".rml") as it, tempfile.NamedTemporaryFile("w") as other:
         it.write(text)
         it.flush()
         other.write(report or "")
         other.flush()
         files = [it.name] if report is None else [it.name, other.name]
-        ran = subprocess.run([program(), command, *files, *options], capture_output=True, text=True)
+        ran = subprocess.run([program(name), command, *files, *options], capture_output=True, text=True,
+                             preexec_fn=lambda: resource.setrlimit(resource.RLIMIT_AS, (MEMORY, MEMORY)))
+    if ran.returncode == 7:
+        raise MemoryError
     if ran.returncode not in (0, 1, 3):
         raise ValueError(f"status {ran.returncode}: {(ran.stdout + ran.stderr).strip()}")
     return ran.stdout
 
 
+def lean_differences(found, model, text, tallies):
+    """Gives what differs by lean counts, which set no limit to what is asked of memory."""
+    try:
+        lean = json.loads(answer("check", text, "--lean", "--json", name="ivyview"))
+    except MemoryError:
+        tallies["lean: no memory"] += 1
+        return []
+    return differences(found, viewed_groups(model, lean), tallies, "lean: ")
+
+
 def judged(seed):
     """Gives what differs of the model of a seed, with its text, and the tallies of its groups."""
-    text, tallies = Maker(seed).text(), Counter()
+    text, tallies, told = Maker(seed).text(), Counter(), []
     try:
         model = rml.read(text)
-        report = answer("check", text)
-        told = list(differences(model, report, tallies))
+        report, found = answer("check", text), Found(model)
+        told.extend(differences(found, groups_of(model, report), tallies))
         replayed = answer("replay", text, report=report)
         if replayed != f"executions {report.count(': fails')}\nverdict: confirmed\n":
             told.append(f"replay: {replayed}")
-        told += found_differences(model, answer("houdini", text), tallies)
-        told += bounded_differences(model, answer("bmc", text, "--steps", str(STEPS)), tallies)
-    except (KeyError, IndexError, ValueError, StopIteration, AttributeError) as fault:
-        told = [f"the answer cannot be read: {fault!r}"]
+        told.extend(found_differences(found, answer("houdini", text), tallies))
+        told.extend(bounded_differences(model, answer("bmc", text, "--steps", str(STEPS)), tallies))
+        told.extend(lean_differences(found, model, text, tallies))
+        why = json.loads(answer("why", text, "--json", name="ivyview"))
+        told.extend(reason_differences(found, why, tallies))
+    except (KeyError, IndexError, TypeError, ValueError, StopIteration, AttributeError, MemoryError) as fault:
+        told.append(f"the answer cannot be read: {fault!r}")
     return [f"model {seed}:", *told, text] if told else [], tallies
 
 
 def main():
     count, first = [int(word) for word in sys.argv[1:]] + [1000, 1][len(sys.argv) - 1:]
     program()
+    program("ivyview")
     tallies, differ = Counter(), 0
-    with multiprocessing.Pool() as pool:
+    with multiprocessing.Pool(lanes()) as pool:
         for told, more in pool.imap(judged, range(first, first + count)):
             tallies += more
             differ += bool(told)
             print(*told, sep="\n", end="\n" if told else "")
     print(f"{count} models: {tallies['holds']} groups hold, {tallies['fails']} fail ({tallies['compared']} of them "
           f"compared by size), {tallies['undecided']} are left open, {tallies['dropped']} conjectures are dropped, "
-          f"{tallies['safe lengths']} lengths are safe, {tallies['broken lengths']} broken; {differ} models differ")
+          f"{tallies['safe lengths']} lengths are safe, {tallies['broken lengths']} broken; by lean counts "
+          f"{tallies['lean: holds']} groups hold, {tallies['lean: fails']} fail, {tallies['lean: no memory']} models "
+          f"want memory; {tallies['carried']} are carried, by "
+          f"{tallies['needs']} conjectures, and {tallies['lacks']} lacks are shown; {differ} models differ")
     sys.exit(differ > 0)
 
 

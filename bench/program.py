@@ -37,6 +37,11 @@ def split(words):
     return words[:at], words[at + 1:]
 
 
+def lanes():
+    """Gives how many processors this process may run on."""
+    return len(os.sched_getaffinity(0))
+
+
 def examples():
     """Gives the paths of the files of examples/, in order."""
     return [f"{HERE}/examples/{name}" for name in sorted(os.listdir(f"{HERE}/examples"))]

@@ -119,10 +119,9 @@ class Report:
                 raise Unexpected
         world = World(self.model, sizes)
         before, _ = self.tables(world)
-        havocs = [p[1] for p in path if p[0] == "havoc"]
-        elements = self.elements("  havoc:", [world.takes[v][1] for v in havocs], world)
+        entries = self.entries([p[1] for p in path if p[0] == "havoc"], world)
         shown = {"stage": stage, "path": path, "world": world, "before": before, "before_line": before_line,
-                 "havoc": elements, "havoc_line": self.at, "conjecture": conjecture, "after": None}
+                 "havoc": entries, "havoc_line": self.at, "conjecture": conjecture, "after": None}
         if name is None:
             if self.next() != "  aborts":
                 raise Unexpected
@@ -147,12 +146,37 @@ class Report:
         number(words[1])
         cause(words[2:])
 
-    def elements(self, word, sorts, world):
-        rest = behind(self.next(), word)
-        words = rest.split(" ")
-        if words[0] or len(words) != len(sorts) + 1:
+    def entries(self, symbols, world):
+        """Gives the words behind `havoc:`, one for each of these symbols."""
+        words = self.words(behind(self.next(), "  havoc:"))
+        if len(words) != len(symbols):
             raise Unexpected
-        found = [number(x) for x in words[1:]]
+        for symbol, word in zip(symbols, words):
+            sorts, into = world.takes[symbol]
+            if into:
+                self.element(word, into, world)
+            elif sorts:
+                self.set(word, symbol, world)
+            else:
+                self.one_of(word, "true", "false")
+        return words
+
+    def set(self, word, symbol, world):
+        """Tuples in braces, with nothing between them, each once and in order."""
+        told = re.findall(r"\([^()]*\)", word)
+        if word != "{" + "".join(told) + "}":
+            raise Unexpected
+        self.in_order([self.tuple(t) for t in told], symbol, world)
+
+    def in_order(self, tuples, symbol, world):
+        if tuples != sorted(set(tuples)) or not set(tuples) <= set(world.tuples(symbol)):
+            raise Unexpected
+
+    def elements(self, word, sorts, world):
+        words = self.words(behind(self.next(), word))
+        if len(words) != len(sorts):
+            raise Unexpected
+        found = [number(x) for x in words]
         if any(x >= world.sizes[sort] for x, sort in zip(found, sorts)):
             raise Unexpected
         return found
@@ -172,8 +196,7 @@ class Report:
             told = self.one_of(behind(line, f"    relation {r}: "), "true", "false")
             return {(): told == "true"}
         told = [self.tuple(word) for word in self.words(behind(line, f"    relation {r}:"))]
-        if told != sorted(set(told)) or not set(told) <= set(world.tuples(r)):
-            raise Unexpected
+        self.in_order(told, r, world)
         return {t: t in set(told) for t in world.tuples(r)}
 
     def function(self, world, f, sorts, into):

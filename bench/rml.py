@@ -4,7 +4,9 @@
 and blocks. Expressions are tuples: ("true",), ("rel", r, args), ("eq", a, b), ("not", p), ("and", ps), ("or", ps),
 ("implies", p, q), ("iff", p, q), ("forall", [(x, sort)..], p), ("exists", ..); terms are ("app", f, args), ("bound", x)
 and ("ite", p, a, b). Commands are lists of paths of primitives: ("assume", p), ("set", symbol, names, side),
-("havoc", v), ("abort",). Texts are taken as faultless: what breaks a rule of the language is not found.
+("havoc", symbol), ("abort",). Of format 2 the names of a listed sort's elements are variables, with an axiom of the
+sort's name in front of the file's; and each use of a derived relation is written out. Texts are taken as faultless:
+what breaks a rule of the language is not found.
 """
 import re
 
@@ -30,7 +32,7 @@ def aborts(path):
 
 class Model:
     def __init__(self):
-        self.sorts, self.relations, self.functions = [], {}, {}
+        self.sorts, self.relations, self.functions, self.derived = [], {}, {}, {}
         self.axioms, self.conjectures, self.actions = [], [], []
         self.init, self.final = [[]], [[]]
 
@@ -54,7 +56,7 @@ class Model:
 
 class Reader:
     def __init__(self, text):
-        self.left, self.at, self.model = tokens(text), 0, Model()
+        self.left, self.at, self.model, self.listed_axioms = tokens(text), 0, Model(), []
 
     def peek(self):
         return self.left[self.at]
@@ -86,6 +88,7 @@ class Reader:
             self.take()
         while self.peek() is not None:
             self.item(self.take())
+        self.model.axioms[:0] = self.listed_axioms
         return self.model
 
     def item(self, word):
@@ -93,6 +96,12 @@ class Reader:
         name = self.take() if word not in ("init", "final") else None
         if word == "sort":
             m.sorts.append(name)
+            if self.skip("="):
+                self.elements(name)
+        elif word == "define":
+            parameters = self.in_parentheses(lambda: self.listed(self.binder))
+            self.take(":=")
+            m.derived[name] = [x for x, _ in parameters], self.expr()
         elif word == "relation":
             m.relations[name] = self.in_parentheses(self.names)
         elif word == "function":
@@ -112,6 +121,17 @@ class Reader:
             setattr(m, word, self.block())
         else:
             raise ValueError(f"no item: {word}")
+
+    def elements(self, sort):
+        """The names of a listed sort's elements: no two are of one element, and each element has one."""
+        self.take("{")
+        names = self.names()
+        self.take("}")
+        self.model.functions |= {name: ([], sort) for name in names}
+        each = [("app", name, []) for name in names]
+        apart = [("not", ("eq", c, d)) for i, c in enumerate(each) for d in each[i + 1:]]
+        covered = ("forall", [("@", sort)], ("or", [("eq", ("bound", "@"), c) for c in each]))
+        self.listed_axioms.append((sort, ("and", [*apart, covered])))
 
     def in_parentheses(self, many):
         if not self.skip("("):
@@ -221,9 +241,23 @@ class Reader:
             p, a, b = self.in_parentheses(lambda: self.listed(self.expr))
             return ("ite", p, a, b)
         args = self.in_parentheses(lambda: self.listed(self.expr))
+        if word in self.model.derived:
+            parameters, side = self.model.derived[word]
+            return written_out(side, dict(zip(parameters, args)))
         if word in self.model.relations:
             return ("rel", word, args)
         return ("app", word, args) if word in self.model.functions else ("bound", word)
+
+
+def written_out(e, given):
+    """Gives an expression without quantifiers with these expressions in the place of its bound names."""
+    if isinstance(e, list):
+        return [written_out(part, given) for part in e]
+    if not isinstance(e, tuple):
+        return e
+    if e[0] == "bound":
+        return given.get(e[1], e)
+    return (e[0], *[written_out(part, given) for part in e[1:]])
 
 
 def read(text):

@@ -268,6 +268,8 @@ END
     grower crashes 'return 7'
     expect 'growths: a calloc is refused too' wrote '-11'
     expect 'growths: a calloc is refused too' ended 1
+    IVYCHECK=$room/grower IVYVIEW=$room/grower bench growths.py --steps 5 'view: replay --json'
+    expect 'growths: so is one of ivyview' wrote '| view: replay --json | 16 | 10 | [(2, -11), '
     grower heeds '*(volatile char *)0 = 1'
     expect 'growths: a crash under a limit of memory is told' wrote '(40, -11)'
     expect 'growths: a crash under a limit of memory is told' ended 1
@@ -277,10 +279,30 @@ fi
 
 printf '#!/bin/sh\ntrap "" PIPE\necho "verdict: inductive" 2>/dev/null\nexit 0\n' >"$room/bin/heedless"
 chmod +x "$room/bin/heedless"
-IVYCHECK=$room/bin/heedless bench outside.sh
-expect 'outside: a program that heeds no pipe is told' wrote \
-    'standard output is a pipe that nobody reads: status 0, expected 5, differs'
-expect 'outside: a program that heeds no pipe is told' ended 1
+IVYCHECK=$room/bin/heedless IVYVIEW=$room/bin/heedless bench outside.sh 'ivycheck replay' 'ivyview why'
+expect 'outside: a program that heeds no pipe is told' wrote_line \
+    'ivycheck replay: standard output is a pipe that nobody reads: status 0, expected 5, differs'
+expect 'outside: so is one that answers where a file fails' wrote_line \
+    'ivyview why --json: the file is a folder: status 0, expected 5, with an answer, said otherwise, differs'
+expect 'outside: and ends it' ended 1
+expect 'outside: cases that are not asked for are left out' wrote_no 'ivycheck check'
+
+# --- hazards.py, on stand-ins that cannot do with a text at full size
+
+printf '#!/bin/sh\n[ "$(wc -c <"$2")" -lt 500 ] || kill -SEGV $$\n' >"$room/bin/crasher"
+cat >"$room/bin/cuber" <<'END'
+#!/usr/bin/env python3
+import os, sys
+for _ in range(os.path.getsize(sys.argv[2]) ** 3 // 300000):
+    pass
+END
+chmod +x "$room/bin/crasher" "$room/bin/cuber"
+IVYCHECK=$room/bin/crasher bench hazards.py --scale 0.001 'blocks inside one another'
+expect 'hazards: a crash is told' wrote '| status 0 at half size |'
+expect 'hazards: and ends it' ended 1
+IVYVIEW=$room/bin/cuber bench hazards.py --scale 0.02 --view --command bmc 'blocks inside one another'
+expect 'hazards: more than double is told' wrote ' | more than double |'
+expect 'hazards: and ends it' ended 1
 
 # --- gate.py, solve.sh, lrat.sh and room.py, with a stand-in for rt
 
@@ -372,6 +394,15 @@ expect 'edits: a line that is gone' wrote 'gone.edit: it stands 0 times: let c =
 expect 'edits: a file that is gone' wrote 'no_file.edit: there is no src/gone.rt'
 expect 'edits: they are counted' last_is '4 edits, 3 cannot be applied'
 expect 'edits: one cannot' ended 1
+mkdir -p rt-bin
+printf '#!/bin/sh\n[ "$*" = "must-fail base" ] && ls crates/base/must-fail\n' >rt-bin/rt
+chmod +x rt-bin/rt
+PATH=$room/rt-bin:$PATH bench edits.py --try base
+expect 'edits: those that the gate leaves out are tried too' wrote_line never_empty.edit
+expect 'edits: what rt says is the answer' ended 0
+bench edits.py --try no_crate
+expect 'edits: of no crate none is tried' said 'no edits of no_crate'
+expect 'edits: of no crate none is tried' ended 1
 
 printf 'p cnf 2 4\n1 2 0\n1 -2 0\n-1 2 0\n-1 -2 0\n' >square.cnf
 printf 'd 1 2 0\n1 0\n0\n' >square.drat
@@ -428,13 +459,24 @@ else
     expect 'ground: a line' wrote '| `lock_server.rml` '
     bench sentences.py "$examples/flag.rml"
     expect 'sentences: a line each' wrote '| 900 updates |'
-    bench hazards.py --scale 0.02
-    expect 'hazards: no run ends by a signal' ended 0
-    bench outside.sh
-    expect 'outside: each case' ended 0
+    for command in check bmc houdini replay; do
+        bench hazards.py --scale 0.02 --command $command
+        expect "hazards: no run of $command ends by a signal" ended 0
+    done
+    bench outside.sh ivycheck
+    expect 'outside: each case of ivycheck' ended 0
     bench prefixes.py flag.rml
     expect 'prefixes: as its row has it' \
         grep -qxF "$(grep '^each-prefix' "$room/out")" "$here/crates/rows/data/prefixes.txt"
+    bench prefixes.py --reports flag.rml
+    expect 'prefixes: no report that is cut off is confirmed' last_is '259 prefixes of 1 reports, 0 differ'
+    # `believer` confirms whatever it is given.
+    printf '#!/bin/sh\n[ "$1" = replay ] || exec "%s" "$@"\nprintf "executions 1\\nverdict: confirmed\\n"\n' \
+        "$program" >"$room/bin/believer"
+    chmod +x "$room/bin/believer"
+    IVYCHECK=$room/bin/believer bench prefixes.py --reports --step 100 flag.rml
+    expect 'prefixes: one that is confirmed is told' last_is '3 prefixes of 1 reports, 3 differ'
+    expect 'prefixes: and ends it' ended 1
     "$here/bench/names.py" >"$room/names.rml"
     "$program" check "$room/names.rml" >"$room/out" 2>"$room/err"
     expect 'names: its model is read' wrote 'verdict: '
@@ -450,22 +492,14 @@ else
     done
     bench ../editors/test.py
     expect 'editors: colours are of the words and signs of the language' ended 0
-    bench models.py 50
-    expect 'models: none of fifty differs' ended 0
-    # `lie` has the program's reports pass through a filter: `models.py` has to see what it changes.
-    lie() {
-        printf '#!/bin/bash\nset -o pipefail\n"%s" "$@" | %s\n' "$program" "$1" >"$room/bin/liar"
-        chmod +x "$room/bin/liar"
-        IVYCHECK=$room/bin/liar bench models.py 8
-    }
-    lie "sed '/^  /d; s/fails/holds/'"
-    expect 'models: what fails and is said to hold is told' wrote ' holds, and fails on path '
-    lie "sed 's/^\(    relation [a-z0-9]*:\)$/\1 (0)/'"
-    expect 'models: a tuple too many is told' wrote ' tuples are enough'
-    lie "sed '/^steps/s/: breaks .*/: safe/'"
-    expect 'models: a length that is broken and called safe is told' wrote ': safe, and broken by '
-    lie "sed 's/^  values: 0/  values: 1/'"
-    expect 'models: values that are no elements are told' wrote 'the answer cannot be read: '
+    bench same_answers.py "$program" 40
+    expect 'same_answers: a program answers as itself' ended 0
+    printf '#!/bin/bash\n"%s" "$@" | sed s/holds/fails/\nexit "${PIPESTATUS[0]}"\n' "$program" >"$room/bin/liar"
+    bench same_answers.py "$room/bin/liar" 40
+    expect 'same_answers: another answer is told' ended 1
+    awk '/^```/ { on = 0 } /^rml 2$/ { on = 1 } on' "$here/docs/LANGUAGE.md" >"$room/format2.rml"
+    "$program" check "$room/format2.rml" >"$room/out" 2>"$room/err"
+    expect 'LANGUAGE: its model of format 2 is inductive' last_is 'verdict: inductive'
     bench replay_base.py
     expect 'replay_base: no solver stands below the judge' ended 0
     sed 's/^report_replay: /&cdcl /' "$here/crates.txt" >crates.txt
@@ -484,8 +518,8 @@ else
     bench long_report.py 1
     expect 'long_report: a megabyte is confirmed' ended 0
     if command -v cc >/dev/null; then
-        bench growths.py 'a log that refutes'
-        expect 'growths: a log' ended 0
+        bench growths.py --steps 20 'a log that refutes' 'a network of format 2' 'runs of a network' 'a right report'
+        expect 'growths: a log, a network, its runs, and a report' ended 0
         bench lrat.sh 1
         expect 'lrat: a log of 100,000 hints' ended 0
     fi
@@ -530,6 +564,50 @@ else
     export IVYVIEW=$viewer
     bench views.py
     expect 'views: the rows that stand there' diff "$room/out" "$here/crates/rows/data/views.txt"
+    if command -v cc >/dev/null; then
+        bench growths.py --steps 10 'view: check network --json' 'view: why useless' 'view: replay'
+        expect 'growths: what is shown of a network, of reasons, and of a report' ended 0
+    fi
+    bench hazards.py --scale 0.02 --view --command why -- --terms 1 --ground 1 --json
+    expect 'hazards: no run of ivyview ends by a signal' ended 0
+    bench outside.sh ivyview
+    expect 'outside: each case of ivyview' ended 0
+    bench models.py 50
+    expect 'models: none of fifty differs' ended 0
+    # `lie` has the program's reports pass through a filter: `models.py` has to see what it changes.
+    lie() {
+        printf '#!/bin/bash\nset -o pipefail\n"%s" "$@" | %s\n' "$program" "$1" >"$room/bin/liar"
+        chmod +x "$room/bin/liar"
+        IVYCHECK=$room/bin/liar bench models.py 8
+    }
+    lie "sed '/^  /d; s/fails/holds/'"
+    expect 'models: what fails and is said to hold is told' wrote ' holds, and fails on path '
+    lie "sed 's/^\(    relation [a-z0-9]*:\)$/\1 (0)/'"
+    expect 'models: a tuple too many is told' wrote ' tuples are enough'
+    lie "sed '/^steps/s/: breaks .*/: safe/'"
+    expect 'models: a length that is broken and called safe is told' wrote ': safe, and broken by '
+    lie "sed 's/^  values: 0/  values: 1/'"
+    expect 'models: values that are no elements are told' wrote 'the answer cannot be read: '
+    # (so what `ivyview` says in JSON)
+    cat >"$room/bin/needless" <<'END'
+#!/usr/bin/env python3
+import json, sys
+told = json.load(sys.stdin)
+for group in told["groups"]:
+    if "needs" in group:
+        group["needs"] = []
+print(json.dumps(told))
+END
+    chmod +x "$room/bin/needless"
+    view_lie() {
+        view_liar "$1"
+        IVYVIEW=$room/bin/view-liar bench models.py 6
+    }
+    view_lie "sed '/\"check\"/s/\"answer\":\"fails\"/\"answer\":\"holds\"/g'"
+    expect 'models: what fails by lean counts and is said to hold is told' wrote 'lean: init c1 holds, and fails on '
+    view_lie "$room/bin/needless"
+    expect 'models: a group that is carried by less is told' wrote ': by [], and fails on path '
+    expect 'models: and ends it' ended 1
     bench tutorial.py
     expect 'tutorial: each command prints what the page shows' ended 0
     sed 's/^verdict: .*/verdict: unknown/; s/^not inductive.*/unknown/' "$here/docs/TUTORIAL.md" >"$room/page.md"

@@ -3,9 +3,9 @@
 #
 # Each goal is a call `emit FILE GOAL lrat WORD ..`; the log of one that holds is checked again by `lrat` against the
 # clauses of `emit FILE GOAL cnf`. Printed are the axioms' line of `check`, each goal that fails or is left open, how
-# many hold, and the verdict; the status is that of `check` too. Where a goal has no answer (its log is not taken,
-# say, or a call is killed) the verdict is not told, and the status is 5. A text that has no goals goes to `check` as
-# it is.
+# many hold, and the verdict that follows, with the status that `check` has for it. Where a goal has no answer (its
+# log is not taken, say, or a call is killed) the verdict is not told, and the status is 5. A text that has no goals
+# goes to `check` as it is.
 #
 # IVYCHECK is the program that is run (the one that ./ivycheck runs; it is proved and built first if need be). WORK is
 # the folder for clauses and logs (one that goes at the end).
@@ -37,7 +37,7 @@ LC_ALL=C awk '
         while (match(left, /[A-Za-z0-9_]+/)) {
             if (!skips) line = line substr(left, 1, RSTART - 1)
             word = substr(left, RSTART, RLENGTH)
-            if (word ~ /^(sort|relation|function|variable|axiom)$/) skips = 0
+            if (word ~ /^(sort|relation|define|function|variable|axiom)$/) skips = 0
             if (word ~ /^(conjecture|init|action|final)$/) skips = 1
             if (!skips) line = line word
             left = substr(left, RSTART + RLENGTH)

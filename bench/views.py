@@ -62,6 +62,30 @@ PIGEONS = "".join(f"relation {p}{h}\n" for p in "abcd" for h in "123") + "".join
     f"axiom p{p}: {p}1 | {p}2 | {p}3\n" for p in "abcd") + "".join(
     f"axiom h{p}{q}{h}: ~{p}{h} | ~{q}{h}\n" for h in "123" for p in "abcd" for q in "abcd" if p < q) + (
     "init { skip }\nconjecture c: a1\n")
+# format 2: a listed sort, a derived relation, and a relation that becomes anything
+NETWORK = """rml 2
+sort node
+sort kind = { ask, grant }
+relation sent(kind, node)
+relation up
+define busy(N:node) := sent(ask, N) | sent(grant, N)
+init { sent(K, N) := false; up := false }
+action lose { sent(K, N) := *; up := * }
+conjecture idle: forall N:node. ~busy(N)
+"""
+# a derived relation that is true before a step and not behind it, one of no arguments, and one of two
+WAITING = """rml 2
+sort node
+relation asked(node)
+relation held(node)
+variable n : node
+define waits(N:node) := asked(N) & ~held(N)
+define before(X:node, Y:node) := held(X) & waits(Y)
+define quiet := ~asked(n)
+init { asked(N) := false; held(N) := false }
+action grant { n := *; assume waits(n); insert held(n) }
+conjecture alone: forall X:node, Y:node. held(X) & held(Y) -> X = Y
+"""
 USELESS = FIXED + "conjecture twice: forall C:client, S:server. free(S) -> ~holds(C, S)\n"
 FAULTS = [
     ("a byte that is none of the language's", "relation p\naxiom a: p ! p\n", "fault"),
@@ -96,6 +120,10 @@ FAULTS = [
      "sort s\nsort t\nrelation r(s, t)\naxiom a: forall X:s. exists Y:t. r(X, Y)\n", "fault"),
     ("more paths than are followed", "relation p\naction a { " + "; ".join(["if p { skip }"] * 13) + " }\n", "fault"),
     ("a sort that is another's", "sort s\nsort t\nvariable x : s\nvariable y : t\naxiom a: x = y\n", "fault"),
+    ("a definition in a file of format 1", "relation p\ndefine d := p\n", "fault"),
+    ("a name of a listed sort that is set", "rml 2\nsort s = { a, b }\naction t { a := b }\n", "fault"),
+    ("a definition that is too large", "rml 2\nrelation p\ndefine d0 := p\n" + "".join(
+        f"define d{k + 1} := d{k} <-> d{k}\n" for k in range(16)), "fault"),
     ("a quantifier that may not stand there", "sort s\nrelation p(s)\nconjecture c: exists X:s. p(X)\n"
      "action a { assume forall Y:s. exists X:s. X = Y }\n", "fault"),
 ]
@@ -116,7 +144,8 @@ def cases():
     yield check("no lean counts of a replay", ["replay", "model", "report", "--lean"], {"model": FIXED, "report": ""},
                 "words")
     for word, text in (("lock", LOCK), ("fixed", FIXED), ("branches", BRANCHES), ("tables", TABLES),
-                       ("nothing", NOTHING)):
+                       ("nothing", NOTHING), ("network", NETWORK),
+                       ("waiting", WAITING)):
         for form in ([], ["--dot"], ["--json"]):
             yield check(" ".join(["check", word, *form]), ["check", f"{word}.rml", *form], {f"{word}.rml": text},
                         "checked")
@@ -136,7 +165,10 @@ def cases():
     yield check("houdini open", ["houdini", "open.rml", "--ground", "1"], {"open.rml": OPEN}, "found")
     yield check("houdini open as a value", ["houdini", "open.rml", "--ground", "1", "--json"], {"open.rml": OPEN},
                 "found")
-    for word, text in (("lock", LOCK), ("twice", TWICE), ("branches", BRANCHES)):
+    yield check("houdini network", ["houdini", "network.rml"], {"network.rml": NETWORK}, "found")
+    yield check("houdini waiting", ["houdini", "waiting.rml"], {"waiting.rml": WAITING}, "found")
+    for word, text in (("lock", LOCK), ("twice", TWICE), ("branches", BRANCHES), ("network", NETWORK),
+                       ("waiting", WAITING)):
         for form in ([], ["--dot"], ["--json"]):
             yield check(" ".join(["bmc", word, *form]), ["bmc", f"{word}.rml", "--steps", "2", *form],
                         {f"{word}.rml": text}, "bounded")

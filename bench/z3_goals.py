@@ -64,9 +64,17 @@ class State:
         elif primitive[0] == "set":
             self.update(*primitive[1:])
         elif primitive[0] == "havoc":
-            one = self.fresh(self.model.functions[primitive[1]][1])
-            self.means = self.means | {primitive[1]: lambda: one}
+            self.means = self.means | {primitive[1]: self.anything(primitive[1])}
             self.ask(self.model.axioms)
+
+    def anything(self, symbol):
+        """A meaning of which nothing is known."""
+        if symbol in self.model.functions:
+            one = self.fresh(self.model.functions[symbol][1])
+            return lambda: one
+        self.count += 1
+        sorts = map(self.sorts.get, self.model.relations[symbol])
+        return z3.Function(f"#{self.count}", *sorts, z3.BoolSort())
 
     def update(self, name, names, side):
         old = State.__new__(State)
