@@ -21,18 +21,16 @@ sys.path.insert(0, str(HERE.parent / "bench"))
 from program import program  # noqa: E402
 
 KINDS = {
-    "item": "rml sort relation function variable axiom conjecture init action final".split(),
+    "item": "rml sort define relation function variable axiom conjecture init action final".split(),
     "command": "skip abort assume assert insert remove put".split(),
     "branch": "if else choose or".split(),
     "quantifier": "forall exists ite".split(),
     "truth": "true false".split(),
-    "reserved": ["define"],
 }
 KIND = {word: kind for kind, words in KINDS.items() for word in words}
 SCOPES = {"keyword.other.item.rml": "item", "keyword.other.command.rml": "command", "keyword.control.rml": "branch",
           "keyword.operator.quantifier.rml": "quantifier", "constant.language.rml": "truth",
-          "invalid.illegal.reserved.rml": "reserved", "constant.numeric.rml": "number", "keyword.operator.rml": "sign",
-          "comment.line.number-sign.rml": "comment"}
+          "constant.numeric.rml": "number", "keyword.operator.rml": "sign", "comment.line.number-sign.rml": "comment"}
 TOKEN = re.compile(r"#.*$|[A-Za-z_][A-Za-z0-9_]*|[0-9]+|<->|->|:=|~=|[=~&|*]|[^ \t\r]")
 
 

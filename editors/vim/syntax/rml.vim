@@ -4,12 +4,11 @@ if exists("b:current_syntax")
 endif
 
 syntax case match
-syntax keyword rmlItem rml sort relation function variable axiom conjecture init action final
+syntax keyword rmlItem rml sort define relation function variable axiom conjecture init action final
 syntax keyword rmlCommand skip abort assume assert insert remove put
 syntax keyword rmlBranch if else choose or
 syntax keyword rmlQuantifier forall exists ite
 syntax keyword rmlTruth true false
-syntax keyword rmlReserved define
 syntax match rmlNumber /\<[0-9]\{1,9}\>/
 syntax match rmlSign /<->\|->\|:=\|\~=\|[=~&|*]/
 syntax match rmlComment /#.*$/ contains=@Spell
@@ -19,7 +18,6 @@ highlight default link rmlCommand Statement
 highlight default link rmlBranch Conditional
 highlight default link rmlQuantifier Special
 highlight default link rmlTruth Boolean
-highlight default link rmlReserved Error
 highlight default link rmlNumber Number
 highlight default link rmlSign Operator
 highlight default link rmlComment Comment
