@@ -16,6 +16,7 @@ short_at sig place n =
 abbrev pub sparse_at : Declared → ℕ → ℕ → ℕ → FormTree
 sparse_at sig last place n = if nat_le sig.sorts place && nat_lt place last then top else short_at sig place n
 
+-- the sentence that bounds the number at a place by n, said in this way; `last` is the place that is bounded last
 abbrev pub said_by : Declared → Saying → ℕ → ℕ → ℕ → FormTree
 said_by sig Named last = bound_at sig
 said_by sig Short last = short_at sig

@@ -17,6 +17,7 @@ abbrev pub equations : ℕ → FormTrees
 equations zero = no_forms
 equations (suc n) = form_then (equal (bound 0) (bound (suc n))) (equations n)
 
+-- under n quantifiers `exists` of one sort
 abbrev pub for_some_times : ℕ → ℕ → FormTree → FormTree
 for_some_times zero k p = p
 for_some_times (suc n) k p = for_some k (for_some_times n k p)
@@ -35,6 +36,7 @@ abbrev pub pair_equations : ℕ → FormTrees
 pair_equations zero = no_forms
 pair_equations (suc n) = equations_with (suc n) (suc n) (pair_equations n)
 
+-- under n quantifiers `forall` of one sort
 abbrev pub for_all_times : ℕ → ℕ → FormTree → FormTree
 for_all_times zero k p = p
 for_all_times (suc n) k p = for_all k (for_all_times n k p)

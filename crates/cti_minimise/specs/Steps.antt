@@ -50,6 +50,7 @@ AllPassAt t numbers place low high = (n : ℕ) → low ≤ n → n < high → Pa
 abbrev pub NoneWith : Trials → List ℕ → Type 0
 NoneWith t numbers = HasNoneWhere t.checked.now (bounds_on t.checked.now.signature numbers) t.goal.now
 
+-- this counterexample of the goal is in a structure within bounds on these numbers
 abbrev pub ShownWith : Trials → List ℕ → Counterexample → Type 0
 ShownWith t numbers shown =
     IsFailingWhere (limits_of t) t.checked.now (bounds_on t.checked.now.signature numbers) t.goal.now shown

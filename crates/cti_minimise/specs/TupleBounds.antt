@@ -8,6 +8,7 @@ abbrev pub for_each : List ℕ → FormTree → FormTree
 for_each [] p = p
 for_each (k ∷ ks) p = for_all k (for_each ks p)
 
+-- the same with `exists`
 abbrev pub for_some_each : List ℕ → FormTree → FormTree
 for_some_each [] p = p
 for_some_each (k ∷ ks) p = for_some k (for_some_each ks p)

@@ -6,6 +6,7 @@ use Rattle.lrat_log.specs.Refutations.{IsSpent}
 use Rattle.ea_decide.specs.declared.searching.Searched.{Searched}
 use Rattle.ea_decide.specs.declared.searching.Searched.TheVariants.{Refuted, Satisfied, Spent}
 
+-- a proof that no truth values satisfy the clauses; or values that do; or the budget of conflicts was spent
 abbrev pub IsSearched : Formula → ℕ → Searched → Type 0
 IsSearched f budget (Refuted proof) = (proof.formula ≡ f) × IsUnsatisfiable f
 IsSearched f budget (Satisfied values) = IsModel f values

@@ -54,11 +54,13 @@ pub record HasRoom (sig : Declared) (p : FormTree) : Type 0 where
   pub counted : (lists : Lists) (counts : List ℕ) → AreClosed (more_symbols sig p) lists → AreTermCounts sig p counts
       → term_counts lists ≡ counts
 
+-- so it is of a sentence that passes none of these limits, if they are at most 100,000 terms and a size of 50,000,000
 abbrev pub RoomIsWithinLimits : Type 0
 RoomIsWithinLimits = (limits : Ceilings) (sig : Declared) (p : FormTree) (order : List ℕ)
     → IsGroundable sig p order → limits.terms ≤ 100000 → limits.size ≤ 50000000 → Passes limits sig p None
     → HasRoom sig p
 
+-- an order of the sorts is one with the sentence's constants, too
 abbrev pub StrataStay : Type 0
 StrataStay = (sig : Declared) (p : FormTree) (order : List ℕ) → IsGroundable sig p order
     → IsStrata (more_symbols sig p) order
@@ -90,6 +92,7 @@ pub record AreReadable (sig : Declared) (p : FormTree) (lists : Lists) (values :
   pub few : (t : Tables) → IsReadBack (more_symbols sig p) lists (holds_in (assigned sig p lists values)) t
       → sum t.sizes ≤ sum (term_counts lists)
 
+-- so it is of all values that satisfy the clauses of a sentence
 abbrev pub ValuesAreReadable : Type 0
 ValuesAreReadable = (sig : Declared) (p : FormTree) (order : List ℕ) (lists : Lists) (values : List Bool)
     → IsGroundable sig p order → AreClosed (more_symbols sig p) lists

@@ -17,6 +17,7 @@ cause_of (passed.Terms n) = cause.Terms n
 cause_of (passed.GroundSize n) = cause.Ground n
 cause_of (passed.Conflicts n) = cause.Conflicts n
 
+-- the same, where there may be none
 abbrev pub first_cause : Option Passed → Option Cause
 first_cause None = None
 first_cause (Some p) = Some (cause_of p)
@@ -42,6 +43,7 @@ module _ (limits : Ceilings) (m : ModelTree) where
   abbrev pub SentencePassesBy : List FormTree → Goal → Option Cause → Type 0
   SentencePassesBy held goal first = PassesAs limits (answered m goal) (refuting_of m held goal) first
 
+  -- the goal itself passes this limit first, or none, where these sentences hold
   abbrev pub PassesFirstBy : List FormTree → Goal → Option Cause → Type 0
   PassesFirstBy held goal first = PassesFirstAs limits m goal (refuting_of m held goal) first
 
@@ -49,5 +51,6 @@ module _ (limits : Ceilings) (m : ModelTree) where
   abbrev pub SentencePasses : Goal → Option Cause → Type 0
   SentencePasses goal first = SentencePassesBy m.conjectures goal first
 
+  -- the goal itself passes this limit first, or none, where all conjectures hold
   abbrev pub PassesFirst : Goal → Option Cause → Type 0
   PassesFirst goal first = PassesFirstBy m.conjectures goal first

@@ -22,6 +22,7 @@ use Rattle.obligation_decide.specs.GoalPassing.{PassesFirst}
 use Rattle.obligation_decide.specs.Restricted.{with_parts}
 use Rattle.obligation_decide.specs.WithConstants.{HoldsWithConstants}
 
+-- Two answers to which limit a goal passes first, if it passes one, are equal.
 abbrev pub FirstLimitIsOne : Type 0
 FirstLimitIsOne = (limits : Ceilings) (m : ModelTree) (goal : Goal) (a b : Option Cause) → IsChecked m
     → IsSignature m.signature → IsGoal m goal
@@ -45,5 +46,6 @@ pub record JudgesAxioms (m : ModelTree) : Type 0 where
   pub inconsistent : HasNoModel m.signature (all_of m.axioms) → AxiomsAre m Inconsistent
   pub consistent : (t : Tables) → HoldsWithConstants m.signature (all_of m.axioms) t → AxiomsAre m Consistent
 
+-- So it is of each model.
 abbrev pub AxiomsAreJudged : Type 0
 AxiomsAreJudged = (m : ModelTree) → FitsModel m → JudgesAxioms m

@@ -73,9 +73,11 @@ module _ (limits : Ceilings) (m : ModelTree) (more : List FormTree) (goal : Goal
   abbrev pub RestrictedSentencePasses : Option Cause → Type 0
   RestrictedSentencePasses first = PassesAs limits (answered m goal) (refuting_all m m.conjectures more goal) first
 
+  -- the goal with these parts passes this limit first, or none
   abbrev pub RestrictedPassesFirst : Option Cause → Type 0
   RestrictedPassesFirst first = PassesFirstAs limits m goal (refuting_all m m.conjectures more goal) first
 
+  -- the goal with these parts is left open for this cause
   abbrev pub IsLeftOpenWhere : Cause → Type 0
   IsLeftOpenWhere c = IsLeftOpenAs limits m goal (refuting_all m m.conjectures more goal) c
 

@@ -13,5 +13,6 @@ use Rattle.ea_decide.specs.GroundForm.{skolem_sentence}
 abbrev pub constant_sorts : FormTree → List ℕ
 constant_sorts p = new_sorts (normal true p)
 
+-- the structure, which gives an element to each constant too, satisfies the sentence with constants
 abbrev pub HoldsWithConstants : Declared → FormTree → Tables → Type 0
 HoldsWithConstants sig p t = IsModel (symbols (skolem_signature sig p)) (skolem_sentence sig p) t

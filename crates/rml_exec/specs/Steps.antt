@@ -46,6 +46,7 @@ pub record MovesTo (axioms : List FormTree) (q : PrimitiveTree) (havocs : List H
       ≡ follow_path axioms qs (havocs_after q havocs) new
   pub fits : (sig : Symbols) → FitsStructure sig s → FitsStructure sig new
 
+-- what one step gives, whatever comes behind it: a next structure, an abort, or that it is blocked
 abbrev pub StepsTo : List FormTree → PrimitiveTree → List Havoc → Tables → Followed → Type 0
 StepsTo axioms q havocs s (Ended new) = MovesTo axioms q havocs s new
 StepsTo axioms q havocs s Aborted = (qs : List PrimitiveTree) → follow_path axioms (q ∷ qs) havocs s ≡ Some aborted

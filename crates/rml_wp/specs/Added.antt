@@ -37,6 +37,7 @@ pub record IsRefutingSentence (premises : Premises) (m : ModelTree) (held more :
   pub fragment : IsEa (refuting_all_by premises m held more goal)
   pub fits : FitsForm (symbols (answered m goal)) [] (refuting_all_by premises m held more goal)
 
+-- So is the refuting sentence of each goal of a checked model, with all that may be added.
 abbrev pub RefutingSentencesFit : Type 0
 RefutingSentencesFit = (premises : Premises) (m : ModelTree) (held more : List FormTree) (goal : Goal) → IsChecked m
     → IsSignature m.signature → IsGoal m goal → AreAdded m held more → IsRefutingSentence premises m held more goal
@@ -52,6 +53,7 @@ pub record AddsConjectures (m : ModelTree) (more : List FormTree) : Type 0 where
   pub all : AreAdded m m.conjectures more
   pub some : (ks : List ℕ) → AreAdded m (conjectures_of m ks) more
 
+-- So they may in each checked model.
 abbrev pub ConjecturesAreAdded : Type 0
 ConjecturesAreAdded = (m : ModelTree) (more : List FormTree) → IsChecked m → AllByRecursion IsEa more
     → AllByRecursion (FitsForm (symbols m.signature) []) more → AddsConjectures m more

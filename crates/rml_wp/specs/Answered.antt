@@ -29,6 +29,7 @@ pub record IsAnswered (m : ModelTree) (goal : Goal) : Type 0 where
   pub truths : (t : Tables) (c : FormTree) → FitsStructure (symbols (answered m goal)) t
       → FitsForm (symbols m.signature) [] c → is_true t c ≡ is_true (reduct (symbols m.signature) t) c
 
+-- So it is of each goal of a model.
 abbrev pub SignaturesAreAnswered : Type 0
 SignaturesAreAnswered = (m : ModelTree) (goal : Goal) → FitsModel m → IsSignature m.signature → IsGoal m goal
     → IsAnswered m goal
