@@ -66,9 +66,11 @@ abbrev pub bound_cause_text : BoundCause → List ℕ
 bound_cause_text (cause.Paths n) = codes "paths " ++ decimal n
 bound_cause_text (cause.Goal place c) = cause_text c
 
+-- what stands behind the number of a length that is left open
 unfoldable pub undecided_text : BoundCause → List ℕ
 undecided_text c = codes "undecided " ++ bound_cause_text c ++ codes "\n"
 
+-- what stands behind the number of a length
 abbrev pub answer_text : ModelTree → Length → List ℕ
 answer_text m answer.Safe = codes "safe\n"
 answer_text m (answer.Undecided c) = undecided_text c
@@ -83,6 +85,7 @@ abbrev pub lengths_text : ModelTree → ℕ → List Length → List ℕ
 lengths_text m k [] = []
 lengths_text m k (l ∷ ls) = length_text m k l ++ lengths_text m (k + 1) ls
 
+-- the last line of the text
 abbrev pub verdict_text : Verdict → List ℕ
 verdict_text verdict.Safe = codes "verdict: safe\n"
 verdict_text verdict.NotSafe = codes "verdict: not safe\n"

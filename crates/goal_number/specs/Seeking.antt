@@ -14,6 +14,7 @@ seek n [] = Left n
 seek zero (goal ∷ goals) = Found goal
 seek (suc n) (goal ∷ goals) = seek n goals
 
+-- the search goes on in these goals, unless it has ended
 abbrev pub seek_on : Sought → List Goal → Sought
 seek_on (Found goal) goals = Found goal
 seek_on (Left n) goals = seek n goals
@@ -34,5 +35,6 @@ abbrev pub IsPlace : List Goal → ℕ → Sought → Type 0
 IsPlace goals place (Found goal) = slice_get goals place ≡ Some goal
 IsPlace goals place (Left n) = place ≡ length goals + n
 
+-- the goal of the model at this place, counted from 0; or by how much the place exceeds the number of goals
 abbrev pub IsFoundOrLeft : ModelTree → ℕ → Sought → Type 0
 IsFoundOrLeft m place sought = IsPlace (goals_of m) place sought × IfFound (IsGoal m) sought

@@ -14,6 +14,7 @@ abbrev pub names : ℕ → Carried → Bool
 names k (By needs) = list_any (λ n. n.conjecture == k) needs
 names k (Not lack) = false
 
+-- the group is about conjecture k
 abbrev pub is_about : ℕ → About → Bool
 is_about k about.Abort = false
 is_about k (about.Conjecture n) = n == k

@@ -30,6 +30,7 @@ abbrev pub LackIsShown : ModelTree → Lack → Type 0
 LackIsShown m (Fails shown) = IsExecution m shown
 LackIsShown m (Open goal c) = Unit {0}
 
+-- so is each lack that is told of a group
 abbrev pub CarriedIsShown : ModelTree → Carried → Type 0
 CarriedIsShown m (By needs) = AllByRecursion (λ n. LackIsShown m n.lack) needs
 CarriedIsShown m (Not lack) = LackIsShown m lack

@@ -40,6 +40,7 @@ abbrev pub last_from : Outcome → List Part → Outcome
 last_from o [] = o
 last_from o (part ∷ parts) = last_from (outcome_of part.end) parts
 
+-- the outcome in which a run ends that begins in this structure; an end there where it has no part
 abbrev pub last_outcome : Tables → List Part → Outcome
 last_outcome s parts = last_from (ended s) parts
 
@@ -51,6 +52,7 @@ pub record IsShownRun (m : ModelTree) (run : Run) : Type 0 where
   pub parts : AreParts m run.start run.parts
   pub fails : FailsGoal m run.about run.values (Some (last_outcome run.start run.parts))
 
+-- the path that the part takes
 abbrev pub leg_of : Part → Leg
 leg_of part = record { stage = part.stage; path = part.trace.path }
 
@@ -66,15 +68,18 @@ step_before stage.Init o steps = steps
 step_before (stage.Action a) o steps = record { action = a; outcome = o } ∷ steps
 step_before stage.Final o steps = steps
 
+-- the steps of actions among these parts, in order
 abbrev pub steps_of : List Part → List runs.Step
 steps_of [] = []
 steps_of (part ∷ parts) = step_before part.stage (outcome_of part.end) (steps_of parts)
 
+-- the outcome of this stage if it is final, else the other one
 abbrev pub final_or : Stage → Outcome → Option Outcome → Option Outcome
 final_or stage.Init o later = later
 final_or (stage.Action a) o later = later
 final_or stage.Final o later = Some o
 
+-- the outcome of the first part of final, if there is one
 abbrev pub final_of : List Part → Option Outcome
 final_of [] = None
 final_of (part ∷ parts) = final_or part.stage (outcome_of part.end) (final_of parts)
@@ -85,6 +90,7 @@ run_with s [] = record { start = s; first = ended s; steps = []; last = None }
 run_with s (part ∷ parts) =
     record { start = s; first = outcome_of part.end; steps = steps_of parts; last = final_of parts }
 
+-- the run that is shown, as a run of the model
 abbrev pub run_of : Run → runs.Run
 run_of run = run_with run.start run.parts
 

@@ -48,6 +48,7 @@ abbrev pub PassesFirst : Counted → Ceilings → ModelTree → List ℕ → Goa
 PassesFirst Whole limits m held goal first = PassesFirstBy limits m (conjectures_of m held) goal first
 PassesFirst Lean limits m held goal first = LeanPassesFirst limits m held goal first
 
+-- the goal is left open for this cause, by either counts
 abbrev pub IsLeftOpen : Counted → Ceilings → ModelTree → List ℕ → Goal → Cause → Type 0
 IsLeftOpen Whole limits m held goal c = IsLeftOpenBy limits m (conjectures_of m held) goal c
 IsLeftOpen Lean limits m held goal c = IsLeanLeftOpen limits m held goal c

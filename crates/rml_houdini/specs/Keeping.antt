@@ -86,6 +86,7 @@ pub record IsKept (limits : Ceilings) (m : ModelTree) (held : List ℕ) (st : St
       (group_goals m (group_at st k))
   pub suffice : Suffice m ks (group_goals m (group_at st k))
 
+-- so it is of what is remembered in one place, if anything is
 abbrev pub IsKeptAt : Ceilings → ModelTree → List ℕ → Option Kept → Type 0
 IsKeptAt limits m held None = Unit {0}
 IsKeptAt limits m held (Some kept) = IsKept limits m held kept.stage kept.conjecture kept.by.held.items

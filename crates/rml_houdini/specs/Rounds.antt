@@ -23,6 +23,7 @@ use Rattle.rml_houdini.specs.declared.round.Round.TheVariants.{Fails, Passes}
 abbrev pub conjecture_stages : ModelTree → List Stage
 conjecture_stages m = stage.Init ∷ map (λ a. stage.Action a) (count_from 0 (length m.actions))
 
+-- the group of goals about this conjecture behind one stage
 abbrev pub group_at : Stage → ℕ → Head
 group_at s k = record { stage = s; about = about.Conjecture k }
 
@@ -43,6 +44,7 @@ module _ (counted : Counted) (limits : Ceilings) (m : ModelTree) (held : List �
   abbrev pub IsOpen : Goal → Cause → Type 0
   IsOpen goal c = IsLeftOpen counted limits m held goal c
 
+  -- the goal does not fail
   abbrev pub IsSafeOrOpen : Goal → Type 0
   IsSafeOrOpen goal = IsSafe goal ⊎ ((c : Cause) × IsOpen goal c)
 

@@ -27,6 +27,7 @@ AreConjectures m ks = All (λ k. k < length m.conjectures) ks × IsAscending ks
 abbrev pub without : ℕ → List ℕ → List ℕ
 without k ks = filter (λ n. not (k == n)) ks
 
+-- the conjectures that carry a group, by their numbers
 abbrev pub needed_conjectures : List Need → List ℕ
 needed_conjectures needs = map (λ n. n.conjecture) needs
 

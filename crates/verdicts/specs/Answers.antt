@@ -84,10 +84,12 @@ pub record IsAnswerTo (counted : Counted) (limits : Ceilings) (m : ModelTree) (p
   pub right : AreAnswers counted limits m goals answers
   pub is : a ≡ printed paths goals answers
 
+-- right answers to the goals of this group make this answer
 abbrev pub IsGroupAnswer : Counted → Ceilings → ModelTree → Head → Answer → Type 0
 IsGroupAnswer counted limits m group a =
     IsAnswerTo counted limits m (length (stage_paths m group.stage)) (group_goals m group) a
 
+-- so it is of the answer that stands in the group
 abbrev pub IsGroupNow : Counted → Ceilings → ModelTree → Group → Type 0
 IsGroupNow counted limits m g = IsGroupAnswer counted limits m (head_of g) g.answer
 
@@ -99,5 +101,6 @@ pub record IsReportBy (counted : Counted) (limits : Ceilings) (m : ModelTree) (r
   pub verdict : report.verdict ≡ verdict_of report.groups
   pub axioms : AreAxiomsDecided limits m report.axioms
 
+-- the same by the counts of whole refuting sentences
 abbrev pub IsReport : Ceilings → ModelTree → Report → Type 0
 IsReport limits m report = IsReportBy Whole limits m report

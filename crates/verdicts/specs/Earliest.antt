@@ -4,6 +4,7 @@ use Rattle.rml_report.specs.declared.report.Answer.{Answer}
 use Rattle.rml_report.specs.declared.report.Answer.TheVariants as answer
 use Rattle.verdicts.specs.declared.deciding.OpenGoal.{OpenGoal}
 
+-- the open goal so far, or the next one where there is none yet
 abbrev pub earlier_of : Option OpenGoal → OpenGoal → Option OpenGoal
 earlier_of None next = Some next
 earlier_of (Some first) next = Some first
@@ -13,5 +14,6 @@ abbrev pub open_or : Option OpenGoal → Answer → Answer
 open_or None a = a
 open_or (Some goal) a = answer.Undecided goal.path goal.cause
 
+-- undecided at the first open goal; `holds` where there is none
 abbrev pub answer_of : Option OpenGoal → Answer
 answer_of earliest = open_or earliest answer.Holds

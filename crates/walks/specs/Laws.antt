@@ -60,6 +60,7 @@ pub record IsWalk (m : ModelTree) (walk : Walk) : Type 0 where
 abbrev pub ListedAreLegs : Type 0
 ListedAreLegs = (m : ModelTree) (k : ℕ) → AllByRecursion (AreLegs m) (walks_of m k)
 
+-- The goals of each length are goals along walks of the model.
 abbrev pub GoalsAreWalks : Type 0
 GoalsAreWalks = (m : ModelTree) (k : ℕ) → AllByRecursion (IsWalk m) (goals_of_length m k)
 

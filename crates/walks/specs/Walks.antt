@@ -22,6 +22,7 @@ Test = List PrimitiveTree → Bool
 abbrev pub any_path : Test
 any_path p = true
 
+-- it does not end in abort
 abbrev pub goes_on : Test
 goes_on p = not (has_abort p)
 
@@ -67,10 +68,12 @@ walks_of m k = one_of_each (choices_of m any_path k)
 abbrev pub open_walks : ModelTree → ℕ → List (List Leg)
 open_walks m k = one_of_each (choices_of m goes_on k)
 
+-- the path, or the empty one where there is none
 abbrev pub path_of : Option (List PrimitiveTree) → List PrimitiveTree
 path_of None = []
 path_of (Some p) = p
 
+-- the primitives along a leg
 abbrev pub leg_path : ModelTree → Leg → List PrimitiveTree
 leg_path m leg = path_of (numbered (stage_paths m leg.stage) leg.path)
 
@@ -78,6 +81,7 @@ leg_path m leg = path_of (numbered (stage_paths m leg.stage) leg.path)
 abbrev pub joined : ModelTree → List Leg → List PrimitiveTree
 joined m legs = flat_map (leg_path m) legs
 
+-- the goal that forbids what this is about at the end of these legs
 abbrev pub goal_along : List Leg → About → Walk
 goal_along legs a = record { parts = legs; about = a }
 
