@@ -28,6 +28,7 @@ fails_count answer.Holds = 0
 fails_count (answer.Fails paths least shown) = 1
 fails_count (answer.Undecided path cause) = 0
 
+-- how many groups fail
 abbrev pub failing_groups : List Group → ℕ
 failing_groups [] = 0
 failing_groups (g ∷ gs) = fails_count g.answer + failing_groups gs

@@ -12,6 +12,7 @@ abbrev pub join : List (List ℕ) → List ℕ
 join [] = []
 join (line ∷ lines) = line ++ join lines
 
+-- there are no bytes
 abbrev pub is_none : List ℕ → Bool
 is_none [] = true
 is_none (b ∷ bs) = false

@@ -40,6 +40,7 @@ abbrev pub AreAsked : Tables → List PrimitiveTree → List Havoc → Type 0
 AreAsked s [] hs = hs ≡ []
 AreAsked s (q ∷ qs) hs = IsAsked s q hs × AreAsked s qs (havocs_after q hs)
 
+-- the same, where the path has to be there
 abbrev pub AreAskedAlong : Tables → Option (List PrimitiveTree) → List Havoc → Type 0
 AreAskedAlong s None hs = ⊥
 AreAskedAlong s (Some path) hs = AreAsked s path hs

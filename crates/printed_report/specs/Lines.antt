@@ -58,11 +58,13 @@ abbrev pub IsLeast : ModelTree → Least → Type 0
 IsLeast m least.Yes = Unit {0}
 IsLeast m (least.Stopped bound size c) = IsBound m bound size × IsCounted c
 
+-- the line of some answer about the axioms
 pub record IsAxiomsLine (line : List ℕ) : Type 0 where
   pub axioms : Axioms
   pub can : IsAxioms axioms
   pub text : line ≡ axioms_text axioms
 
+-- the line of some answer whether sizes and numbers of tuples are least
 pub record IsLeastLine (m : ModelTree) (line : List ℕ) : Type 0 where
   pub least : Least
   pub can : IsLeast m least
@@ -76,6 +78,7 @@ pub record IsUndecidedLine (m : ModelTree) (group : Head) (line : List ℕ) : Ty
   pub can : IsCause cause
   pub text : line ≡ head_text m.names group.stage group.about ++ undecided_text path cause
 
+-- a line for each sort, with its size
 abbrev pub sort_lines : Names → Tables → List (List ℕ)
 sort_lines names s = map (λ k. sort_line names k (size_at s k)) (count_from 0 (length s.sizes))
 

@@ -14,6 +14,7 @@ use Rattle.printed_report.specs.declared.printed.PrintedAnswer.{PrintedAnswer}
 use Rattle.printed_report.specs.declared.printed.PrintedAnswer.TheVariants as answer
 use Rattle.line_scan.specs.Lines.{lines_of}
 
+-- the lines show this execution, with some line `least:`
 pub record IsBlock (m : ModelTree) (group : Head) (paths : ℕ) (shown : Counterexample) (after : Option Tables)
     (lines : List (List ℕ)) : Type 0 where
   pub execution : IsExecution m group paths shown after
@@ -71,6 +72,7 @@ abbrev pub IsUnexpected : ModelTree → List (List ℕ) → List (List ℕ) → 
 IsUnexpected m before [] = (p : Printed) → IsPrinted m p before → ⊥
 IsUnexpected m before (line ∷ more) = BeginsReport m (before ++ line ∷ []) → ⊥
 
+-- line n, counted from 1, is that line: those before it begin a printed report
 pub record IsUnread (m : ModelTree) (lines : List (List ℕ)) (n : ℕ) : Type 0 where
   pub before : List (List ℕ)
   pub rest : List (List ℕ)

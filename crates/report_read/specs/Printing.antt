@@ -41,6 +41,7 @@ abbrev pub in_order : Tables → List PrimitiveTree → List Havoc → List Havo
 in_order s [] hs = []
 in_order s (q ∷ qs) hs = entry_in_order s q hs ++ in_order s qs (havocs_after q hs)
 
+-- what the steps of a path find, if there is one
 abbrev pub in_order_along : Tables → Option (List PrimitiveTree) → List Havoc → List Havoc
 in_order_along s None hs = []
 in_order_along s (Some path) hs = in_order s path hs
@@ -64,6 +65,7 @@ end_of (about.Conjecture k) None = None
 end_of (about.Conjecture k) (Some aborted) = None
 end_of (about.Conjecture k) (Some (ended s)) = Some s
 
+-- what is read back of an answer: not whether the numbers are least, nor the path and the cause of an open one
 abbrev pub printed_answer : ModelTree → About → Answer → PrintedAnswer
 printed_answer m a reported.Holds = answer.Holds
 printed_answer m a (reported.Fails paths least shown) =
@@ -78,6 +80,7 @@ answer_lines m a head (reported.Fails paths least shown) =
     ∷ block_lines m a paths (least_line m.names least) (printed_shown m shown) (end_of a (outcome_of m shown))
 answer_lines m a head (reported.Undecided path cause) = (head ++ undecided_text path cause) ∷ []
 
+-- the lines of one group, from its head on
 abbrev pub group_lines : ModelTree → Group → List (List ℕ)
 group_lines m g = answer_lines m g.about (head_text m.names g.stage g.about) g.answer
 
@@ -88,6 +91,7 @@ printed_groups m n (g ∷ gs) =
     record { stage = g.stage; about = g.about; line = n; answer = printed_answer m g.about g.answer }
     ∷ printed_groups m (n + length (group_lines m g)) gs
 
+-- what is read back of a report; the head of the first group is on line 2, behind that of the axioms
 abbrev pub printed : ModelTree → Report → Printed
 printed m r = record { verdict = r.verdict; groups = printed_groups m 2 r.groups }
 
@@ -96,9 +100,11 @@ abbrev pub is_plain : List ℕ → Bool
 is_plain [] = true
 is_plain (b ∷ bs) = if b == 10 then false else is_plain bs
 
+-- no name has a line feed
 abbrev pub ArePlain : List (List ℕ) → Type 0
 ArePlain names = AllByRecursion (λ name. is_plain name ≡ true) names
 
+-- no name of the model has a line feed
 pub record HasPlainNames (names : Names) : Type 0 where
   pub sorts : ArePlain names.sorts
   pub relations : ArePlain names.relations
@@ -112,6 +118,7 @@ CanPrint m reported.Holds = Unit {0}
 CanPrint m (reported.Fails paths least shown) = All IsSize shown.structure.sizes × IsLeast m least
 CanPrint m (reported.Undecided path cause) = IsCause cause
 
+-- a report whose text can be read back: no name has a line feed, and its numbers may be printed
 pub record CanBeRead (m : ModelTree) (r : Report) : Type 0 where
   pub names : HasPlainNames m.names
   pub axioms : IsAxioms r.axioms
@@ -127,5 +134,6 @@ pub record IsShownAlike (m : ModelTree) (shown : Counterexample) : Type 0 where
   pub refutes : IsCounterexample m shown.goal shown.structure (printed_shown m shown).trace.havoc shown.values
   pub ends : outcome_of m (printed_shown m shown) ≡ outcome_of m shown
 
+-- So it is of each counterexample that is shown of a checked model.
 abbrev pub PrintedIsShown : Type 0
 PrintedIsShown = (m : ModelTree) (shown : Counterexample) → IsChecked m → IsRefutation m shown → IsShownAlike m shown

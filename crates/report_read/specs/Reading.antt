@@ -48,6 +48,7 @@ Reads read left (Err NoMemory) = Unit {0}
 abbrev pub passing : Bool → Option (Unit {0})
 passing b = if b then Some tt else None
 
+-- the line of the axioms, of which nothing is kept
 abbrev pub read_axioms : LinesLeft → Got (Unit {0})
 read_axioms left = one (passing (is_axioms_line (first_of left.lines))) left
 
@@ -63,6 +64,7 @@ abbrev pub read_truths : Names → Tables → ℕ → LinesLeft → Got (List Bo
 read_truths names s k left =
     one (truths_in s.sizes (relation_at s k).sorts (name_at names.relations k) (first_of left.lines)) left
 
+-- the values of a function, tuple by tuple
 abbrev pub read_images : Names → Tables → ℕ → LinesLeft → Got (List ℕ)
 read_images names s k left =
     one (values_in s.sizes (function_at s k).sorts (size_at s (function_at s k).into) (name_at names.functions k)
@@ -88,12 +90,15 @@ read_tables m sizes left =
     and_then (read_relations m.names 0 (length m.signature.relations) (blank m.signature sizes) left)
     (read_functions m.names 0 (length m.signature.functions))
 
+-- the sizes of the sorts, and all tables
 abbrev pub read_structure : ModelTree → LinesLeft → Got Tables
 read_structure m left = and_then (read_sizes m.names 0 m.signature.sorts [] left) (read_tables m)
 
+-- the elements of these sorts in a line that begins with the word
 abbrev pub read_elements : List ℕ → List ℕ → List ℕ → LinesLeft → Got (List ℕ)
 read_elements sizes ks word left = one (elements_in sizes ks word (first_of left.lines)) left
 
+-- the entries that the line `havoc:` gives for the path of the goal
 abbrev pub read_havoc : ModelTree → Goal → Tables → LinesLeft → Got (List Havoc)
 read_havoc m goal s left = one (entries_along s (goal_path m goal) (first_of left.lines)) left
 
@@ -102,9 +107,11 @@ abbrev pub value_sorts : Option FormTree → List ℕ
 value_sorts None = []
 value_sorts (Some c) = leading_sorts c
 
+-- the line `values:` of conjecture k
 abbrev pub read_values : ModelTree → ℕ → Tables → LinesLeft → Got (List ℕ)
 read_values m k s = read_elements s.sizes (value_sorts (slice_get m.conjectures k)) (codes "  values:")
 
+-- a line that is these words and nothing else
 abbrev pub read_words : List ℕ → LinesLeft → Got (Unit {0})
 read_words words left = one (words_in words (first_of left.lines)) left
 
@@ -112,27 +119,34 @@ read_words words left = one (words_in words (first_of left.lines)) left
 abbrev pub end_in : Tables → List ℕ → End
 end_in t values = record { after = Some t; values = values }
 
+-- the end of a path that aborts: no structure and no values
 abbrev pub no_end : End
 no_end = record { after = None; values = [] }
 
+-- the line `after`, and the tables of the end, which has the sizes of this structure
 abbrev pub read_end_tables : ModelTree → Tables → LinesLeft → Got Tables
 read_end_tables m s left = and_then (read_words (codes "  after\n") left) (λ _ more. read_tables m s.sizes more)
 
+-- the end of a path that breaks conjecture k
 abbrev pub read_after : ModelTree → ℕ → Tables → LinesLeft → Got End
 read_after m k s left =
     and_then (read_end_tables m s left) (λ t more. and_then (read_values m k s more)
     (λ values rest. got (end_in t values) rest))
 
+-- the line `aborts`
 abbrev pub read_abort : LinesLeft → Got End
 read_abort left = and_then (read_words (codes "  aborts\n") left) (λ _ rest. got no_end rest)
 
+-- how the path ends, by what the goal is about
 abbrev pub read_end : ModelTree → About → Tables → LinesLeft → Got End
 read_end m about.Abort s left = read_abort left
 read_end m (about.Conjecture k) s left = read_after m k s left
 
+-- the number of the shown path, in a stage with so many paths
 abbrev pub read_path : ModelTree → Head → ℕ → LinesLeft → Got ℕ
 read_path m group paths left = one (path_in m group paths (first_of left.lines)) left
 
+-- the line `least:`, of which nothing is kept
 abbrev pub read_least : ModelTree → LinesLeft → Got (Unit {0})
 read_least m left = one (passing (is_least_line m.names (first_of left.lines))) left
 
@@ -148,6 +162,7 @@ read_course m goal s left =
     and_then (read_havoc m goal s left) (λ havoc more. and_then (read_end m goal.about s more)
     (λ end rest. got (record { havoc = havoc; end = end }) rest))
 
+-- the execution of a group along this path, from this structure
 abbrev pub shown_of : Head → ℕ → Tables → Course → Counterexample
 shown_of group path s course = record {
   structure = s;
@@ -156,6 +171,7 @@ shown_of group path s course = record {
   values = course.end.values;
 }
 
+-- the answer that the group fails, with this execution
 abbrev pub fails_of : Head → ℕ → ℕ → Tables → Course → PrintedAnswer
 fails_of group paths path s course = answer.Fails paths (shown_of group path s course) course.end.after
 
@@ -165,14 +181,17 @@ read_execution m group paths path left =
     and_then (read_structure m left) (λ s more. and_then (read_course m (goal_at group path) s more)
     (λ course rest. got (fails_of group paths path s course) rest))
 
+-- what stands behind the head of a group that fails
 abbrev pub read_block : ModelTree → Head → LinesLeft → Got PrintedAnswer
 read_block m group left =
     and_then (read_opening m group (length (stage_paths m group.stage)) left)
     (read_execution m group (length (stage_paths m group.stage)))
 
+-- the first line of a group, and what it says of the group
 abbrev pub read_head : ModelTree → Head → LinesLeft → Got Standing
 read_head m group left = one (head_in m group (first_of left.lines)) left
 
+-- what stands behind a head that says this
 abbrev pub read_answer : ModelTree → Head → Standing → LinesLeft → Got PrintedAnswer
 read_answer m group head.Holds left = got answer.Holds left
 read_answer m group head.Fails left = read_block m group left
@@ -182,9 +201,11 @@ read_answer m group head.Undecided left = got answer.Undecided left
 abbrev pub read_said : ModelTree → Head → LinesLeft → Got PrintedAnswer
 read_said m group left = and_then (read_head m group left) (read_answer m group)
 
+-- the group with this answer, and its head on line n
 abbrev pub group_of : Head → ℕ → PrintedAnswer → PrintedGroup
 group_of group n a = record { stage = group.stage; about = group.about; line = n; answer = a }
 
+-- the lines of one group
 abbrev pub read_group : ModelTree → Head → LinesLeft → Got PrintedGroup
 read_group m group left = and_then (read_said m group left) (λ a rest. got (group_of group left.number a) rest)
 
@@ -194,6 +215,7 @@ read_groups m [] done left = got done left
 read_groups m (group ∷ groups) done left =
     and_then (read_group m group left) (λ g more. read_groups m groups (done ++ g ∷ []) more)
 
+-- the line of the verdict
 abbrev pub read_verdict : LinesLeft → Got Verdict
 read_verdict left = one (verdict_in (first_of left.lines)) left
 
@@ -211,6 +233,7 @@ abbrev pub ended : {A : Type 0} → A → List (List ℕ) → ℕ → Got A
 ended x [] n = got x (record { lines = []; number = n })
 ended x (line ∷ lines) n = stuck (record { lines = line ∷ lines; number = n })
 
+-- no line is left
 abbrev pub read_nothing : {A : Type 0} → A → LinesLeft → Got A
 read_nothing x left = ended x left.lines left.number
 

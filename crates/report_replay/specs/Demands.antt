@@ -35,9 +35,11 @@ table_count m = length m.signature.relations + length m.signature.functions
 abbrev pub before_line : PrintedGroup → ℕ
 before_line g = g.line + 3
 
+-- that of `havoc:`, behind the sorts and tables of the structure
 abbrev pub havoc_line : ModelTree → PrintedGroup → ℕ
 havoc_line m g = before_line g + m.signature.sorts + table_count m + 1
 
+-- that of the first table behind `after`
 abbrev pub end_line : ModelTree → PrintedGroup → ℕ
 end_line m g = havoc_line m g + 2
 
@@ -47,6 +49,7 @@ is_kept_before m stage.Init s = true
 is_kept_before m (stage.Action a) s = satisfies s m.conjectures
 is_kept_before m stage.Final s = satisfies s m.conjectures
 
+-- no step of the path is blocked
 abbrev pub goes_through : Option Outcome → Bool
 goes_through None = false
 goes_through (Some o) = true
@@ -57,6 +60,7 @@ same_relation s t r = all_below (tuple_count s.sizes (relation_at s r).sorts) (�
     same_truth (rel_at s r (tuple_at s.sizes (relation_at s r).sorts n))
     (rel_at t r (tuple_at s.sizes (relation_at s r).sorts n)))
 
+-- the same of the function f
 abbrev pub same_function : Tables → Tables → ℕ → Bool
 same_function s t f = all_below (tuple_count s.sizes (function_at s f).sorts) (λ n.
     fun_at s f (tuple_at s.sizes (function_at s f).sorts n)
@@ -67,10 +71,12 @@ abbrev pub relation_demands : Tables → Tables → ℕ → ℕ → ℕ → List
 relation_demands s t line k n =
     map (λ r. record { line = line + r; code = denial.WrongEnd; met = same_relation s t r }) (count_from k n)
 
+-- the same of n functions from k on; the line is that of function 0
 abbrev pub function_demands : Tables → Tables → ℕ → ℕ → ℕ → List Demand
 function_demands s t line k n =
     map (λ f. record { line = line + f; code = denial.WrongEnd; met = same_function s t f }) (count_from k n)
 
+-- the same of all tables, the first of which is on this line
 abbrev pub table_demands : ModelTree → Tables → Tables → ℕ → List Demand
 table_demands m s t line =
     relation_demands s t line 0 (length m.signature.relations)
@@ -109,6 +115,7 @@ execution_demands m g shown after =
     ∷ record { line = before_line g; code = denial.ConjectureIsFalse; met = is_kept_before m g.stage shown.structure }
     ∷ outcome_demands m g shown after (outcome_of m shown)
 
+-- what is asked of the lines of a group with this answer: nothing, unless it shows an execution
 abbrev pub answer_demands : ModelTree → PrintedGroup → PrintedAnswer → List Demand
 answer_demands m g answer.Holds = []
 answer_demands m g (answer.Fails paths shown after) = execution_demands m g shown after

@@ -16,6 +16,7 @@ use Rattle.report_replay.specs.declared.judged.Judged.{Judged}
 use Rattle.report_replay.specs.declared.judged.Judged.TheVariants.{Confirmed, Denied}
 use Rattle.report_replay.specs.declared.denial.DenialCode.TheVariants as denial
 
+-- the line and the code of the first demand that is not met
 abbrev pub first_unmet : List Demand → Option Fault
 first_unmet [] = None
 first_unmet (d ∷ ds) = if d.met then first_unmet ds else Some (record { line = d.line; code = d.code })
@@ -55,11 +56,12 @@ same_verdict verdict.NotInductive verdict.NotInductive = true
 same_verdict verdict.Undecided verdict.Undecided = true
 same_verdict _ _ = false
 
--- how many lines a group takes
+-- how many lines a group takes that fails
 abbrev pub fails_height : ModelTree → About → ℕ
 fails_height m about.Abort = 6 + m.signature.sorts + table_count m
 fails_height m (about.Conjecture k) = 7 + m.signature.sorts + table_count m + table_count m
 
+-- how many lines a group with this answer takes
 abbrev pub height : ModelTree → About → PrintedAnswer → ℕ
 height m a answer.Holds = 1
 height m a (answer.Fails paths shown after) = fails_height m a
@@ -82,6 +84,7 @@ verdict_demand m p = record {
 abbrev pub demands : ModelTree → Printed → List Demand
 demands m p = flat_map (group_demands m) p.groups ++ verdict_demand m p ∷ []
 
+-- denied for this fault; where there is none, confirmed with as many executions as groups fail
 abbrev pub judged_by : Printed → Option Fault → Judged
 judged_by p None = Confirmed (executions p.groups)
 judged_by p (Some fault) = Denied fault.line fault.code

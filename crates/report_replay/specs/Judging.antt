@@ -14,12 +14,14 @@ use Rattle.printed_report.specs.declared.printed.PrintedAnswer.{PrintedAnswer}
 use Rattle.printed_report.specs.declared.printed.PrintedAnswer.TheVariants as answer
 use Rattle.report_replay.specs.declared.judged.Fault.{Fault}
 
+-- what the answer shows, if it shows something, is an execution of the group, which can be followed
 abbrev pub CanFollow : ModelTree → PrintedGroup → PrintedAnswer → Type 0
 CanFollow m g answer.Holds = Unit {0}
 CanFollow m g (answer.Fails paths shown after) = IsExecution m (record { stage = g.stage; about = g.about }) paths
     shown after
 CanFollow m g answer.Undecided = Unit {0}
 
+-- the group's line leaves room in 64 bits for those behind it, and what the group shows can be followed
 pub record CanReplay (m : ModelTree) (g : PrintedGroup) : Type 0 where
   pub line : g.line ≤ 2 ^ 63 + 1
   pub answer : CanFollow m g g.answer

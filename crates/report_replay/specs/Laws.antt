@@ -37,19 +37,24 @@ pub record IsShown (m : ModelTree) (shown : Counterexample) (after : Option Tabl
   pub refutes : IsCounterexample m shown.goal shown.structure shown.trace.havoc shown.values
   pub ends : EndsAs m shown after
 
+-- so it is of what an answer shows, if it shows something
 abbrev pub Shows : ModelTree → PrintedAnswer → Type 0
 Shows m answer.Holds = Unit {0}
 Shows m (answer.Fails paths shown after) = IsShown m shown after
 Shows m answer.Undecided = Unit {0}
 
+-- what the groups show are counterexamples that end as is printed, the verdict is that of the groups, and n of them
+-- fail
 pub record IsConfirmed (m : ModelTree) (p : Printed) (n : ℕ) : Type 0 where
   pub shows : AllByRecursion (λ g. Shows m g.answer) p.groups
   pub verdict : p.verdict ≡ verdict_of p.groups
   pub count : n ≡ executions p.groups
 
+-- A report that is judged confirmed is so.
 abbrev pub ConfirmedIsRight : Type 0
 ConfirmedIsRight = (m : ModelTree) (p : Printed) (n : ℕ) → IsRead m p → judgement m p ≡ Confirmed n → IsConfirmed m p n
 
+-- A report that is so is judged confirmed.
 abbrev pub RightIsConfirmed : Type 0
 RightIsConfirmed = (m : ModelTree) (p : Printed) (n : ℕ) → IsRead m p → IsConfirmed m p n → judgement m p ≡ Confirmed n
 
@@ -69,6 +74,7 @@ pub record IsFirstBroken (ds : List Demand) (line : ℕ) (code : DenialCode) : T
   pub broken : SomeOf (IsBroken line code) ds
   pub least : AllByRecursion (IsNotBefore line code) ds
 
+-- The line and the code of a denial are those of the first demand that is not met.
 abbrev pub DeniedIsLeast : Type 0
 DeniedIsLeast = (m : ModelTree) (p : Printed) (line : ℕ) (code : DenialCode) → IsRead m p
     → judgement m p ≡ Denied line code

@@ -30,6 +30,7 @@ abbrev pub set_at : List ℕ → List ℕ → List ℕ → Option (List (List �
 set_at sizes [] bs = truth_at bs
 set_at sizes (k ∷ ks) bs = on (behind (codes "{") bs) (members_at (all_tuples sizes (k ∷ ks)) [])
 
+-- a blank and the table of the relation r, and what stands behind it
 abbrev pub table_at : Tables → ℕ → List ℕ → Option (List (List ℕ) × List ℕ)
 table_at s r bs = on (behind (codes " ") bs) (set_at s.sizes (relation_at s r).sorts)
 
@@ -44,8 +45,10 @@ abbrev pub entries_end : Tables → List PrimitiveTree → List Havoc → List �
 entries_end s [] done bs = if is_end bs then Some done else None
 entries_end s (q ∷ qs) done bs = on (entry_at s q done bs) (λ n. entries_end s qs n.0 n.1)
 
+-- the entries that the line `havoc:` gives for a path
 abbrev pub entries_in : Tables → List PrimitiveTree → List ℕ → Option (List Havoc)
 entries_in s path line = on (behind (codes "  havoc:") line) (entries_end s path [])
 
+-- the same, where the path has to be there
 abbrev pub entries_along : Tables → Option (List PrimitiveTree) → List ℕ → Option (List Havoc)
 entries_along s path line = on path (λ p. entries_in s p line)

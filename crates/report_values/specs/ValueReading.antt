@@ -13,6 +13,7 @@ abbrev pub choose : {A B : Type 0} → Option A → (A → B) → B → B
 choose None f other = other
 choose (Some x) f other = f x
 
+-- what is made of what was found, or None
 abbrev pub on : {A B : Type 0} → Option A → (A → Option B) → Option B
 on found f = choose found f None
 
@@ -24,6 +25,7 @@ behind_labelled before name after bs = on (behind before bs) (λ a. on (behind n
 abbrev pub value_at : ℕ → List ℕ → Option (ℕ × List ℕ)
 value_at size bs = on (number_at bs) (λ n. if nat_lt n.0 size then Some n else None)
 
+-- a blank and an element below the size, and what stands behind it
 abbrev pub element_at : ℕ → List ℕ → Option (ℕ × List ℕ)
 element_at size bs = on (behind (codes " ") bs) (value_at size)
 
@@ -33,6 +35,7 @@ elements_end sizes [] done bs = if is_end bs then Some done else None
 elements_end sizes (k ∷ ks) done bs =
     on (element_at (slice_index sizes k) bs) (λ n. elements_end sizes ks (done ++ n.0 ∷ []) n.1)
 
+-- the elements of these sorts in a line that begins with the word
 abbrev pub elements_in : List ℕ → List ℕ → List ℕ → List ℕ → Option (List ℕ)
 elements_in sizes ks word line = on (behind word line) (elements_end sizes ks [])
 
@@ -40,6 +43,7 @@ elements_in sizes ks word line = on (behind word line) (elements_end sizes ks []
 abbrev pub tuples_from : List ℕ → List ℕ → ℕ → ℕ → List (List ℕ)
 tuples_from sizes ks k n = map (tuple_at sizes ks) (count_from k n)
 
+-- all tuples of elements of these sorts, in lexicographic order
 abbrev pub all_tuples : List ℕ → List ℕ → List (List ℕ)
 all_tuples sizes ks = tuples_from sizes ks 0 (tuple_count sizes ks)
 
@@ -54,14 +58,16 @@ truths_end (xs ∷ tuples) done bs =
     choose (behind (tuple_text xs) bs) (truths_end tuples (done ++ true ∷ []))
     (truths_end tuples (done ++ false ∷ []) bs)
 
--- the value behind each tuple, behind what was read, and the end
+-- this tuple and behind it a value of the function below the size, and what is left
 abbrev pub mapped_at : ℕ → List ℕ → List ℕ → Option (ℕ × List ℕ)
 mapped_at size xs bs = on (behind (tuple_text xs) bs) (λ a. on (behind (codes "->") a) (value_at size))
 
+-- the value behind each tuple, behind what was read, and the end
 abbrev pub values_end : ℕ → List (List ℕ) → List ℕ → List ℕ → Option (List ℕ)
 values_end size [] done bs = if is_end bs then Some done else None
 values_end size (xs ∷ tuples) done bs = on (mapped_at size xs bs) (λ n. values_end size tuples (done ++ n.0 ∷ []) n.1)
 
+-- the one cell of a relation without arguments, and the end
 abbrev pub truth_end : List ℕ → Option (List Bool)
 truth_end bs =
     if bytes_eq bs (codes " true\n") then Some (true ∷ [])
@@ -72,6 +78,7 @@ abbrev pub relation_end : List ℕ → List ℕ → List ℕ → Option (List Bo
 relation_end sizes [] bs = truth_end bs
 relation_end sizes (k ∷ ks) bs = truths_end (all_tuples sizes (k ∷ ks)) [] bs
 
+-- the cells in the line of the relation of this name, over these sorts
 abbrev pub truths_in : List ℕ → List ℕ → List ℕ → List ℕ → Option (List Bool)
 truths_in sizes ks name line =
     on (behind_labelled (codes "    relation ") name (codes ":") line) (relation_end sizes ks)

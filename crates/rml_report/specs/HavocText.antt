@@ -28,6 +28,7 @@ abbrev pub havocs_text : Tables → List PrimitiveTree → List Havoc → List �
 havocs_text s [] hs = []
 havocs_text s (q ∷ qs) hs = havoc_text s q hs ++ havocs_text s qs (havocs_after q hs)
 
+-- what stands for all steps of a path, if there is one
 abbrev pub taken_text : Tables → Option (List PrimitiveTree) → List Havoc → List ℕ
 taken_text s None hs = []
 taken_text s (Some path) hs = havocs_text s path hs

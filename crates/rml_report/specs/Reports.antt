@@ -54,6 +54,7 @@ IsAnswer m group answer.Holds = Holds m group
 IsAnswer m group (answer.Fails paths least shown) = IsShown m group shown × (paths ≡ length (stage_paths m group.stage))
 IsAnswer m group (answer.Undecided path cause) = IsLeftOpen m group path
 
+-- what is answered of the group is so
 abbrev pub IsRight : ModelTree → Group → Type 0
 IsRight m g = IsAnswer m (head_of g) g.answer
 

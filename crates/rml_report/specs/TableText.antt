@@ -54,6 +54,7 @@ abbrev pub value_text : Tables → Symbol → List ℕ
 value_text s (symbol.Relation r) = truth_text (rel_at s r.0 [])
 value_text s (symbol.Function f) = decimal (fun_at s f.0 [])
 
+-- the table of a symbol with arguments of these sorts: its one value behind a blank, or its cells tuple by tuple
 abbrev pub values_text : Tables → Symbol → List ℕ → List ℕ
 values_text s q [] = codes " " ++ value_text s q
 values_text s q (k ∷ ks) = each_tuple s.sizes (cell_text s q) (k ∷ ks) []
@@ -65,6 +66,7 @@ symbol_label names (symbol.Function f) [] = labelled (codes "    variable ") (na
 symbol_label names (symbol.Function f) (k ∷ ks) =
     labelled (codes "    function ") (name_at names.functions f.0) (codes ":")
 
+-- the line of one symbol: its label, and its table in the structure
 unfoldable pub symbol_line : Names → Tables → Symbol → List ℕ
 symbol_line names s q = symbol_label names q (arguments_of s q) ++ values_text s q (arguments_of s q) ++ codes "\n"
 
@@ -79,6 +81,7 @@ unfoldable pub tables_text : Names → Tables → List ℕ
 tables_text names s =
     join_below (length s.relations) (relation_line names s) ++ join_below (length s.functions) (function_line names s)
 
+-- `sort NAME N`: the sort of this number with its size
 unfoldable pub sort_line : Names → ℕ → ℕ → List ℕ
 sort_line names k size = labelled (codes "    sort ") (name_at names.sorts k) (codes " ") ++ decimal size ++ codes "\n"
 

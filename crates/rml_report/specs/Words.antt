@@ -16,6 +16,7 @@ unfoldable pub truth_text : Bool → List ℕ
 truth_text true = codes "true"
 truth_text false = codes "false"
 
+-- the word of a cause and, but for that of formulas, its number
 abbrev pub cause_text : Cause → List ℕ
 cause_text cause.Formula = codes "formula"
 cause_text (cause.Terms n) = codes "terms " ++ decimal n
@@ -27,5 +28,6 @@ unfoldable pub numbers_text : List ℕ → List ℕ
 numbers_text [] = []
 numbers_text (n ∷ ns) = codes " " ++ decimal n ++ numbers_text ns
 
+-- a line with the numbers behind a word
 unfoldable pub numbers_line : List ℕ → List ℕ → List ℕ
 numbers_line word numbers = word ++ numbers_text numbers ++ codes "\n"
