@@ -64,6 +64,7 @@ IsLogEmitted limits m goal Fails = FailsWithin limits m goal
 IsLogEmitted limits m goal (Undecided c) = IsLeftOpen limits m goal c
 IsLogEmitted limits m goal _ = ⊥
 
+-- what is answered of the goal, where its clauses or a log is asked for
 abbrev pub IsGoalEmitted : Ceilings → ModelTree → What → Goal → Emitted → Type 0
 IsGoalEmitted limits m what.Cnf goal e = AreClausesEmitted limits m goal e
 IsGoalEmitted limits m what.Lrat goal e = IsLogEmitted limits m goal e
@@ -84,6 +85,7 @@ pub record IsEmitted (emission : Emission) (text : List ℕ) (e : Emitted) : Typ
   pub is_model : IsTheModel text model
   pub answer : IsEmittedOf (ceilings_of emission.limits) model emission.what (numbered (goals_of model) emission.goal) e
 
+-- the answer for the text's one model, or the text's one fault
 abbrev pub IsEmitAnswer : Emission → List ℕ → EmitAnswer → Type 0
 IsEmitAnswer emission text (answer.Emitted e) = IsEmitted emission text e
 IsEmitAnswer emission text (answer.Fault fault) = IsTheFault text fault
@@ -100,6 +102,7 @@ undecided_text number cause = codes "goal " ++ decimal number ++ codes " undecid
 unfoldable pub no_goal_text : ℕ → List ℕ
 no_goal_text goals = codes "there are " ++ decimal goals ++ codes " goals\n"
 
+-- the text of the clauses or of the log; else what is said of the goal in their place
 abbrev pub emitted_due : ℕ → Emitted → Due
 emitted_due number (Clauses f) = on_out (formulas.text_of f) 0
 emitted_due number (Refutation f lines) = on_out (logs.text_of lines) 0

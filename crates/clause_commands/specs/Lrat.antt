@@ -26,10 +26,12 @@ abbrev pub answer_to_lines : List Line → Option Refusal → LratAnswer
 answer_to_lines lines (Some refusal) = answer.Refused refusal
 answer_to_lines lines None = if adds_empty lines then answer.Refuted else answer.NotRefuted
 
+-- the fault of the log's text, or what its lines show of the formula
 abbrev pub answer_to_log : Formula → Result (List Line) LogFault → LratAnswer
 answer_to_log f (Err fault) = answer.LogFault fault
 answer_to_log f (Ok lines) = answer_to_lines lines (first_refusal (held_of f) lines)
 
+-- the fault of the formula's text, or what this text of a log shows of the formula
 abbrev pub answer_to_formula : Result Formula CnfFault → List ℕ → LratAnswer
 answer_to_formula (Err fault) text = answer.CnfFault fault
 answer_to_formula (Ok f) text = answer_to_log f (logs.read_of f.variables (length f.clauses) text)
@@ -50,6 +52,7 @@ pub record IsRefutation (formula log : List ℕ) (a : LratAnswer) : Type 0 where
   pub unsatisfiable : a ≡ answer.Refuted → (f : Formula) → read_of formula ≡ Ok f → IsUnsatisfiable f
   pub places : IsPlaced formula log a
 
+-- the verdict; or the line of the fault, or of the refusal
 abbrev pub lrat_due : List ℕ → List ℕ → LratAnswer → Due
 lrat_due formula log answer.Refuted = on_out (codes "verdict: refuted\n") 0
 lrat_due formula log answer.NotRefuted = on_out (codes "verdict: not refuted\n") 1

@@ -12,18 +12,21 @@ use Rattle.command_parts.specs.Saying.{on_err}
 use Rattle.command_parts.specs.declared.fault_text.ReportCode.{ReportCode}
 use Rattle.command_parts.specs.declared.fault_text.ReportCode.TheVariants.{Model, Formula, Log, Refusal}
 
+-- the letter of the file in which the fault is, a model, a formula or a log; or that of a refused line of a log
 abbrev pub letter_of : ReportCode → List ℕ
 letter_of (Model code) = codes "F"
 letter_of (Formula code) = codes "N"
 letter_of (Log code) = codes "L"
 letter_of (Refusal code) = codes "C"
 
+-- the number behind the letter
 abbrev pub number_of : ReportCode → ℕ
 number_of (Model code) = model.number_of code
 number_of (Formula code) = formula.number_of code
 number_of (Log code) = log.number_of code
 number_of (Refusal code) = refusal.number_of code
 
+-- the words behind the place
 abbrev pub text_of : ReportCode → List ℕ
 text_of (Model code) = model.text_of code
 text_of (Formula code) = formula.text_of code

@@ -34,6 +34,7 @@ Hands wrote.Failed old new before now text = (before ≤ now) × TakesFront old 
 abbrev pub Rests : Option (List ℕ) → Option (List ℕ) → ℕ → ℕ → Type 0
 Rests old new before now = (now ≡ before) × (new ≡ old)
 
+-- the status that is due, or 5 where the sink failed
 abbrev pub status_of : Written → ℕ → ℕ
 status_of wrote.All status = status
 status_of wrote.Failed status = 5
@@ -47,6 +48,7 @@ IsWrittenTo side.Out text written out_old out_new err_old err_new out_before out
 IsWrittenTo side.Err text written out_old out_new err_old err_new out_before out_now err_before err_now =
     Hands written err_old err_new err_before err_now text × Rests out_old out_new out_before out_now
 
+-- What is due was written so, and this is the status.
 pub record IsWritten (due : Due) (written : Written) (status : ℕ) (out_old out_new err_old err_new : Option (List ℕ))
     (out_before out_now err_before err_now : ℕ) : Type 0 where
   pub text : IsWrittenTo due.side due.text written out_old out_new err_old err_new out_before out_now err_before err_now

@@ -102,6 +102,7 @@ abbrev pub sample_size : Option Line → ℕ
 sample_size (Some (sample n)) = n
 sample_size _ = 0
 
+-- what is due for an answer to this line, where these are the texts of its files
 abbrev pub answer_due : Option Line → List ℕ → List ℕ → Answer → Due
 answer_due line first second answer.Usage = usage_due
 answer_due line first second (answer.Check a) = check_due first a

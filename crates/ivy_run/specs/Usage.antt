@@ -3,6 +3,7 @@ use Rattle.std.specs.Prelude.{◌++◌, codes}
 use Rattle.commands.specs.Due.{Due}
 use Rattle.command_parts.specs.Saying.{on_err}
 
+-- the usage of each command, on the error output, with status 2
 abbrev pub usage_due : Due
 usage_due =
     on_err

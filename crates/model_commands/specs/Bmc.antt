@@ -33,6 +33,7 @@ bounded_status verdict.Safe = 0
 bounded_status verdict.NotSafe = 1
 bounded_status verdict.Undecided = 3
 
+-- the text of the lengths, with the status of their verdict; or the line of the fault
 abbrev pub bmc_due : List ℕ → BmcAnswer → Due
 bmc_due text (Answered model bounded) =
     on_out (bounded_text model bounded) (bounded_status (verdict_of bounded.lengths))

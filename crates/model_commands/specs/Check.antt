@@ -27,6 +27,7 @@ pub record IsCheckedBy (counted : Counted) (limits : Ceilings) (model : ModelTre
   pub safe : report.verdict ≡ verdict.Inductive → Safe model
   pub now : IsReportBy counted limits model report
 
+-- the report on the text's one model, where the limits are on these counts; or the text's one fault
 abbrev pub IsCheckAnswerBy : Counted → Ceilings → List ℕ → CheckAnswer → Type 0
 IsCheckAnswerBy counted limits text (Checked model report) =
     IsTheModel text model × IsCheckedBy counted limits model report
@@ -36,14 +37,17 @@ IsCheckAnswerBy counted limits text (Fault fault) = IsTheFault text fault
 abbrev pub IsCheckedModel : Ceilings → ModelTree → Report → Type 0
 IsCheckedModel limits model report = IsCheckedBy Whole limits model report
 
+-- the answer by the counts of whole sentences
 abbrev pub IsCheckAnswer : Ceilings → List ℕ → CheckAnswer → Type 0
 IsCheckAnswer limits text answer = IsCheckAnswerBy Whole limits text answer
 
+-- 0 where the model is inductive, 1 where it is not, else 3
 abbrev pub verdict_status : Verdict → ℕ
 verdict_status verdict.Inductive = 0
 verdict_status verdict.NotInductive = 1
 verdict_status verdict.Undecided = 3
 
+-- the text of the report, with the status of its verdict; or the line of the fault
 abbrev pub check_due : List ℕ → CheckAnswer → Due
 check_due text (Checked model report) = on_out (report_text model report) (verdict_status report.verdict)
 check_due text (Fault fault) = model_fault_due text fault

@@ -32,6 +32,7 @@ houdini_status dropped (Some first) = 3
 houdini_status [] None = 0
 houdini_status (d ∷ ds) None = 1
 
+-- the text of what was found, with its status; or the line of the fault
 abbrev pub houdini_due : List ℕ → HoudiniAnswer → Due
 houdini_due text (Found model houdini) =
     on_out (houdini_text model houdini) (houdini_status houdini.dropped houdini.unsettled)

@@ -23,6 +23,7 @@ pub record IsSampled (n : ℕ) (sampled : Sampled) : Type 0 where
   pub bytes : sampled.bytes ≡ length (sample_text n)
   pub goals : sampled.goals ≡ min (length (goals_of model)) (2 ^ 64 - 1)
 
+-- the sample was checked; or its text has this fault
 abbrev pub IsSampleAnswer : ℕ → SampleAnswer → Type 0
 IsSampleAnswer n (answer.Sampled sampled) = IsSampled n sampled
 IsSampleAnswer n (answer.Fault fault) = IsTheFault (sample_text n) fault
@@ -31,11 +32,13 @@ IsSampleAnswer n (answer.Fault fault) = IsTheFault (sample_text n) fault
 unfoldable pub count_line : List ℕ → ℕ → List ℕ
 count_line word n = word ++ decimal n ++ codes "\n"
 
+-- the sample's size, its counts and the verdict, each on a line
 unfoldable pub sampled_text : ℕ → Sampled → List ℕ
 sampled_text n sampled = count_line (codes "sample ") n ++ count_line (codes "bytes ") sampled.bytes
     ++ count_line (codes "groups ") (length sampled.report.groups) ++ count_line (codes "goals ") sampled.goals
     ++ verdict_text sampled.report.verdict
 
+-- these lines, with the status of the verdict; or the line of the fault
 abbrev pub sample_due : ℕ → SampleAnswer → Due
 sample_due n (answer.Sampled sampled) = on_out (sampled_text n sampled) (verdict_status sampled.report.verdict)
 sample_due n (answer.Fault fault) = model_fault_due (sample_text n) fault

@@ -56,13 +56,16 @@ unfoldable pub denial_line : ℕ → ℕ → List ℕ → List ℕ
 denial_line number line text =
     codes "P" ++ decimal number ++ codes " at line " ++ decimal line ++ codes ": " ++ text ++ codes "\n"
 
+-- how many executions are confirmed, and the verdict
 unfoldable pub confirmed_text : ℕ → List ℕ
 confirmed_text n = codes "executions " ++ decimal n ++ codes "\nverdict: confirmed\n"
 
+-- the confirmation with status 0, or the denied line with status 1
 abbrev pub judged_due : Judged → Due
 judged_due (Confirmed n) = on_out (confirmed_text n) 0
 judged_due (Denied line code) = on_out (denial_line (denial.number_of code) line (denial.text_of code)) 1
 
+-- the judgement; or the line of the model's fault, or of the first unexpected line
 abbrev pub replay_due : List ℕ → ReplayAnswer → Due
 replay_due text (Fault fault) = model_fault_due text fault
 replay_due text (Unread unread) = on_err (denial_line 1 unread.line (codes "unexpected line")) 4

@@ -7,9 +7,11 @@ use Rattle.rml_sample.specs.declared.pushing.Piece.TheVariants.{Relation, Start,
 unfoldable pub numbered : List ℕ → ℕ → List ℕ → List ℕ
 numbered before n behind = before ++ decimal n ++ behind
 
+-- the declaration of the relation of this number, over the one sort
 abbrev pub relation_text : ℕ → List ℕ
 relation_text i = numbered (codes "relation r") i (codes "(node)\n")
 
+-- the step of init, behind others, in which the relation of this number becomes empty
 abbrev pub start_text : ℕ → List ℕ
 start_text i = numbered (codes "; r") i (codes "(x) := false")
 

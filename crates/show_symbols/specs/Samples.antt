@@ -34,5 +34,6 @@ alone =
     disjunction (form_then (negation (rel 0 (term_then (bound 1) no_terms)))
     (form_then (equal (bound 1) (bound 0)) no_forms))
 
+-- where the relation holds of some element, there is no other element
 abbrev pub all_alone : FormTree
 all_alone = for_all 0 (for_all 0 alone)
