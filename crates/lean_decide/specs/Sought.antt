@@ -30,7 +30,7 @@ IsCounted m goal None = goal_passes_limit m goal ≡ true
 IsCounted m goal (Some p) =
     (p.0 ≡ answered m goal) × (p.1 ≡ goal_precondition m goal) × (goal_passes_limit m goal ≡ false)
 
--- both, as they are built once for all bounds
+-- both, as they are built once, whatever the further sentences are
 pub record IsPrepared (m : ModelTree) (goal : Goal) (prepared : Prepared) : Type 0 where
   pub affected : IsAffected m goal prepared.affected
   pub precondition : IsCounted m goal prepared.precondition

@@ -44,7 +44,7 @@ module _ (counted : Counted) (limits : Ceilings) (m : ModelTree) (held : List �
   abbrev pub IsOpen : Goal → Cause → Type 0
   IsOpen goal c = IsLeftOpen counted limits m held goal c
 
-  -- the goal does not fail
+  -- the goal does not fail: it is safe, or left open for some cause
   abbrev pub IsSafeOrOpen : Goal → Type 0
   IsSafeOrOpen goal = IsSafe goal ⊎ ((c : Cause) × IsOpen goal c)
 
