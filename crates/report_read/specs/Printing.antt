@@ -46,7 +46,7 @@ abbrev pub in_order_along : Tables → Option (List PrimitiveTree) → List Havo
 in_order_along s None hs = []
 in_order_along s (Some path) hs = in_order s path hs
 
--- what is shown, as it is printed: with the same entries, each table's tuples in order
+-- what is shown, as it is printed: with the entries that its path finds, each table's tuples in order
 abbrev pub printed_shown : ModelTree → Counterexample → Counterexample
 printed_shown m shown = record {
   structure = shown.structure;

@@ -2,8 +2,8 @@
 ghost use Rattle.report_read.specs.Laws.{PrintedIsOne, ReadingIsExact};
 ghost use Rattle.report_read.specs.Printing.{ReportsArePrinted, PrintedIsShown};
 
-/// A text is at most one printed report. The text of a right report is one, and says what is printed of it, which is
-/// as right.
+/// A text is at most one printed report. The text of a right report is one, and says what is printed of it; and what is
+/// printed of a counterexample is one, whose path ends as before.
 pub fn print_laws()
     ensures one { PrintedIsOne }
     ensures rendered { ReportsArePrinted }

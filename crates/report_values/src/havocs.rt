@@ -9,8 +9,7 @@ ghost use Rattle.rml_command.specs.Trees.{havoc as havoc_tree, havoc_rel as havo
 ghost use Rattle.rml_exec.specs.Steps.{CanUpdate};
 ghost use Rattle.report_values.specs.ValueReading.{all_tuples};
 ghost use Rattle.report_values.specs.HavocReading.{truth_at, member_in, members_at, set_at, table_at, entry_at};
-ghost use Rattle.report_values.specs.HavocReading.{entries_end};
-ghost use Rattle.report_values.specs.HavocReading.{entries_in};
+ghost use Rattle.report_values.specs.HavocReading.{entries_in, entries_end};
 
 use crate::cells::{behind_bare, tuples};
 use crate::elements::element_at;

@@ -1,6 +1,6 @@
 // What a havoc gives to its symbol, where a path is followed.
 ghost use Rattle.std.specs.Prelude.{◌≡◌, IfOk};
-ghost use Rattle.rml_command.specs.Elements.{elements_of, havocs_of};
+ghost use Rattle.rml_command.specs.Elements.{havocs_of};
 
 use base::{Mem, Row};
 use fol_sig::Tuple;
@@ -49,23 +49,6 @@ pub fn copy_havocs(alloc: Global, havocs: &[Havoc]) -> Mem<Row<Havoc>>
         copied.push(havoc.copy(alloc)?)?;
     }
     Ok(copied)
-}
-
-/// The elements among a trace's entries, in order. These are all of them where no relation is havocked.
-/// Err: out of memory.
-#[tactic(auto, using(std::proofs::Common::append_assoc))]
-pub fn elements_of(alloc: Global, havocs: &[Havoc]) -> Mem<Row<u32>>
-    ensures { IfOk result (λ elements. elements ≡ elements_of havocs.now) }
-{
-    let mut elements = Row::new(alloc);
-    let mut rest = havocs;
-    while let [havoc, after @ ..] = rest {
-        if let Havoc::Element(element) = havoc {
-            elements.push(*element)?;
-        }
-        rest = after;
-    }
-    Ok(elements)
 }
 
 /// The entries of a trace that takes these elements. Err: out of memory.

@@ -23,7 +23,7 @@ pub use checked::Checked;
 pub use command::{Command, Primitive};
 pub use goal::{About, Goal, Head, Stage};
 pub use groups::{heads, is_for};
-pub use havoc::{Havoc, copy_havocs, elements_of, havocs_of};
+pub use havoc::{Havoc, copy_havocs, havocs_of};
 pub use laws::{
     block_law, fresh_law, goal_law, list_law, path_law, run_law, update_law, value_law,
 };

@@ -46,8 +46,8 @@ AssumedPasses limits m goal a p =
     Passes limits (lean_signature (answered m goal) (assumed_sentence m a goal))
     (lean_sentence (answered m goal) (assumed_sentence m a goal)) p
 
--- What a try with this assumed ends with: the goal holds; or this structure satisfies what is assumed, but for the
--- axioms, which are not; or this is a counterexample where these conjectures hold; or a limit is passed.
+-- What a try with this assumed ends with: the goal holds; or this is a structure of the model, and the axioms are not
+-- assumed; or this is a counterexample where these conjectures hold; or a limit is passed.
 abbrev pub IsTried : Ceilings → ModelTree → Goal → Assumed → Tried → Type 0
 IsTried limits m goal a tried.Holds =
     AssumedPasses limits m goal a None × HasNoneBy m (conjectures_of m a.held.items) goal

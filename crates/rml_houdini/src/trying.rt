@@ -25,13 +25,13 @@ use std::alloc::{AllocError, Global};
 pub enum Tried {
     /// The goal has no counterexample where this is assumed.
     Holds,
-    /// This structure satisfies what is assumed, but for the axioms, which are not.
+    /// A structure of the model; the axioms are not assumed, so it need not be one of those that are allowed.
     Met(Structure),
     /// The goal has this counterexample where this is assumed.
     Breaks(Counterexample),
     /// This limit is passed.
     Over(Passed),
-    /// The sentence has more than 2,147,483,648 constants.
+    /// The functions and constants of the sentence are 2,147,483,648 or more.
     ManyConstants,
 }
 

@@ -17,8 +17,9 @@ use Rattle.rml_wp.specs.declared.premises.Premises.{Premises}
 use Rattle.rml_wp.specs.Preconditions.{answered, refuting_by}
 use Rattle.rml_wp.specs.Laws.{IsCounterexampleBy}
 
--- The answered signature has the model's symbols and the same orders of sorts. The model's sentences are sentences over
--- it, and true in a structure exactly where they are in the structure that is cut to the model's signature.
+-- The answered signature has the model's symbols, and each order of the model's sorts is one of its own. The model's
+-- sentences are sentences over it, and true in a structure exactly where they are in the structure that is cut to the
+-- model's signature.
 pub record IsAnswered (m : ModelTree) (goal : Goal) : Type 0 where
   pub grows : Grows (symbols m.signature) (symbols (answered m goal))
   pub sorted : AreSorted (symbols m.signature) → AreSorted (symbols (answered m goal))

@@ -137,6 +137,7 @@ pub fn refuting_with(
     Ok((answered, sentence))
 }
 
+// The relation that the primitive havocs, if it havocs one, behind those before.
 fn push_havocked(havocked: &mut Vec<RelId>, primitive: &Primitive) -> Mem<()>
     ensures { OnOk result (map (λ r. r.0) havocked.new.items
         ≡ map (λ r. r.0) havocked.old.items ++ havoc_of (primitive_view primitive.now)) }
@@ -157,7 +158,7 @@ fn answered_signature(alloc: Global, model: &Model, path: &Path) -> Mem<Signatur
         push_havocked(&mut havocked, primitive)?;
     }
     let signature = model.signature();
-    // A path that havocs so many relations cannot be had.
+    // So many primitives have no room in memory.
     if havocked.len() >= (u32::MAX - signature.relation_count()) as usize {
         return Err(AllocError);
     }

@@ -22,7 +22,7 @@ use fol_sig::{RelId, Signature, Structure, Symbol};
 use rml_command::{About, Checked, Goal, Havoc, Model, Path, Primitive};
 use std::alloc::Global;
 
-/// The elements of a counterexample: one for each variable that the path havocs, and one for each leading
+/// The elements of a counterexample: one for each havoc of a variable on the path, and one for each leading
 /// quantifier of the conjecture.
 #[derive(Drop)]
 pub struct Witness {
