@@ -15,10 +15,12 @@ pub record Agree (sig : Symbols) (sizes : List ℕ) (a b : Reading) : Type 0 whe
   pub within : (f : ℕ) (xs : List ℕ) → f < sig.functions → InRange sizes (sig.from_of f) xs
       → a.fun f xs < slice_index sizes (sig.into_of f)
 
+-- a formula that fits has the same truth in both
 abbrev pub TruthAgrees : Type 0
 TruthAgrees = (sig : Symbols) (sizes : List ℕ) (a b : Reading) (p : FormTree) (sorts env : List ℕ) → Agree sig sizes a b
     → FitsForm sig sorts p → InRange sizes sorts env → truth a p env ≡ truth b p env
 
+-- a term that fits has the same value in both
 abbrev pub ValuesAgree : Type 0
 ValuesAgree = (sig : Symbols) (sizes : List ℕ) (a b : Reading) (t : TermTree) (sorts env : List ℕ) (k : ℕ)
     → Agree sig sizes a b → FitsTerm sig sorts t k → InRange sizes sorts env → value a t env ≡ value b t env

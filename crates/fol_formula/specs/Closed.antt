@@ -10,6 +10,7 @@ use Rattle.fol_formula.specs.Fits.{FitsForm, FitsTerm, BoundForm, BoundTerm}
 abbrev pub FitsIsBound : Type 0
 FitsIsBound = (sig : Symbols) (sorts : List ℕ) (p : FormTree) → FitsForm sig sorts p → BoundForm (length sorts) p
 
+-- the same of a term
 abbrev pub FitsIsBoundTerm : Type 0
 FitsIsBoundTerm = (sig : Symbols) (sorts : List ℕ) (t : TermTree) (k : ℕ) → FitsTerm sig sorts t k
     → BoundTerm (length sorts) t
@@ -19,6 +20,7 @@ abbrev pub TruthReadsNoMore : Type 0
 TruthReadsNoMore = (s : Reading) (p : FormTree) (env more : List ℕ) → BoundForm (length env) p
     → truth s p (env ++ more) ≡ truth s p env
 
+-- the same of a term
 abbrev pub ValueReadsNoMore : Type 0
 ValueReadsNoMore = (s : Reading) (t : TermTree) (env more : List ℕ) → BoundTerm (length env) t
     → value s t (env ++ more) ≡ value s t env
@@ -28,6 +30,7 @@ abbrev pub FitsUnderMore : Type 0
 FitsUnderMore = (sig : Symbols) (p : FormTree) (sorts more : List ℕ) → FitsForm sig sorts p
     → FitsForm sig (sorts ++ more) p
 
+-- the same of a term
 abbrev pub FitsUnderMoreTerm : Type 0
 FitsUnderMoreTerm = (sig : Symbols) (t : TermTree) (sorts more : List ℕ) (k : ℕ) → FitsTerm sig sorts t k
     → FitsTerm sig (sorts ++ more) t k

@@ -5,9 +5,11 @@ use Rattle.fol_formula.specs.Syntax.{conjunction, disjunction, implication, equi
 use Rattle.fol_formula.specs.Syntax.{form_then, bound, app, ite, no_terms, term_then}
 use Rattle.fol_formula.specs.declared.classes.PrefixClasses.{PrefixClasses}
 
+-- the classes of a formula without quantifiers
 abbrev pub every_class : PrefixClasses
 every_class = record { universal = true; existential = true; exists_forall = true; forall_exists = true }
 
+-- the classes of the negation of a formula that has these
 abbrev pub opposite : PrefixClasses → PrefixClasses
 opposite c =
     record {
@@ -17,6 +19,7 @@ opposite c =
       forall_exists = c.exists_forall;
     }
 
+-- the classes that both have
 abbrev pub common : PrefixClasses → PrefixClasses → PrefixClasses
 common c d = record {
   universal = c.universal && d.universal;
@@ -44,6 +47,7 @@ under_all c =
       forall_exists = c.forall_exists;
     }
 
+-- under an existential quantifier
 abbrev pub under_some : PrefixClasses → PrefixClasses
 under_some c =
     record {
@@ -53,7 +57,7 @@ under_some c =
       forall_exists = c.existential;
     }
 
--- of the formula, and of its negation
+-- The classes of a formula, and those that all of a row have. The quantifiers inside terms don't count.
 abbrev mutual
   pub classes : FormTree → PrefixClasses
   classes top = every_class
@@ -72,6 +76,7 @@ abbrev mutual
   common_classes no_forms = every_class
   common_classes (form_then p ps) = common (classes p) (common_classes ps)
 
+-- whether no quantifier stands in it, also inside terms
 abbrev mutual
   pub is_quantifier_free : FormTree → Bool
   is_quantifier_free top = true
@@ -99,6 +104,7 @@ abbrev mutual
   are_quantifier_free_terms no_terms = true
   are_quantifier_free_terms (term_then t ts) = is_quantifier_free_term t && are_quantifier_free_terms ts
 
+-- whether no quantifier stands inside a term
 abbrev mutual
   pub has_plain_terms : FormTree → Bool
   has_plain_terms top = true
@@ -117,6 +123,7 @@ abbrev mutual
   have_plain_terms no_forms = true
   have_plain_terms (form_then p ps) = has_plain_terms p && have_plain_terms ps
 
+-- whether no `ite` stands in the term
 abbrev mutual
   pub is_ite_free : TermTree → Bool
   is_ite_free (bound i) = true
@@ -127,11 +134,13 @@ abbrev mutual
   are_ite_free no_terms = true
   are_ite_free (term_then t ts) = is_ite_free t && are_ite_free ts
 
+-- whether it is an atom without `ite`; `top` and `bottom` are no atoms
 abbrev pub is_plain_atom : FormTree → Bool
 is_plain_atom (rel r args) = are_ite_free args
 is_plain_atom (equal a b) = is_ite_free a && is_ite_free b
 is_plain_atom _ = false
 
+-- whether it is in positive normal form without `ite`
 abbrev mutual
   pub is_normal_form : FormTree → Bool
   is_normal_form top = true

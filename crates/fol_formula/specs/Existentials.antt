@@ -5,6 +5,8 @@ use Rattle.fol_formula.specs.Syntax.{implication, equivalence, for_all, for_some
 use Rattle.fol_formula.specs.Counts.{saturated}
 use Rattle.fol_formula.specs.declared.existentials.Existentials.{Existentials}
 
+-- how many existentials the normal form of the formula has, or where `positive` is false that of its negation; the
+-- quantifiers inside terms don't count
 abbrev mutual
   pub number_of : Bool → FormTree → ℕ
   number_of positive top = 0

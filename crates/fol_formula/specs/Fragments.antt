@@ -140,8 +140,10 @@ IsEa p = IsExistsForall true p × HasPlainTerms p
 abbrev pub IsAe : FormTree → Type 0
 IsAe p = IsExistsForall false p × HasPlainTerms p
 
+-- universal, with no quantifier inside a term
 abbrev pub IsPlainUniversal : FormTree → Type 0
 IsPlainUniversal p = IsUniversal true p × HasPlainTerms p
 
+-- exists-forall, and in positive normal form without `ite`
 abbrev pub IsNormal : FormTree → Type 0
 IsNormal p = IsExistsForall true p × IsNormalForm p

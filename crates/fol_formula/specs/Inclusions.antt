@@ -9,9 +9,11 @@ pub record NegationExchanges : Type 0 where
   pub of_ae : (p : FormTree) → IsAe p ↔ IsEa (negation p)
   pub of_ea : (p : FormTree) → IsEa p ↔ IsAe (negation p)
 
+-- a universal formula is exists-forall
 abbrev pub UniversalIsEa : Type 0
 UniversalIsEa = (p : FormTree) → IsPlainUniversal p → IsEa p
 
+-- an exists-forall formula in normal form has no quantifier inside a term
 abbrev pub NormalIsEa : Type 0
 NormalIsEa = (p : FormTree) → IsNormal p → IsEa p
 
@@ -21,6 +23,7 @@ pub record QuantifierFree (p : FormTree) : Type 0 where
   pub exists_forall : (positive : Bool) → IsExistsForall positive p
   pub plain : HasPlainTerms p
 
+-- so it is for each formula without quantifiers
 abbrev pub QuantifierFreeIsUniversal : Type 0
 QuantifierFreeIsUniversal = (p : FormTree) → IsQuantifierFree p → QuantifierFree p
 
@@ -28,6 +31,7 @@ QuantifierFreeIsUniversal = (p : FormTree) → IsQuantifierFree p → Quantifier
 abbrev pub UniversalIsExistsForall : Type 0
 UniversalIsExistsForall = (positive other : Bool) (p : FormTree) → IsUniversal positive p → IsExistsForall other p
 
+-- the negation of a universal formula is exists-forall
 abbrev pub UniversalIsAe : Type 0
 UniversalIsAe = (p : FormTree) → IsPlainUniversal p → IsAe p
 

@@ -15,6 +15,7 @@ pub record FormLists : Type 0 where
   pub pushed : (made : List Formula) (p : Formula) (rest : FormTrees)
       → forms_then (map form (made ++ p ∷ [])) rest ≡ forms_then (map form made) (form_then (form p) rest)
 
+-- the same of terms
 pub record TermLists : Type 0 where
   pub left : (ts : List Term) (i : ℕ) (t : Term) → i < length ts → t ≡ slice_index_or ts i t
       → terms (drop i ts) ≡ term_then (term t) (terms (drop (i + 1) ts))
@@ -32,6 +33,7 @@ FormTurns =
     → forms_then (map form made) (F (forms (drop i ps))) ≡ whole
     → forms_then (map form more) (F (forms (drop (i + 1) ps))) ≡ whole
 
+-- the same of terms
 abbrev pub TermTurns : Type 0
 TermTurns =
     (F : TermTrees → TermTrees) (G : TermTree → TermTree) (ts made more : List Term) (i : ℕ) (t new : Term)

@@ -6,9 +6,11 @@ use Rattle.fol_formula.specs.Syntax.{implication, equivalence, for_all, for_some
 use Rattle.fol_formula.specs.Truth.{truth}
 use Rattle.fol_formula.specs.Fragments.{IsUniversal, IsExistsForall, IsNormalForm}
 
+-- the And of two formulas
 abbrev pub both : FormTree → FormTree → FormTree
 both p q = conjunction (form_then p (form_then q no_forms))
 
+-- the Or of two formulas
 abbrev pub either : FormTree → FormTree → FormTree
 either p q = disjunction (form_then p (form_then q no_forms))
 
@@ -84,21 +86,23 @@ abbrev mutual
   HaveNoExistentialUnderUniversal (form_then p ps) =
       HasNoExistentialUnderUniversal p × HaveNoExistentialUnderUniversal ps
 
--- the fragments by polarity are those of the normal form
+-- by polarity a formula is universal exactly where its normal form has no existential
 abbrev pub UniversalByNormalForm : Type 0
 UniversalByNormalForm =
     (positive : Bool) (p : FormTree) → IsUniversal positive p ↔ HasNoExistential (normal_form positive p)
 
+-- and exists-forall exactly where that has no existential in the scope of a universal
 abbrev pub ExistsForallByNormalForm : Type 0
 ExistsForallByNormalForm =
     (positive : Bool) (p : FormTree) → IsExistsForall positive p
     ↔ HasNoExistentialUnderUniversal (normal_form positive p)
 
--- the normal form is true where the formula is, and that of its negation where it is not
+-- a truth value as it is, or its opposite
 abbrev pub signed : Bool → Bool → Bool
 signed true b = b
 signed false b = not b
 
+-- the normal form is true where the formula is, and that of its negation where it is not
 abbrev pub NormalFormKeepsTruth : Type 0
 NormalFormKeepsTruth = (s : Reading) (positive : Bool) (p : FormTree) (env : List ℕ)
     → truth s (normal_form positive p) env ≡ signed positive (truth s p env)

@@ -28,6 +28,7 @@ abbrev mutual
   some_sorts_of no_forms = []
   some_sorts_of (form_then p ps) = some_sorts p ++ some_sorts_of ps
 
+-- how many existentials a formula has as it is written; those of terms don't count
 abbrev pub some_count : FormTree → ℕ
 some_count p = length (some_sorts p)
 
@@ -80,12 +81,15 @@ pub record NeedsNoWitness (p : FormTree) : Type 0 where
   pub witnessed : (s : Reading) (witnesses : List ℕ) (at : ℕ) (env : List ℕ)
       → is_witnessed s witnesses at p env ≡ truth s p env
 
+-- so it is for each formula without existentials
 abbrev pub WithoutExistentials : Type 0
 WithoutExistentials = (p : FormTree) → HasNoExistential p → NeedsNoWitness p
 
+-- and for the normal form of each universal formula
 abbrev pub UniversalNeedsNoWitness : Type 0
 UniversalNeedsNoWitness =
     (positive : Bool) (p : FormTree) → IsUniversal positive p → NeedsNoWitness (normal_form positive p)
 
+-- and for each universal formula that is in normal form without `ite` already
 abbrev pub UniversalNormalNeedsNoWitness : Type 0
 UniversalNormalNeedsNoWitness = (p : FormTree) → IsUniversal true p → IsNormalForm p → NeedsNoWitness p

@@ -41,10 +41,11 @@ pub record GrowsByRelations (sig : Symbols) (rs : List (List ℕ)) (more : Symbo
 abbrev pub grown_by_relations : Declared → List (List ℕ) → Declared
 grown_by_relations sig rs = record sig { relations = sig.relations ++ rs }
 
--- the signature with functions without arguments behind its own, with values of these sorts
+-- a function without arguments, with values of this sort
 abbrev pub declared_constant : ℕ → List ℕ × Sort
 declared_constant k = ([], record { 0 = k })
 
+-- the signature with functions without arguments behind its own, with values of these sorts
 abbrev pub grown : Declared → List ℕ → Declared
 grown sig ks = record sig { functions = sig.functions ++ map declared_constant ks }
 
@@ -59,6 +60,7 @@ pub record GrowsSignature (sig : Declared) (ks : List ℕ) : Type 0 where
   pub grows : GrowsBy (symbols sig) ks (symbols (grown sig ks))
   pub signature : IsSignature sig → length sig.functions + length ks < 2 ^ 32 → IsSignature (grown sig ks)
 
+-- so it is for each signature and any of its sorts
 abbrev pub SignaturesGrow : Type 0
 SignaturesGrow = (sig : Declared) (ks : List ℕ) → AreSorts sig.sorts ks → GrowsSignature sig ks
 
@@ -67,6 +69,7 @@ pub record GrowsSignatureByRelations (sig : Declared) (rs : List (List ℕ)) : T
   pub grows : GrowsByRelations (symbols sig) rs (symbols (grown_by_relations sig rs))
   pub signature : IsSignature sig → length sig.relations + length rs < 2 ^ 32 → IsSignature (grown_by_relations sig rs)
 
+-- so it is for each signature and relations of at most 8 arguments over its sorts
 abbrev pub SignaturesGrowByRelations : Type 0
 SignaturesGrowByRelations = (sig : Declared) (rs : List (List ℕ)) → All (AreSorts sig.sorts) rs
     → All (λ ks. length ks ≤ 8) rs → GrowsSignatureByRelations sig rs
@@ -77,6 +80,7 @@ pub record KeepsSorts (sig more : Symbols) : Type 0 where
   pub strata : (order : List ℕ) → IsStrata sig order → IsStrata more order
   pub strata_before : (order : List ℕ) → IsStrata more order → IsStrata sig order
 
+-- so it is for any symbols and those that they grow to
 abbrev pub SortsAreKept : Type 0
 SortsAreKept = (sig more : Symbols) → Grows sig more → KeepsSorts sig more
 
@@ -89,6 +93,7 @@ pub record IsExtension (sig more : Symbols) (s : Tables) (ks xs : List ℕ) : Ty
   pub alike : AreReadAlike sig (reading (with_constants s ks xs)) (reading s)
   pub without : reduct sig (with_constants s ks xs) ≡ s
 
+-- a structure that fits is so extended by elements of the sorts of the constants
 abbrev pub StructuresExtend : Type 0
 StructuresExtend = (sig more : Symbols) (s : Tables) (ks xs : List ℕ)
     → GrowsBy sig ks more → FitsStructure sig s → InRange s.sizes ks xs → IsExtension sig more s ks xs
@@ -98,6 +103,7 @@ pub record IsReduct (sig : Symbols) (t : Tables) : Type 0 where
   pub fits : FitsStructure sig (reduct sig t)
   pub alike : AreReadAlike sig (reading t) (reading (reduct sig t))
 
+-- so it is for each structure that fits the grown symbols
 abbrev pub StructuresReduce : Type 0
 StructuresReduce = (sig more : Symbols) (t : Tables) → Grows sig more → FitsStructure more t → IsReduct sig t
 
@@ -121,6 +127,7 @@ pub record IsExtensionByTables (sig more : Symbols) (s : Tables) (ts : List Rela
   pub alike : AreReadAlike sig (reading (with_fresh_tables s ts)) (reading s)
   pub without : reduct sig (with_fresh_tables s ts) ≡ s
 
+-- a structure that fits is so extended by full tables over the sorts of the relations
 abbrev pub StructuresExtendByTables : Type 0
 StructuresExtendByTables = (sig more : Symbols) (s : Tables) (rs : List (List ℕ)) (ts : List RelationTable)
     → GrowsByRelations sig rs more → FitsStructure sig s → AreTablesOf s.sizes rs ts
@@ -142,5 +149,6 @@ pub record CommutesWithUpdates (sig : Symbols) (t : Tables) : Type 0 where
   pub function : (f : ℕ) (cells : List ℕ) → f < sig.functions
       → reduct sig (with_function_cells t f cells) ≡ with_function_cells (reduct sig t) f cells
 
+-- so it is for each reduct, whether or not the structure fits any symbols
 abbrev pub ReductsCommuteWithUpdates : Type 0
 ReductsCommuteWithUpdates = (sig : Symbols) (t : Tables) → CommutesWithUpdates sig t

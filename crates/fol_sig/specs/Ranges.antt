@@ -7,16 +7,20 @@ pub record IsAlong (sizes ks xs : List ℕ) : Type 0 where
   pub long : length ks ≡ length xs
   pub each : (i : ℕ) → i < length ks → slice_index xs i < slice_index sizes (slice_index ks i)
 
+-- a tuple in range of its sorts has these two properties
 abbrev pub RangesAreAlong : Type 0
 RangesAreAlong = (sizes ks xs : List ℕ) → InRange sizes ks xs → IsAlong sizes ks xs
 
+-- a tuple that has them is in range
 abbrev pub AlongIsInRange : Type 0
 AlongIsInRange = (sizes ks xs : List ℕ) → IsAlong sizes ks xs → InRange sizes ks xs
 
+-- two tuples in range of their sorts are so as one
 abbrev pub RangesAppend : Type 0
 RangesAppend = (sizes ks js xs ys : List ℕ)
     → InRange sizes ks xs → InRange sizes js ys → InRange sizes (ks ++ js) (xs ++ ys)
 
+-- a tuple in range of its sorts is so in both parts, where the first is as long as its sorts
 abbrev pub RangesSplit : Type 0
 RangesSplit = (sizes ks js xs ys : List ℕ)
     → length ks ≡ length xs → InRange sizes (ks ++ js) (xs ++ ys) → InRange sizes ks xs × InRange sizes js ys

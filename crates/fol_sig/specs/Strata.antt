@@ -2,6 +2,7 @@
 use Rattle.std.specs.Prelude.{◌≡◌, ℕ, ◌+◌, ◌<◌, Bool, true, false, ◌||◌, ◌==◌, List, [], ◌∷◌, All}
 use Rattle.fol_sig.specs.Symbols.{Symbols, AreSorted}
 
+-- whether the sort stands in the list
 abbrev pub has : List ℕ → ℕ → Bool
 has [] k = false
 has (q ∷ qs) k = q == k || has qs k
@@ -46,5 +47,6 @@ pub record IsFirstCycle (sig : Symbols) (f : ℕ) : Type 0 where
 abbrev pub OrderHasNoCycle : Type 0
 OrderHasNoCycle = (sig : Symbols) (order : List ℕ) (f : ℕ) → AreSorted sig → IsStrata sig order → IsOnCycle sig f → ⊥
 
+-- at most one function is the first that closes a cycle
 abbrev pub FirstCycleIsOne : Type 0
 FirstCycleIsOne = (sig : Symbols) (f g : ℕ) → IsFirstCycle sig f → IsFirstCycle sig g → f ≡ g

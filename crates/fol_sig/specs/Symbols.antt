@@ -13,10 +13,11 @@ pub record Symbols : Type 0 where
   pub from_of : ℕ → List ℕ
   pub into_of : ℕ → ℕ
 
--- those of a signature
+-- what is read for a function that the signature does not have: no arguments, and values of sort 0
 abbrev pub no_function : List ℕ × Sort
 no_function = ([], record { 0 = 0 })
 
+-- the symbols of a signature
 abbrev pub symbols : Declared → Symbols
 symbols sig = record {
   sorts = sig.sorts;

@@ -26,6 +26,7 @@ pub record Declared : Type 0 where
 abbrev pub is_listed : Declared → ℕ → Bool
 is_listed sig f = list_any (λ g. nat_eq g f) sig.listed
 
+-- each of these is one of n sorts
 abbrev pub AreSorts : ℕ → List ℕ → Type 0
 AreSorts n ks = All (λ k. k < n) ks
 
@@ -55,6 +56,7 @@ pub record FunctionTable : Type 0 where
   pub into : ℕ
   pub cells : List ℕ
 
+-- a finite structure: how many elements each sort has, and the table of each symbol
 pub record Tables : Type 0 where
   pub sizes : List ℕ
   pub relations : List RelationTable
@@ -84,6 +86,7 @@ place_from sizes before [] xs = before
 place_from sizes before (k ∷ ks) [] = before
 place_from sizes before (k ∷ ks) (x ∷ xs) = place_from sizes (before * slice_index sizes k + x) ks xs
 
+-- the place of a tuple in a table of these sorts, counted from 0
 unfoldable pub place_of : List ℕ → List ℕ → List ℕ → ℕ
 place_of sizes ks xs = place_from sizes 0 ks xs
 
@@ -91,18 +94,23 @@ place_of sizes ks xs = place_from sizes 0 ks xs
 abbrev pub cell_at : {A : Type 0} → List ℕ → TableOf A → List ℕ → A → A
 cell_at sizes t xs other = slice_index_or t.cells (place_of sizes t.sorts xs) other
 
+-- the table of a relation; one without cells where the structure has no such relation
 abbrev pub relation_at : Tables → ℕ → RelationTable
 relation_at s r = slice_index_or s.relations r (record { sorts = []; cells = [] })
 
+-- the table of a function; one without cells where the structure has no such function
 abbrev pub function_at : Tables → ℕ → FunctionTable
 function_at s f = slice_index_or s.functions f (record { sorts = []; into = 0; cells = [] })
 
+-- how many elements a sort has
 abbrev pub size_at : Tables → ℕ → ℕ
 size_at s k = slice_index s.sizes k
 
+-- the truth of a relation at a tuple; false where its table has no such cell
 abbrev pub rel_at : Tables → ℕ → List ℕ → Bool
 rel_at s r xs = cell_at s.sizes (relation_at s r) xs false
 
+-- the value of a function at a tuple
 abbrev pub fun_at : Tables → ℕ → List ℕ → ℕ
 fun_at s f xs = slice_index (function_at s f).cells (place_of s.sizes (function_at s f).sorts xs)
 
@@ -116,6 +124,7 @@ pub record IsFullRelation (sizes : List ℕ) (t : RelationTable) : Type 0 where
   pub short : length t.sorts ≤ 8
   pub full : length t.cells ≡ tuple_count sizes t.sorts
 
+-- the same of a function's table, and each cell is an element of the sort of its values
 pub record IsFullFunction (sizes : List ℕ) (t : FunctionTable) : Type 0 where
   pub sorted : All (λ k. k < length sizes) t.sorts
   pub short : length t.sorts ≤ 8
@@ -123,6 +132,7 @@ pub record IsFullFunction (sizes : List ℕ) (t : FunctionTable) : Type 0 where
   pub full : length t.cells ≡ tuple_count sizes t.sorts
   pub within : All (λ x. x < slice_index sizes t.into) t.cells
 
+-- each sort has an element, and each table is full
 pub record IsStructure (s : Tables) : Type 0 where
   pub positive : All (λ n. 0 < n) s.sizes
   pub relations_full : All (IsFullRelation s.sizes) s.relations
@@ -136,13 +146,15 @@ filled sizes ks v = record { sorts = ks; cells = replicate (tuple_count sizes ks
 abbrev pub with_cell : {A : Type 0} → List ℕ → TableOf A → List ℕ → A → TableOf A
 with_cell sizes t xs v = record { sorts = t.sorts; cells = slice_set t.cells (place_of sizes t.sorts xs) v }
 
--- the structure of these sizes whose relations are false and whose functions are 0 everywhere
+-- the table over these sorts that is false everywhere
 abbrev pub blank_relation : List ℕ → List ℕ → RelationTable
 blank_relation sizes ks = filled sizes ks false
 
+-- the table over these sorts that is 0 everywhere
 abbrev pub blank_function : List ℕ → List ℕ → ℕ → FunctionTable
 blank_function sizes ks into = record { sorts = ks; into = into; cells = replicate (tuple_count sizes ks) 0 }
 
+-- the structure of these sizes whose relations are false and whose functions are 0 everywhere
 abbrev pub blank : Declared → List ℕ → Tables
 blank sig sizes = record {
   sizes = sizes;

@@ -5,7 +5,7 @@ use Rattle.fol_sig.specs.Tables.{Tables, InRange, tuple_count, place_of, relatio
 use Rattle.fol_sig.specs.Tables.{fun_at}
 use Rattle.fol_sig.specs.Tuples.{join_below}
 
--- one cell is set, and no other
+-- one cell of a relation is set, and no other
 pub record SetsRelation (old new : Tables) (r : ℕ) (xs : List ℕ) (v : Bool) : Type 0 where
   pub sizes : new.sizes ≡ old.sizes
   pub functions : new.functions ≡ old.functions
@@ -15,6 +15,7 @@ pub record SetsRelation (old new : Tables) (r : ℕ) (xs : List ℕ) (v : Bool) 
   pub others : (q : ℕ) (ys : List ℕ) → InRange old.sizes (relation_at old q).sorts ys → (q ≡ r → ys ≡ xs → ⊥)
       → rel_at new q ys ≡ rel_at old q ys
 
+-- one cell of a function is set, and no other
 pub record SetsFunction (old new : Tables) (g : ℕ) (xs : List ℕ) (v : ℕ) : Type 0 where
   pub sizes : new.sizes ≡ old.sizes
   pub relations : new.relations ≡ old.relations
@@ -39,6 +40,7 @@ with_relation_cells s r cells = record {
   functions = s.functions;
 }
 
+-- the structure with these cells in the table of g
 abbrev pub with_function_cells : Tables → ℕ → List ℕ → Tables
 with_function_cells s g cells = record {
   sizes = s.sizes;
@@ -48,11 +50,12 @@ with_function_cells s g cells = record {
       (record { sorts = (function_at s g).sorts; into = (function_at s g).into; cells = cells });
 }
 
--- the structure with this value of r, or of g, at one tuple
+-- the structure with this value of r at one tuple
 abbrev pub with_rel_at : Tables → ℕ → List ℕ → Bool → Tables
 with_rel_at s r xs v =
     with_relation_cells s r (slice_set (relation_at s r).cells (place_of s.sizes (relation_at s r).sorts xs) v)
 
+-- the structure with this value of g at one tuple
 abbrev pub with_fun_at : Tables → ℕ → List ℕ → ℕ → Tables
 with_fun_at s g xs v =
     with_function_cells s g (slice_set (function_at s g).cells (place_of s.sizes (function_at s g).sorts xs) v)
@@ -81,6 +84,7 @@ pub record UpdatesRelation (s : Tables) (r : ℕ) (f : List ℕ → Bool) : Type
   pub full : length (cells_from s.sizes f (relation_at s r).sorts []) ≡ tuple_count s.sizes (relation_at s r).sorts
   pub fits : (sig : Symbols) → r < sig.relations → FitsStructure sig s → FitsStructure sig (with_relation s r f)
 
+-- The same of a function. The result is a structure where f gives elements of the function's sort.
 pub record UpdatesFunction (s : Tables) (g : ℕ) (f : List ℕ → ℕ) : Type 0 where
   pub sizes : (with_function s g f).sizes ≡ s.sizes
   pub here : (xs : List ℕ) → g < length s.functions → InRange s.sizes (function_at s g).sorts xs
