@@ -7,6 +7,7 @@ use Rattle.fol_formula.specs.Syntax.{form_then, bound, app, ite, no_terms, term_
 use Rattle.fol_subst.specs.Replace.{Change, change_rel, change_fun, change_const}
 use Rattle.fol_subst.specs.declared.extent.Extent.{Extent}
 
+-- a count that stops at 1000001
 abbrev pub capped : ℕ → ℕ
 capped n = min n 1000001
 
@@ -14,12 +15,15 @@ capped n = min n 1000001
 abbrev pub extent : ℕ → ℕ → Extent
 extent count depth = record { count = capped count; depth = capped depth }
 
+-- of no node
 abbrev pub none : Extent
 none = record { count = 0; depth = 0 }
 
+-- of one node without any below it
 abbrev pub one : Extent
 one = record { count = 1; depth = 1 }
 
+-- of two parts side by side: the counts together, and the greater depth
 abbrev pub beside : Extent → Extent → Extent
 beside a b = record { count = capped (a.count + b.count); depth = max a.depth b.depth }
 
@@ -66,22 +70,25 @@ abbrev mutual
   places_terms i no_terms = none
   places_terms i (term_then t ts) = beside (places_term i t) (places_terms i ts)
 
--- what replaces the symbol: its extent, and the places of its parameter i
+-- the extent of what replaces the symbol; that of an index is one node
 abbrev pub extent_of : Change → Extent
 extent_of (change_rel r by) = extent (form_nodes by) (form_depth by)
 extent_of (change_fun g by) = extent (term_nodes by) (term_depth by)
 extent_of (change_const g index) = one
 
+-- the places of parameter i in what replaces the symbol; an index has no parameters
 abbrev pub places_of : Change → ℕ → Extent
 places_of (change_rel r by) i = places_form i by
 places_of (change_fun g by) i = places_term i by
 places_of (change_const g index) i = none
 
+-- whether this relation is replaced
 abbrev pub changes_rel : Change → ℕ → Bool
 changes_rel (change_rel r by) q = q == r
 changes_rel (change_fun g by) q = false
 changes_rel (change_const g index) q = false
 
+-- whether this function or variable is replaced
 abbrev pub changes_fun : Change → ℕ → Bool
 changes_fun (change_rel r by) f = false
 changes_fun (change_fun g by) f = f == g
@@ -123,5 +130,6 @@ abbrev mutual
   extent_instance c whole (term_then t ts) =
       extent_instance c (put_in whole (places_of c (size_of ts)) (extent_term c t)) ts
 
+-- above the limits: more than 1000000 nodes, or deeper than 1000
 abbrev pub is_over : Extent → Bool
 is_over a = nat_lt 1000000 a.count || nat_lt 1000 a.depth

@@ -8,6 +8,7 @@ use Rattle.fol_subst.specs.Extents.{places_of}
 abbrev pub kept_one : Change → ℕ → TermTree → TermTree
 kept_one c i t = if (places_of c i).depth == 0 then bound 0 else t
 
+-- each argument whose parameter stands in what replaces the symbol, and index 0 in the place of any other
 abbrev pub kept : Change → TermTrees → TermTrees
 kept c no_terms = no_terms
 kept c (term_then t ts) = term_then (kept_one c (size_of ts) t) (kept c ts)

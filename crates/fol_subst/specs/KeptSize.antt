@@ -12,6 +12,7 @@ pub record SameSize (within new : FormTree) : Type 0 where
   pub nodes : form_nodes new ≡ form_nodes within
   pub depth : form_depth new ≡ form_depth within
 
+-- raising indices changes no size
 abbrev pub ShiftKeepsSize : Type 0
 ShiftKeepsSize = (within : FormTree) (from by : ℕ) → SameSize within (shift_form from by within)
 

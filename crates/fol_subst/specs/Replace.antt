@@ -16,6 +16,7 @@ picked depth args i =
     if nat_lt i depth then bound i
     else shift_term 0 depth (slice_index_or args (i - depth) (bound (i - depth - length args)))
 
+-- the rules by which arguments stand in the place of indices; symbols stay
 abbrev pub putting : List TermTree → Rules
 putting args = of_indices (λ depth i. picked depth args i)
 
@@ -23,12 +24,15 @@ putting args = of_indices (λ depth i. picked depth args i)
 abbrev pub put_form : ℕ → List TermTree → FormTree → FormTree
 put_form depth args p = form_by (putting args) depth p
 
+-- the same in a row of formulas
 abbrev pub put_forms : ℕ → List TermTree → FormTrees → FormTrees
 put_forms depth args ps = forms_by (putting args) depth ps
 
+-- the same in a term
 abbrev pub put_term : ℕ → List TermTree → TermTree → TermTree
 put_term depth args t = term_by (putting args) depth t
 
+-- the same in a row of terms
 abbrev pub put_terms : ℕ → List TermTree → TermTrees → TermTrees
 put_terms depth args ts = terms_by (putting args) depth ts
 
@@ -39,17 +43,19 @@ pub data Change : Type 0 where
   change_fun : ℕ → TermTree → Change
   change_const : ℕ → ℕ → Change
 
--- a relation or a function before these arguments
+-- a relation before these arguments: what replaces it with them put in, or the atom as it is
 abbrev pub rel_instance : Change → ℕ → TermTrees → FormTree
 rel_instance (change_rel r by) q args = if q == r then put_form 0 (reverse (list_of args)) by else rel q args
 rel_instance (change_fun g by) q args = rel q args
 rel_instance (change_const g index) q args = rel q args
 
+-- a function before these arguments, under `depth` binders: what replaces it with them put in, or the term as it is
 abbrev pub app_instance : Change → ℕ → ℕ → TermTrees → TermTree
 app_instance (change_rel r by) depth f args = app f args
 app_instance (change_fun g by) depth f args = if f == g then put_term 0 (reverse (list_of args)) by else app f args
 app_instance (change_const g index) depth f args = if f == g then bound (depth + index) else app f args
 
+-- the rules of a change: indices stay
 abbrev pub changing : Change → Rules
 changing c = record {
   index = λ depth i. bound i;
@@ -57,22 +63,27 @@ changing c = record {
   function = λ depth f args. app_instance c depth f args;
 }
 
+-- the formula, which stands under `depth` binders, with the symbol replaced
 abbrev pub changed_form : Change → ℕ → FormTree → FormTree
 changed_form c depth p = form_by (changing c) depth p
 
+-- the same of a row of formulas
 abbrev pub changed_forms : Change → ℕ → FormTrees → FormTrees
 changed_forms c depth ps = forms_by (changing c) depth ps
 
+-- the same of a term
 abbrev pub changed_term : Change → ℕ → TermTree → TermTree
 changed_term c depth t = term_by (changing c) depth t
 
+-- the same of a row of terms
 abbrev pub changed_terms : Change → ℕ → TermTrees → TermTrees
 changed_terms c depth ts = terms_by (changing c) depth ts
 
--- the structure with another table
+-- the structure with another table of r
 abbrev pub with_rel : Reading → ℕ → (List ℕ → Bool) → Reading
 with_rel s r table = record { size = s.size; rel = λ q xs. if q == r then table xs else s.rel q xs; fun = s.fun }
 
+-- the structure with another table of g
 abbrev pub with_fun : Reading → ℕ → (List ℕ → ℕ) → Reading
 with_fun s g table = record { size = s.size; rel = s.rel; fun = λ f xs. if f == g then table xs else s.fun f xs }
 

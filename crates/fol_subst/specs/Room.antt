@@ -36,12 +36,13 @@ abbrev mutual
   RoomTerms depth no_terms = Unit {0}
   RoomTerms depth (term_then t ts) = RoomTerm depth t × RoomTerms depth ts
 
--- what replaces the symbol has so many parameters
+-- what replaces the relation has no more parameters than there are arguments
 abbrev pub RelTakes : Change → ℕ → ℕ → Type 0
 RelTakes (change_rel r by) q count = q ≡ r → BoundForm count by
 RelTakes (change_fun g by) q count = Unit {0}
 RelTakes (change_const g index) q count = Unit {0}
 
+-- the same of a function; a variable that is replaced has no arguments
 abbrev pub AppTakes : Change → ℕ → ℕ → Type 0
 AppTakes (change_rel r by) f count = Unit {0}
 AppTakes (change_fun g by) f count = f ≡ g → BoundTerm count by
@@ -51,17 +52,22 @@ AppTakes (change_const g index) f count = f ≡ g → count ≡ 0
 abbrev pub RelReady : Change → ℕ → ℕ → Type 0
 RelReady c q count = (count ≤ 8) × RelTakes c q count
 
+-- the same of a function
 abbrev pub AppReady : Change → ℕ → ℕ → Type 0
 AppReady c f count = (count ≤ 8) × AppTakes c f count
 
+-- each symbol of the formula stands before at most 8 arguments, and the one that is replaced before enough
 abbrev pub ReadyForm : Change → FormTree → Type 0
 ReadyForm c p = EachForm (RelReady c) (AppReady c) p
 
+-- the same of a row of formulas
 abbrev pub ReadyForms : Change → FormTrees → Type 0
 ReadyForms c ps = EachForms (RelReady c) (AppReady c) ps
 
+-- the same of a term
 abbrev pub ReadyTerm : Change → TermTree → Type 0
 ReadyTerm c t = EachTerm (RelReady c) (AppReady c) t
 
+-- the same of a row of terms
 abbrev pub ReadyTerms : Change → TermTrees → Type 0
 ReadyTerms c ts = EachTerms (RelReady c) (AppReady c) ts

@@ -66,10 +66,12 @@ abbrev pub InstancesFit : Type 0
 InstancesFit = (sig : Symbols) (sorts ks : List ℕ) (body : FormTree) (args : TermTrees) → FitsForm sig (reverse ks) body
     → FitsTerms sig sorts args ks → FitsForm sig sorts (instance body args)
 
+-- without quantifiers in the formula and in the arguments, the instance has none
 abbrev pub InstancesAreQuantifierFree : Type 0
 InstancesAreQuantifierFree = (body : FormTree) (args : TermTrees) → IsQuantifierFree body → AreQuantifierFreeTerms args
     → IsQuantifierFree (instance body args)
 
+-- without quantifiers inside terms and in the arguments, no quantifier stands inside a term of the instance
 abbrev pub InstancesHavePlainTerms : Type 0
 InstancesHavePlainTerms = (body : FormTree) (args : TermTrees) → HasPlainTerms body → AreQuantifierFreeTerms args
     → HasPlainTerms (instance body args)

@@ -5,6 +5,7 @@ use Rattle.fol_formula.specs.Syntax.{FormTree, TermTree, TermTrees, rel, bound, 
 use Rattle.fol_formula.specs.Fits.{FitsForm}
 use Rattle.fol_subst.specs.Replace.{Change, change_rel, change_fun, change_const, CanChange, changed_form}
 
+-- whether the term is this index
 abbrev pub is_index : ℕ → TermTree → Bool
 is_index i (bound n) = n == i
 is_index i _ = false
@@ -14,11 +15,12 @@ abbrev pub are_parameters : TermTrees → Bool
 are_parameters no_terms = true
 are_parameters (term_then t ts) = is_index (size_of ts) t && are_parameters ts
 
--- the relation or the function before its parameters
+-- the relation before its parameters
 abbrev pub is_own_rel : ℕ → FormTree → Bool
 is_own_rel r (rel q args) = q == r && are_parameters args
 is_own_rel r _ = false
 
+-- the function before its parameters
 abbrev pub is_own_fun : ℕ → TermTree → Bool
 is_own_fun g (app f args) = f == g && are_parameters args
 is_own_fun g _ = false
