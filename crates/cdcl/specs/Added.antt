@@ -6,6 +6,7 @@ use Rattle.cdcl_tables.specs.declared.watches.Pair.{Pair}
 use Rattle.cdcl_tables.specs.declared.watches.Watches.{Watches}
 use Rattle.cdcl.specs.Watch.{pair_at, list_at, IsPairOf, StandsIn, AreWatches}
 
+-- a clause with this pair stands behind the others, and in the lists of both its literals, unless these are one
 pub record IsAdded (old new : Watches) (place : ℕ) (p : Pair) : Type 0 where
   pub paired : new.pairs.items ≡ old.pairs.items ++ p ∷ []
   pub same_size : length new.lists.items ≡ length old.lists.items

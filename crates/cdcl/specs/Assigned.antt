@@ -15,5 +15,6 @@ pub record IsUnset (t : TrailValue) (v : ℕ) : Type 0 where
 abbrev pub HasValue : TrailValue → ℕ → Type 0
 HasValue t v = (is_set t.steps (2 * v) ≡ true) ⊎ (is_set t.steps (2 * v + 1) ≡ true)
 
+-- each variable that the trail has room for has a value
 abbrev pub AreAllSet : TrailValue → Type 0
 AreAllSet t = (v : ℕ) → 0 < v → 2 * v + 1 < t.size → HasValue t v

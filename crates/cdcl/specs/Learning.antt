@@ -5,6 +5,7 @@ use Rattle.cnf_base.specs.Literals.{opposite, member}
 use Rattle.cdcl.specs.declared.trail.Step.{Step}
 use Rattle.cdcl.specs.Trail.{literal_at, IsBelow, IsFrom}
 
+-- whether a literal is marked; one without a mark is not
 abbrev pub is_marked : List Bool → ℕ → Bool
 is_marked marks l = get_or marks l false
 

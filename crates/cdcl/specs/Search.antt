@@ -19,6 +19,8 @@ pub record IsWatchingLevels (s : State) (starts : List ℕ) (head : ℕ) : Type 
   pub drawn : head ≤ length s.trail.steps
   pub watching : IsWatchingAt s head
 
+-- The trail is in order, the levels begin at its decisions, at each of these all consequences had been drawn, and so
+-- they are now below head.
 pub record IsSearchState (s : State) (starts : List ℕ) (head : ℕ) : Type 0 where
   pub state : IsState s
   pub decisions : AreStarts s.trail.steps starts

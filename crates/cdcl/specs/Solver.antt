@@ -6,6 +6,7 @@ use Rattle.cdcl.specs.State.{held_in, IsState}
 use Rattle.cdcl.specs.Learning.{is_marked}
 use Rattle.cdcl.specs.Search.{IsSearchState}
 
+-- what holds of a search before and after each analysis of a conflict, when no literal is marked
 pub record IsSearch (s : Search) : Type 0 where
   pub search : IsSearchState s.state s.starts.items s.head
   pub marked : length s.marks.items ≡ s.state.trail.size

@@ -9,12 +9,15 @@ use Rattle.cdcl.specs.Trail.{literal_at, IsTrail}
 use Rattle.cdcl.specs.Growth.{Extends}
 use Rattle.cdcl.specs.Watch.{Pairs, Lists, pair_at, list_at, WereSafe, IsWatching, AreVisited}
 
+-- the clauses by their ids
 abbrev pub held_in : State → Held
 held_in s = held_by s.clauses
 
+-- the two watched literals of each clause
 abbrev pub pairs_of : State → Pairs
 pairs_of s = pair_at s.watches.pairs.items
 
+-- the clauses that each literal watches
 abbrev pub lists_of : State → Lists
 lists_of s = list_at s.watches.lists.items
 

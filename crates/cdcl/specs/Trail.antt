@@ -6,12 +6,15 @@ use Rattle.cnf_base.specs.Literals.{opposite, member}
 use Rattle.lrat_log.specs.Held.{Held}
 use Rattle.cdcl.specs.declared.trail.Step.{Step}
 
+-- what is read behind the end of a trail
 abbrev pub no_step : Step
 no_step = record { literal = 0; reason = 0 }
 
+-- the literal that was set at place i
 abbrev pub literal_at : List Step → ℕ → ℕ
 literal_at trail i = (get_or trail i no_step).literal
 
+-- the id of the clause that set the literal at place i, or 0 for a decision
 abbrev pub reason_at : List Step → ℕ → ℕ
 reason_at trail i = (get_or trail i no_step).reason
 

@@ -17,9 +17,11 @@ Pairs = ℕ → Pair
 abbrev pub Lists : Type 0
 Lists = ℕ → List Watch
 
+-- the pairs in a list, and none behind its end
 abbrev pub pair_at : List Pair → Pairs
 pair_at pairs k = get_or pairs k no_pair
 
+-- the lists in a list, and empty ones behind its end
 abbrev pub list_at : List (List Watch) → Lists
 list_at lists w = get_or lists w []
 
@@ -43,6 +45,7 @@ IsSafe front set c p = IsWatchedBy front set c p ⊎ HasTrue set c
 abbrev pub StandsBefore : List Watch → ℕ → ℕ → Type 0
 StandsBefore list n k = (i : ℕ) × (i < n) × ((get_or list i no_watch).place ≡ k)
 
+-- the clause at place k stands in a list
 abbrev pub StandsIn : List Watch → ℕ → Type 0
 StandsIn list k = StandsBefore list (length list) k
 
@@ -53,6 +56,7 @@ pub record IsWatch (held : Held) (pairs : Pairs) (w : Watch) : Type 0 where
   pub blocker : member w.blocker clause ≡ true
   pub pair : IsPairOf clause (pairs w.place)
 
+-- each element of a list names a held clause that is watched
 abbrev pub AreWatches : Held → Pairs → List Watch → Type 0
 AreWatches held pairs list = (i : ℕ) → i < length list → IsWatch held pairs (get_or list i no_watch)
 
@@ -61,6 +65,7 @@ abbrev pub AreListed : Held → Pairs → Lists → Type 0
 AreListed held pairs lists = (k : ℕ) (c : List ℕ) → held (k + 1) ≡ Some (Clause c) → IsPairOf c (pairs k)
     → StandsIn (lists (pairs k).first) k × StandsIn (lists (pairs k).second) k
 
+-- each held clause is watched or has a true literal
 abbrev pub AreSafe : Held → (ℕ → Bool) → (ℕ → Bool) → Pairs → Type 0
 AreSafe held front set pairs = (k : ℕ) (c : List ℕ) → held (k + 1) ≡ Some (Clause c) → IsSafe front set c (pairs k)
 

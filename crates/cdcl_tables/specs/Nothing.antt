@@ -2,6 +2,7 @@
 use Rattle.cdcl_tables.specs.declared.watches.Pair.{Pair}
 use Rattle.cdcl_tables.specs.declared.watches.Watch.{Watch}
 
+-- no clause has it, since its two literals are one
 abbrev pub no_pair : Pair
 no_pair = record { first = 0; second = 0 }
 

@@ -9,10 +9,12 @@ abbrev pub IsClause : List ℕ → Type 0
 IsClause [] = Unit {0}
 IsClause (l ∷ ls) = (member l ls ≡ false) × (member (opposite l) ls ≡ false) × IsClause ls
 
+-- whether a literal stands beside its opposite
 abbrev pub has_opposites : List ℕ → Bool
 has_opposites [] = false
 has_opposites (l ∷ ls) = member (opposite l) ls || has_opposites ls
 
+-- one more literal behind the others, unless it stands among them
 abbrev pub with_literal : List ℕ → ℕ → List ℕ
 with_literal kept l = if member l kept then kept else kept ++ l ∷ []
 
@@ -22,10 +24,11 @@ abbrev pub entry_of : List ℕ → List ℕ → Entry
 entry_of kept [] = Clause kept
 entry_of kept (l ∷ ls) = if member (opposite l) kept then True else entry_of (with_literal kept l) ls
 
--- truth values satisfy a clause where they make one of its literals true, and one that is always true in any case
+-- truth values satisfy a clause where they make one of its literals true
 abbrev pub SatisfiesClause : (ℕ → Bool) → List ℕ → Type 0
 SatisfiesClause value ls = (l : ℕ) × (member l ls ≡ true) × (is_true value l ≡ true)
 
+-- and an entry where they satisfy its clause; one that is always true they satisfy in any case
 abbrev pub SatisfiesEntry : (ℕ → Bool) → Entry → Type 0
 SatisfiesEntry value (Clause ls) = SatisfiesClause value ls
 SatisfiesEntry value True = Unit {0}

@@ -8,10 +8,12 @@ pub record Formula : Type 0 where
   pub variables : ℕ
   pub clauses : List Entry
 
+-- each is an entry over the variables 1 to n
 abbrev pub AreEntries : ℕ → List Entry → Type 0
 AreEntries n [] = Unit {0}
 AreEntries n (e ∷ es) = IsEntry n e × AreEntries n es
 
+-- each clause is an entry over the formula's variables
 abbrev pub IsFormula : Formula → Type 0
 IsFormula f = AreEntries f.variables f.clauses
 
@@ -19,6 +21,7 @@ IsFormula f = AreEntries f.variables f.clauses
 abbrev pub Satisfies : (ℕ → Bool) → Formula → Type 0
 Satisfies value f = (k : ℕ) (e : Entry) → slice_get f.clauses k ≡ Some e → SatisfiesEntry value e
 
+-- no truth values satisfy the formula
 abbrev pub IsUnsatisfiable : Formula → Type 0
 IsUnsatisfiable f = (value : ℕ → Bool) → Satisfies value f → ⊥
 

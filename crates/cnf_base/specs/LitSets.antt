@@ -3,6 +3,7 @@ use Rattle.std.specs.Prelude.{ℕ, ◌<◌, ◌≤◌, get_or}
 use Rattle.cnf_base.specs.declared.lit_set.LitSet.TheInside.{Inside}
 use Rattle.cnf_base.specs.LitSetValue.{LitSetValue}
 
+-- what a set of literals is seen as: the stamps, the epoch, and the literals that stand in the table
 abbrev pub value_of_set : Inside → LitSetValue
 value_of_set a = record { stamps = a.stamps.items; epoch = a.epoch; far = a.far.keys }
 

@@ -3,15 +3,19 @@
 use Rattle.std.specs.Prelude.{ℕ, ◌+◌, ◌-◌, ◌*◌, ◌/◌, ◌%◌, ◌<◌, ◌≤◌, ◌==◌, ◌||◌, eqb, Bool, false, not, if◌then◌else◌}
 use Rattle.std.specs.Prelude.{List, [], ◌∷◌}
 
+-- the variable that a literal speaks of
 abbrev pub variable_of : ℕ → ℕ
 variable_of l = l / 2
 
+-- whether it says that the variable is true
 abbrev pub is_positive : ℕ → Bool
 is_positive l = l % 2 == 0
 
+-- the literal of the variable v that says it is true, or false where `positive` is false
 abbrev pub literal_of : Bool → ℕ → ℕ
 literal_of positive v = if positive then 2 * v else 2 * v + 1
 
+-- the negation of a literal
 unfoldable pub opposite : ℕ → ℕ
 opposite l = if is_positive l then l + 1 else l - 1
 
@@ -19,6 +23,7 @@ opposite l = if is_positive l then l + 1 else l - 1
 abbrev pub IsLiteral : ℕ → ℕ → Type 0
 IsLiteral n l = (0 < variable_of l) × (variable_of l ≤ n)
 
+-- each is a literal of one of the variables 1 to n
 abbrev pub AreLiterals : ℕ → List ℕ → Type 0
 AreLiterals n [] = Unit {0}
 AreLiterals n (l ∷ ls) = IsLiteral n l × AreLiterals n ls

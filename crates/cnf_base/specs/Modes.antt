@@ -10,6 +10,7 @@ use Rattle.base.specs.Bytes.{is_blank}
 abbrev pub behind : ℕ → LineMode
 behind b = if b == 10 then LineStart else if is_blank b then InLine else InWord
 
+-- behind any byte; a comment ends at the line feed, 10, and begins at a `c`, 99, at the start of a line
 abbrev pub next_mode : LineMode → ℕ → LineMode
 next_mode Comment b = if b == 10 then LineStart else Comment
 next_mode LineStart b = if b == 99 then Comment else behind b

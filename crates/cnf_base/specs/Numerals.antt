@@ -10,9 +10,11 @@ with_digits n [] = Some n
 with_digits n (d ∷ ds) =
     if is_digit d && nat_le (n * 10 + (d - 48)) 2147483647 then with_digits (n * 10 + (d - 48)) ds else None
 
+-- the number that 1 to 10 digits say
 abbrev pub digits_value : List ℕ → Option ℕ
 digits_value ds = if nat_le 1 (length ds) && nat_le (length ds) 10 then with_digits 0 ds else None
 
+-- the number with its sign
 abbrev pub signed : Bool → Option ℕ → Option Numeral
 signed negative None = None
 signed negative (Some n) = if negative && (n == 0) then None else Some (record { negative = negative; value = n })

@@ -4,6 +4,7 @@ use Rattle.cnf_base.specs.declared.reader.Reading.{Reading}
 use Rattle.cnf_base.specs.declared.text.Numeral.{Numeral}
 use Rattle.cnf_base.specs.WordByWord.{State}
 
+-- what a reader has read so far
 abbrev pub state_of : Reading → State
 state_of r = record {
   stage = r.stage;

@@ -15,6 +15,7 @@ use Rattle.cnf_base.specs.Words.{Word, words_of}
 use Rattle.cnf_base.specs.Numerals.{number_of}
 use Rattle.cnf_base.specs.Pieces.{value_in, literals_in, pieces_of, first_fault, unless}
 
+-- a fault, and the place in the text where it is
 abbrev pub fault_at : CnfFaultCode → ℕ → CnfFault
 fault_at code at = record { code = code; at = at }
 
@@ -23,6 +24,7 @@ abbrev pub is_count : Option Numeral → Bool
 is_count None = false
 is_count (Some n) = not n.negative
 
+-- the number that a word of the header says
 abbrev pub count_in : Word → ℕ
 count_in w = value_in (number_of w.text)
 
@@ -52,6 +54,7 @@ fault_of_number h done at (Some n) =
     else if done == h.clauses then Some (fault_at WrongClauseCount at)
     else None
 
+-- what is wrong with a word of a clause, behind so many clauses
 abbrev pub fault_of : Header → ℕ → Word → Option CnfFault
 fault_of h done w = fault_of_number h done w.at (number_of w.text)
 
@@ -60,6 +63,7 @@ abbrev pub ended : Header → ℕ → List Word → ℕ → Result (List Entry) 
 ended h done (w ∷ ws) end = Err (fault_at Unended end)
 ended h done [] end = if done == h.clauses then Ok [] else Err (fault_at WrongClauseCount end)
 
+-- one more clause in front, unless there is a fault
 abbrev pub with_clause : Entry → Result (List Entry) CnfFault → Result (List Entry) CnfFault
 with_clause e (Ok es) = Ok (e ∷ es)
 with_clause e (Err fault) = Err fault
@@ -71,10 +75,12 @@ read_clauses h done (piece ∷ pieces) rest end =
     unless (first_fault (fault_of h done) piece)
     (with_clause (entry_of [] (literals_in piece)) (read_clauses h (done + 1) pieces rest end))
 
+-- the formula of these clauses, unless there is a fault
 abbrev pub formula_of : ℕ → Result (List Entry) CnfFault → Result Formula CnfFault
 formula_of variables (Ok es) = Ok (record { variables = variables; clauses = es })
 formula_of variables (Err fault) = Err fault
 
+-- what the words behind a header say
 abbrev pub read_body : Header → List Word → ℕ → Result Formula CnfFault
 read_body h ws end = formula_of h.variables (read_clauses h 0 (pieces_of ws).whole (pieces_of ws).rest end)
 
@@ -84,8 +90,10 @@ behind_header (p ∷ (cnf ∷ (variables ∷ (clauses ∷ body)))) end =
     read_body (record { variables = count_in variables; clauses = count_in clauses }) body end
 behind_header _ end = Err (fault_at BadHeader end)
 
+-- what the words of a text say whose end is at this place
 abbrev pub read_text : List Word → ℕ → Result Formula CnfFault
 read_text ws end = unless (header_fault header_words ws end) (behind_header ws end)
 
+-- the formula that a text says, or its first fault
 unfoldable pub read_of : List ℕ → Result Formula CnfFault
 read_of text = read_text (words_of text) (length text)

@@ -4,6 +4,7 @@ use Rattle.cnf_base.specs.declared.text.LineMode.{LineMode}
 use Rattle.cnf_base.specs.declared.text.LineMode.TheVariants.{LineStart, InLine, InWord, Comment}
 use Rattle.cnf_base.specs.Modes.{begins_word}
 
+-- the next byte begins a word, or there is none
 abbrev pub IsAtStart : LineMode → List ℕ → Type 0
 IsAtStart mode [] = Unit {0}
 IsAtStart mode (b ∷ bytes) = begins_word mode b ≡ true

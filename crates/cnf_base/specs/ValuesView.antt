@@ -9,8 +9,10 @@ unfoldable pub values_from : ℕ → ℕ → List ℕ → List Bool
 values_from first zero trues = []
 values_from first (suc n) trues = member first trues ∷ values_from (first + 1) n trues
 
+-- the values of the variables 1 to the last
 abbrev pub value_of_values : Inside → List Bool
 value_of_values a = values_from 1 a.variables a.trues.items
 
+-- the variables that are true are rising, from 1 to the last at most
 abbrev pub IsValues : Inside → Type 0
 IsValues a = AreRising a.variables 0 a.trues.items

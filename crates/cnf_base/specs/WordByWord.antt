@@ -24,12 +24,15 @@ pub record State : Type 0 where
   pub entries : List Entry
   pub lits : List ℕ
 
+-- before the first word
 abbrev pub at_start : State
 at_start = record { stage = Problem; variables = 0; count = 0; entries = []; lits = [] }
 
+-- refused, with this fault at this place
 abbrev pub fault : {A : Type 0} → CnfFaultCode → ℕ → Result A CnfFault
 fault code at = Err (record { code = code; at = at })
 
+-- a number of the header, which has no sign, and how the reader goes on with it
 abbrev pub header_number : Option Numeral → (ℕ → State) → ℕ → Result State CnfFault
 header_number None go at = fault BadHeader at
 header_number (Some n) go at = if n.negative then fault BadHeader at else Ok (go n.value)
@@ -51,6 +54,7 @@ take_at Variables s w = header_number (number_of w.text) (λ n. record s { stage
 take_at Clauses s w = header_number (number_of w.text) (λ n. record s { stage = Body; count = n }) w.at
 take_at Body s w = body_number s (number_of w.text) w.at
 
+-- the reader behind one more word, or why the word is refused
 abbrev pub take_word : State → Word → Result State CnfFault
 take_word s w = take_at s.stage s w
 
@@ -61,6 +65,7 @@ ended_body s [] end =
     if length s.entries == s.count then Ok (record { variables = s.variables; clauses = s.entries })
     else fault WrongClauseCount end
 
+-- a text that ends in its header has a bad header
 abbrev pub ended_at : Stage → State → ℕ → Result Formula CnfFault
 ended_at Body s end = ended_body s s.lits end
 ended_at Problem s end = fault BadHeader end
@@ -68,9 +73,11 @@ ended_at Format s end = fault BadHeader end
 ended_at Variables s end = fault BadHeader end
 ended_at Clauses s end = fault BadHeader end
 
+-- what a text says that ends here
 abbrev pub ended : State → ℕ → Result Formula CnfFault
 ended s end = ended_at s.stage s end
 
+-- the reader goes on, unless there is a fault
 abbrev pub and_then : Result State CnfFault → (State → Result Formula CnfFault) → Result Formula CnfFault
 and_then (Ok s) go = go s
 and_then (Err f) go = Err f
@@ -80,5 +87,6 @@ abbrev pub read_words : State → List Word → ℕ → Result Formula CnfFault
 read_words s [] end = ended s end
 read_words s (w ∷ ws) end = and_then (take_word s w) (λ s. read_words s ws end)
 
+-- what a text says, read word by word
 abbrev pub read_by_words : List ℕ → Result Formula CnfFault
 read_by_words text = read_words at_start (words_of text) (length text)

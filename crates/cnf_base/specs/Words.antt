@@ -34,13 +34,16 @@ as_words [] = []
 as_words ([] ∷ pieces) = as_words pieces
 as_words ((b ∷ bytes) ∷ pieces) = record { at = b.at; text = b.byte ∷ map (λ x. x.byte) bytes } ∷ as_words pieces
 
+-- whether the line begins with a `c`, 99
 abbrev pub is_comment : List Byte → Bool
 is_comment [] = false
 is_comment (b ∷ bytes) = b.byte == 99
 
+-- the words of these lines that are no comments
 abbrev pub words_in : List (List Byte) → List Word
 words_in [] = []
 words_in (line ∷ lines) = (if is_comment line then [] else as_words (cut is_blank line)) ++ words_in lines
 
+-- the words of a text, in order
 unfoldable pub words_of : List ℕ → List Word
 words_of text = words_in (cut (λ b. b == 10) (placed 0 text))

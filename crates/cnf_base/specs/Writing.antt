@@ -9,18 +9,22 @@ use Rattle.cnf_base.specs.Formulas.{Formula, IsFormula}
 abbrev pub literal_text : ℕ → List ℕ
 literal_text l = if is_positive l then decimal (variable_of l) else 45 ∷ decimal (variable_of l)
 
+-- each literal with a blank behind it
 abbrev pub literals_text : List ℕ → List ℕ
 literals_text [] = []
 literals_text (l ∷ ls) = literal_text l ++ 32 ∷ literals_text ls
 
+-- a clause ends with 0; one that is always true is written as variable 1 beside its opposite
 abbrev pub entry_text : Entry → List ℕ
 entry_text (Clause ls) = literals_text ls ++ codes "0\n"
 entry_text True = codes "1 -1 0\n"
 
+-- the clauses, one a line
 abbrev pub entries_text : List Entry → List ℕ
 entries_text [] = []
 entries_text (e ∷ es) = entry_text e ++ entries_text es
 
+-- the header, with the numbers of variables and of clauses, and the clauses
 abbrev pub text_of : Formula → List ℕ
 text_of f = codes "p cnf " ++ decimal f.variables ++ 32 ∷ decimal (length f.clauses) ++ 10 ∷ entries_text f.clauses
 

@@ -10,6 +10,7 @@ use Rattle.lrat_log.specs.Held.{Held, held_of, after_lines, SatisfiesHeld}
 use Rattle.lrat_log.specs.Accepted.{last_id, IsFit}
 use Rattle.lrat_check.specs.declared.checker.Refusal.{Refusal}
 
+-- the formula, and the lines that were accepted so far, in order
 pub record Checked : Type 0 where
   pub formula : Formula
   pub lines : List Line
@@ -31,6 +32,7 @@ abbrev pub Follows : Checked → Line → Type 0
 Follows c (Add id ls hints) = (value : ℕ → Bool) → SatisfiesHeld value (held_now c) → SatisfiesClause value ls
 Follows c (Delete id ids) = Unit {0}
 
+-- the id at the start of the line
 abbrev pub id_of : Line → ℕ
 id_of (Add id ls hints) = id
 id_of (Delete id ids) = id

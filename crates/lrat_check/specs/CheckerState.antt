@@ -6,9 +6,12 @@ use Rattle.lrat_check.specs.declared.checker.Checker.TheInside.{Inside}
 use Rattle.lrat_check.specs.TableValue.{held_by_table}
 use Rattle.lrat_check.specs.Checked.{Checked, held_now, last_of}
 
+-- the formula and the accepted lines that the checker keeps
 abbrev pub value_of_checker : Inside → Checked
 value_of_checker a = record { formula = a.cnf; lines = a.lines.items }
 
+-- The table holds what the accepted lines leave held, under ids up to the last, and the checker knows whether one of
+-- them is the empty clause.
 pub record IsChecker (a : Inside) : Type 0 where
   pub accepted : IsAccepted a.cnf a.lines.items
   pub held : (k : ℕ) → held_by_table a.table k ≡ held_now (value_of_checker a) k

@@ -7,6 +7,7 @@ use Rattle.lrat_check.specs.Spans.{AreSorted, AreWithin, AreUpTo}
 abbrev pub value_of_table : Inside → TableValue
 value_of_table a = record { spans = a.spans.items; literals = a.literals.items }
 
+-- the spans are sorted and lie among the literals, and each has a mark that is no later than the epoch
 pub record IsTable (a : Inside) : Type 0 where
   pub sorted : AreSorted a.spans.items
   pub within : AreWithin a.spans.items (length a.literals.items)

@@ -8,6 +8,7 @@ use Rattle.lrat_log.specs.Accepted.{outcome_of}
 use Rattle.lrat_check.specs.declared.checker.Refusal.{Refusal}
 use Rattle.lrat_check.specs.Checked.{id_of}
 
+-- the refusal of a line, or what comes next where it is accepted
 abbrev pub refusal_or : Outcome → Line → Option Refusal → Option Refusal
 refusal_or Accepted line next = next
 refusal_or (Refused code) line next = Some (record { code = code; id = id_of line })

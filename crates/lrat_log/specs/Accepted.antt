@@ -33,6 +33,7 @@ all_but set l (x ∷ xs) = (eqb x l || set (opposite x)) && all_but set l xs
 abbrev pub effect_at : (ℕ → Bool) → ℕ → List ℕ → Effect
 effect_at set l ls = cond (set l) Useless (cond (all_but set l ls) (Sets l) Useless)
 
+-- the literals in turn, up to the first that is not false
 abbrev pub effect_of_clause : (ℕ → Bool) → List ℕ → Effect
 effect_of_clause set [] = Falsified
 effect_of_clause set (l ∷ ls) = cond (set (opposite l)) (effect_of_clause set ls) (effect_at set l ls)
@@ -66,6 +67,7 @@ outcome_of_deletion held [] = Accepted
 outcome_of_deletion held (k ∷ ks) =
     cond (is_some (held k)) (outcome_of_deletion (without held (k ∷ [])) ks) (Refused UnknownId)
 
+-- whether a line is accepted where these clauses are held, or why it is refused
 abbrev pub outcome_of : Held → Line → Outcome
 outcome_of held (Add id ls hints) = outcome_of_addition held ls hints
 outcome_of held (Delete id ids) = outcome_of_deletion held ids
@@ -88,6 +90,7 @@ IsAcceptedFrom variables held last (line ∷ lines) =
     IsFit variables last line × (outcome_of held line ≡ Accepted)
     × IsAcceptedFrom variables (after_line held line) (last_id last (line ∷ [])) lines
 
+-- every line is accepted, from the clauses of the formula on
 abbrev pub IsAccepted : Formula → List Line → Type 0
 IsAccepted f lines = IsAcceptedFrom f.variables (held_of f) (length f.clauses) lines
 

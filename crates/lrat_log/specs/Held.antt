@@ -20,9 +20,11 @@ held_by entries id = if id == 0 then None else slice_get entries (id - 1)
 abbrev pub held_of : Formula → Held
 held_of f = held_by f.clauses
 
+-- with this entry under the id, in the place of any other
 abbrev pub with_entry : Held → ℕ → Entry → Held
 with_entry held id e k = if k == id then Some e else held k
 
+-- without the entries under these ids
 abbrev pub without : Held → List ℕ → Held
 without held ids k = if member k ids then None else held k
 
@@ -30,10 +32,12 @@ without held ids k = if member k ids then None else held k
 abbrev pub added_entry : List ℕ → Entry
 added_entry ls = if has_opposites ls then True else Clause ls
 
+-- what is held behind a line
 abbrev pub after_line : Held → Line → Held
 after_line held (Add id ls hints) = with_entry held id (added_entry ls)
 after_line held (Delete id ids) = without held ids
 
+-- what is held behind these lines
 abbrev pub after_lines : Held → List Line → Held
 after_lines held [] = held
 after_lines held (line ∷ lines) = after_lines (after_line held line) lines

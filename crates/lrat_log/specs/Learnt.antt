@@ -56,6 +56,7 @@ pub record IsResolvent (held : Held) (ls hints : List ℕ) : Type 0 where
   pub drawn : (l : ℕ) → member l ls ≡ true → StandsInHint held hints l
   pub chain : IsChain held hints (all_false ls)
 
+-- a clause that has literals, but none beside its opposite, is new, and is a resolvent of its hints
 pub record IsLearnt (held : Held) (ls hints : List ℕ) : Type 0 where
   pub not_empty : ls ≢ []
   pub no_opposites : has_opposites ls ≡ false
@@ -70,6 +71,7 @@ AreLearntFrom variables held last (Add id ls hints ∷ lines) =
     × AreLearntFrom variables (after_line held (Add id ls hints)) id lines
 AreLearntFrom variables held last (Delete id ids ∷ lines) = ⊥
 
+-- additions alone, each learnt, from the clauses of the formula on
 abbrev pub AreLearnt : Formula → List Line → Type 0
 AreLearnt f lines = AreLearntFrom f.variables (held_of f) (length f.clauses) lines
 

@@ -5,6 +5,7 @@ use Rattle.lrat_log.specs.declared.text.Stage.TheVariants.{Id, Second, Literals,
 use Rattle.lrat_log.specs.declared.reader.Reading.{Reading}
 use Rattle.lrat_log.specs.WordByWord.{State}
 
+-- what a reader has read so far
 abbrev pub state_of : Reading → State
 state_of r = record {
   stage = r.stage;

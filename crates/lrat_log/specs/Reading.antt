@@ -14,6 +14,7 @@ use Rattle.lrat_log.specs.declared.line.Line.{Line}
 use Rattle.lrat_log.specs.declared.line.Line.TheVariants.{Add, Delete}
 use Rattle.lrat_log.specs.declared.text.LogFault.{LogFault}
 
+-- a fault, and the place in the text where it is
 abbrev pub fault_at : LogFaultCode → ℕ → LogFault
 fault_at code at = record { code = code; at = at }
 
@@ -40,12 +41,15 @@ abbrev pub deleted_fault : ℕ → Option Numeral → Option LogFault
 deleted_fault at None = Some (fault_at BadNumber at)
 deleted_fault at (Some n) = if n.negative then Some (fault_at BadNumber at) else None
 
+-- the first fault of an addition's literals, over so many variables
 abbrev pub literals_fault : ℕ → List Word → Option LogFault
 literals_fault variables ws = first_fault (λ w. literal_fault variables w.at (number_of w.text)) ws
 
+-- the first fault of an addition's hints
 abbrev pub hints_fault : List Word → Option LogFault
 hints_fault ws = first_fault (λ w. hint_fault w.at (number_of w.text)) ws
 
+-- the first fault of the ids that a deletion deletes
 abbrev pub deleted_ids_fault : List Word → Option LogFault
 deleted_ids_fault ws = first_fault (λ w. deleted_fault w.at (number_of w.text)) ws
 
@@ -54,6 +58,7 @@ abbrev pub is_deletion : List Word → Bool
 is_deletion [] = false
 is_deletion (d ∷ ws) = bytes_eq d.text (codes "d")
 
+-- the ids to delete, without the `d`
 abbrev pub behind_d : List Word → List Word
 behind_d [] = []
 behind_d (d ∷ ws) = ws
@@ -62,6 +67,7 @@ behind_d (d ∷ ws) = ws
 abbrev pub order_fault : ℕ → ℕ → ℕ → Option LogFault
 order_fault last id at = if nat_le id last then Some (fault_at IdNotAbove at) else None
 
+-- the id that the first word of a line says
 abbrev pub id_of : Word → ℕ
 id_of w = value_in (number_of w.text)
 
@@ -72,6 +78,7 @@ line_fault variables last id ws =
     (if is_deletion ws then deleted_ids_fault (behind_d ws)
     else or_else (order_fault last (id_of id) id.at) (literals_fault variables ws))
 
+-- one more line in front, unless there is a fault
 abbrev pub with_line : Line → Result (List Line) LogFault → Result (List Line) LogFault
 with_line line (Ok lines) = Ok (line ∷ lines)
 with_line line (Err fault) = Err fault
@@ -81,9 +88,11 @@ abbrev pub open_line : ℕ → ℕ → List Word → ℕ → Result (List Line) 
 open_line variables last [] end = Ok []
 open_line variables last (id ∷ ws) end = unless (line_fault variables last id ws) (Err (fault_at Unended end))
 
+-- the deletion with this id and these words behind it
 abbrev pub deletion : Word → List Word → Line
 deletion id ws = Delete (id_of id) (numbers_in (behind_d ws))
 
+-- the addition with this id, these words behind it, and these hints
 abbrev pub addition : Word → List Word → List Word → Line
 addition id ws hints = Add (id_of id) (literals_in ws) (numbers_in hints)
 

@@ -27,6 +27,7 @@ pub record State : Type 0 where
   pub lits : List ℕ
   pub ids : List ℕ
 
+-- before the first word, for a formula of so many variables and clauses
 abbrev pub at_start : ℕ → ℕ → State
 at_start variables clauses = record {
   stage = Id;
@@ -39,6 +40,7 @@ at_start variables clauses = record {
   ids = [];
 }
 
+-- refused, with this fault at this place
 abbrev pub fault : {A : Type 0} → LogFaultCode → ℕ → Result A LogFault
 fault code at = Err (record { code = code; at = at })
 
@@ -65,6 +67,7 @@ take_second s w =
     else if nat_le s.id s.last then fault IdNotAbove s.place
     else take_literal s (number_of w.text) w.at
 
+-- the addition is whole, and stands behind the other lines
 abbrev pub with_addition : State → State
 with_addition s = record s {
   stage = Id;
@@ -74,6 +77,7 @@ with_addition s = record s {
   ids = [];
 }
 
+-- the deletion is whole, and stands behind the other lines
 abbrev pub with_deletion : State → State
 with_deletion s = record s { stage = Id; lines = s.lines ++ Delete s.id s.ids ∷ []; ids = [] }
 
@@ -93,6 +97,7 @@ take_deleted s (Some n) at =
     else if n.value == 0 then Ok (with_deletion s)
     else Ok (record s { ids = s.ids ++ n.value ∷ [] })
 
+-- one more word, by what has to come
 abbrev pub take_at : Stage → State → Word → Result State LogFault
 take_at Id s w = take_id s (number_of w.text) w.at
 take_at Second s w = take_second s w
@@ -100,6 +105,7 @@ take_at Literals s w = take_literal s (number_of w.text) w.at
 take_at Hints s w = take_hint s (number_of w.text) w.at
 take_at Deleted s w = take_deleted s (number_of w.text) w.at
 
+-- the reader behind one more word, or why the word is refused
 abbrev pub take_word : State → Word → Result State LogFault
 take_word s w = take_at s.stage s w
 
@@ -111,9 +117,11 @@ ended_at Literals s end = fault Unended end
 ended_at Hints s end = fault Unended end
 ended_at Deleted s end = fault Unended end
 
+-- what a text says that ends here
 abbrev pub ended : State → ℕ → Result (List Line) LogFault
 ended s end = ended_at s.stage s end
 
+-- the reader goes on, unless there is a fault
 abbrev pub and_then : Result State LogFault → (State → Result (List Line) LogFault) → Result (List Line) LogFault
 and_then (Ok s) go = go s
 and_then (Err f) go = Err f
@@ -123,5 +131,6 @@ abbrev pub read_words : State → List Word → ℕ → Result (List Line) LogFa
 read_words s [] end = ended s end
 read_words s (w ∷ ws) end = and_then (take_word s w) (λ s. read_words s ws end)
 
+-- the lines of a text, read word by word, for a formula of so many variables and clauses
 abbrev pub read_by_words : ℕ → ℕ → List ℕ → Result (List Line) LogFault
 read_by_words variables clauses text = read_words (at_start variables clauses) (words_of text) (length text)
