@@ -5,9 +5,11 @@ use Rattle.clause_form.specs.declared.board.Board.{Board}
 use Rattle.clause_form.specs.Numbers.{Numbers}
 use Rattle.clause_form.specs.Machine.{State, state}
 
+-- the variables given so far
 abbrev pub numbers_of : Board → Numbers
 numbers_of b = record { variables = b.variables; atoms = b.atoms }
 
+-- what the code holds, as the state of the machine
 abbrev pub state_of : Board → State
 state_of b = state (numbers_of b) b.nodes b.lits.items b.clauses.items
 

@@ -29,6 +29,7 @@ abbrev pub definition : Junction → ℕ → List ℕ → List Entry
 definition And d ls = implies_each d ls
 definition Or d ls = implies d ls
 
+-- the definitions of the Ands and Ors of a formula, from these numbers on; those of the parts come first
 abbrev mutual
   pub clauses_of : Numbers → Tree → List Entry
   clauses_of n (literal a positive) = []
@@ -43,5 +44,6 @@ abbrev pub formula_clauses : Numbers → Trees → List Entry
 formula_clauses n none = []
 formula_clauses n (part p ps) = clauses_of n p ++ (Clause (lit_of n p ∷ []) ∷ formula_clauses (after n p) ps)
 
+-- the clauses of all formulas, over the variables that these take
 abbrev pub clause_form : Trees → Formula
 clause_form ps = record { variables = (after_all start ps).variables; clauses = formula_clauses start ps }

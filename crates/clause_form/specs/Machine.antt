@@ -16,6 +16,7 @@ pub record State : Type 0 where
   pub lits : List ℕ
   pub clauses : List Entry
 
+-- the state with these numbers, open nodes, literals and clauses
 abbrev pub state : Numbers → List Frame → List ℕ → List Entry → State
 state n fs ls es = record { numbers = n; nodes = fs; lits = ls; clauses = es }
 
@@ -28,6 +29,7 @@ settle_nodes n (f ∷ fs) ls es =
     then settle_nodes n fs (take f.start ls) (es ++ definition f.junction f.own (drop f.start ls))
     else state n (f ∷ fs) ls es
 
+-- whatever ends here has ended
 abbrev pub settle : State → State
 settle s = settle_nodes s.numbers s.nodes s.lits s.clauses
 
@@ -35,6 +37,7 @@ settle s = settle_nodes s.numbers s.nodes s.lits s.clauses
 abbrev pub frame : Junction → Numbers → ℕ → List ℕ → Frame
 frame j n parts ls = record { junction = j; own = place_lit n; parts = parts; start = length ls + 1 }
 
+-- a literal, or a node that opens
 abbrev pub act : State → Call → State
 act s (a_literal a positive) =
     state (with_atom s.numbers a) s.nodes (s.lits ++ atom_lit s.numbers a positive ∷ []) s.clauses
@@ -42,12 +45,15 @@ act s (a_node j parts) =
     state (with_place s.numbers) (frame j s.numbers parts s.lits ∷ s.nodes)
     (s.lits ++ place_lit s.numbers ∷ []) s.clauses
 
+-- what ends before a call ends, and the call is done
 abbrev pub step : State → Call → State
 step s call = act (settle s) call
 
+-- the calls, one after another
 abbrev pub run : State → List Call → State
 run s [] = s
 run s (call ∷ calls) = run (step s call) calls
 
+-- before the first call
 abbrev pub at_start : State
 at_start = state start [] [] []

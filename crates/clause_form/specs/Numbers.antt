@@ -12,9 +12,11 @@ pub record Numbers : Type 0 where
   pub variables : ℕ
   pub atoms : List (Atom × ℕ)
 
+-- no variable is given yet
 abbrev pub start : Numbers
 start = record { variables = 0; atoms = [] }
 
+-- the variable of an atom, if it has one
 abbrev pub variable_in : List (Atom × ℕ) → Atom → Option ℕ
 variable_in atoms a = lookup (same_atom a) atoms
 
@@ -27,6 +29,7 @@ abbrev pub with_atom_by : Option ℕ → Numbers → Atom → Numbers
 with_atom_by (Some v) n a = n
 with_atom_by None n a = record { variables = n.variables + 1; atoms = n.atoms ++ (a, n.variables + 1) ∷ [] }
 
+-- the numbers behind an atom
 abbrev pub with_atom : Numbers → Atom → Numbers
 with_atom n a = with_atom_by (variable_in n.atoms a) n a
 
@@ -44,17 +47,20 @@ abbrev mutual
 abbrev pub atom_variable : Numbers → Atom → ℕ
 atom_variable n a = unwrap_or (variable_in n.atoms a) (n.variables + 1)
 
--- The literal that stands for a formula that comes next: an atom's variable or its negation, or the place's variable.
+-- the literal that stands for an atom that comes next, as it stands or negated
 abbrev pub atom_lit : Numbers → Atom → Bool → ℕ
 atom_lit n a positive = literal_of positive (atom_variable n a)
 
+-- the literal that stands for an And or an Or that comes next
 abbrev pub place_lit : Numbers → ℕ
 place_lit n = literal_of true (n.variables + 1)
 
+-- the literal that stands for a formula that comes next
 abbrev pub lit_of : Numbers → Tree → ℕ
 lit_of n (literal a positive) = atom_lit n a positive
 lit_of n (node j ps) = place_lit n
 
+-- the literals that stand for some formulas that come next
 abbrev pub lits_of : Numbers → Trees → List ℕ
 lits_of n none = []
 lits_of n (part p ps) = lit_of n p ∷ lits_of (after n p) ps

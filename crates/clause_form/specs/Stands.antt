@@ -10,5 +10,6 @@ abbrev pub StandsBy : Bool → State → List Call → Type 0
 StandsBy false s calls = settle s ≡ settle (run at_start calls)
 StandsBy true s calls = 2147483647 < (run at_start calls).numbers.variables
 
+-- it stands for these calls: it wrote what they write, or it is full and they have too many variables
 abbrev pub Stands : Clauser → List Call → Type 0
 Stands c calls = StandsBy c.full (state_of c.board) calls

@@ -22,6 +22,7 @@ join_tuples sizes (k ∷ ks) f = join_below (slice_index sizes k) (λ x. join_tu
 abbrev pub clause : List Atom → Atom → Tree
 clause premises conclusion = node Or (trees_of (map (λ a. literal a false) premises ++ literal conclusion true ∷ []))
 
+-- the terms x and y of sort k are equal
 abbrev pub equation : ℕ → ℕ → ℕ → Atom
 equation k x y = Eq (record { 0 = k }) x y
 
@@ -33,12 +34,13 @@ scheme_sorts sig (Transitive k) = k.0 ∷ k.0 ∷ k.0 ∷ []
 scheme_sorts sig (Relation r i) = sig.sorts_of r.0
 scheme_sorts sig (Function f i) = sig.from_of f.0
 
--- a relation at terms of which argument i is exchanged for an equal one, and a function at them
+-- a relation holds of some terms with argument i exchanged for the equal term y, if it holds of them
 abbrev pub relation_at : Symbols → ℕ → ℕ → List ℕ → ℕ → Tree
 relation_at sig r i xs y =
     clause (equation (slice_index (sig.sorts_of r) i) (slice_index xs i) y ∷ Rel (record { 0 = r }) xs ∷ [])
     (Rel (record { 0 = r }) (slice_set xs i y))
 
+-- a function has equal values at some terms and at these with argument i exchanged for the equal term y
 abbrev pub function_at : Symbols → Numbering → ℕ → ℕ → List ℕ → ℕ → Tree
 function_at sig names f i xs y =
     clause (equation (slice_index (sig.from_of f) i) (slice_index xs i) y ∷ [])
@@ -57,6 +59,7 @@ axioms_at sig names (Relation r i) xs =
 axioms_at sig names (Function f i) xs =
     join_below (slice_index names.counts (slice_index (sig.from_of f.0) i)) (λ y. function_at sig names f.0 i xs y ∷ [])
 
+-- the axioms of a scheme at all terms
 abbrev pub scheme_axioms : Symbols → Numbering → Scheme → List Tree
 scheme_axioms sig names s = join_tuples names.counts (scheme_sorts sig s) (axioms_at sig names s)
 
@@ -67,15 +70,17 @@ sort_axioms sig names k =
     ++ (scheme_axioms sig names (Symmetric (record { 0 = k }))
     ++ scheme_axioms sig names (Transitive (record { 0 = k })))
 
--- no argument place of a relation, or of a function, tells equal terms apart
+-- no argument place of a relation tells equal terms apart
 abbrev pub relation_axioms : Symbols → Numbering → ℕ → List Tree
 relation_axioms sig names r =
     join_below (length (sig.sorts_of r)) (λ i. scheme_axioms sig names (Relation (record { 0 = r }) i))
 
+-- no argument place of a function tells equal terms apart
 abbrev pub function_axioms : Symbols → Numbering → ℕ → List Tree
 function_axioms sig names f =
     join_below (length (sig.from_of f)) (λ i. scheme_axioms sig names (Function (record { 0 = f }) i))
 
+-- all axioms of equality over the terms
 abbrev pub axioms_of : Symbols → Numbering → List Tree
 axioms_of sig names =
     join_below sig.sorts (sort_axioms sig names)

@@ -6,6 +6,7 @@ use Rattle.fol_formula.specs.Syntax.{conjunction, disjunction, implication, equi
 use Rattle.fol_formula.specs.Syntax.{form_then, bound, app, ite, no_terms, term_then, size_of}
 use Rattle.fol_formula.specs.Fits.{FitsTerms}
 
+-- a term that fits and has no `ite`; the sorts are those of the bound variables, the nearest first
 abbrev mutual
   pub IsGroundableTerm : Symbols → List ℕ → TermTree → Type 0
   IsGroundableTerm sig sorts (bound i) = i < length sorts
@@ -18,11 +19,13 @@ abbrev mutual
   AreGroundableTerms sig sorts no_terms = Unit {0}
   AreGroundableTerms sig sorts (term_then t ts) = IsGroundableTerm sig sorts t × AreGroundableTerms sig sorts ts
 
+-- a relation or an equation of such terms
 abbrev pub IsGroundableAtom : Symbols → List ℕ → FormTree → Type 0
 IsGroundableAtom sig sorts (rel r args) = (size_of args ≤ 8) × AreGroundableTerms sig sorts args
 IsGroundableAtom sig sorts (equal a b) = IsGroundableTerm sig sorts a × IsGroundableTerm sig sorts b
 IsGroundableAtom sig sorts _ = ⊥
 
+-- a formula of such atoms without existentials, whose negations stand at atoms
 abbrev mutual
   pub IsGroundable : Symbols → List ℕ → FormTree → Type 0
   IsGroundable sig sorts top = Unit {0}

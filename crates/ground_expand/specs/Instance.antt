@@ -24,24 +24,28 @@ abbrev mutual
   places_of_terms names no_terms env = []
   places_of_terms names (term_then t ts) env = place_of_term names t env ∷ places_of_terms names ts env
 
+-- the sort of a term without `ite`
 abbrev pub sort_of_term : Symbols → List ℕ → TermTree → ℕ
 sort_of_term sig sorts (bound i) = slice_index sorts i
 sort_of_term sig sorts (app f args) = sig.into_of f
 sort_of_term sig sorts (ite p a b) = 0
 
--- the ground atom that a relation or an equation becomes
+-- the ground atom that a relation becomes
 abbrev pub relation_at : Numbering → ℕ → TermTrees → List ℕ → Atom
 relation_at names r args env = Rel (record { 0 = r }) (places_of_terms names args env)
 
+-- the ground atom that an equation becomes
 abbrev pub equation_at : Symbols → Numbering → List ℕ → TermTree → TermTree → List ℕ → Atom
 equation_at sig names sorts s t env =
     Eq (record { 0 = sort_of_term sig sorts s }) (place_of_term names s env) (place_of_term names t env)
 
+-- the literal that an atom becomes, negated where `positive` is false
 abbrev pub literal_at : Symbols → Numbering → List ℕ → FormTree → List ℕ → Bool → Tree
 literal_at sig names sorts (rel r args) env positive = literal (relation_at names r args env) positive
 literal_at sig names sorts (equal s t) env positive = literal (equation_at sig names sorts s t env) positive
 literal_at sig names sorts _ env positive = node Or none
 
+-- the ground formula; what stands in no universal sentence in normal form becomes an Or without parts
 abbrev mutual
   pub instance : Symbols → Numbering → List ℕ → FormTree → List ℕ → Tree
   instance sig names sorts top env = node And none

@@ -11,6 +11,7 @@ forms_at (All ps) = conjunction (forms_of ps.now) ∷ []
 forms_at (Each ps) = ps.now
 forms_at (Not p) = negation p.now ∷ []
 
+-- the formulas that some parts stand for, in order
 abbrev pub parts_of : List Part → List FormTree
 parts_of parts = flat_map forms_at parts
 

@@ -28,6 +28,7 @@ pub record AreAxiomsCounted (sig : Declared) (p : FormTree) (lists : Lists) : Ty
   pub nodes : nodes_all (trees_of (equality_axioms (symbols (skolem_signature sig p)) lists)) ≤ 4 * axiom_count
       (symbols sig) (term_counts lists)
 
+-- so it is for each sentence that fits the signature
 abbrev pub AxiomsAreCounted : Type 0
 AxiomsAreCounted = (sig : Declared) (p : FormTree) (lists : Lists)
     → AreSorted (symbols sig) → FitsForm (symbols sig) [] p → AreClosed (symbols (skolem_signature sig p)) lists

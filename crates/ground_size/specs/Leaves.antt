@@ -17,23 +17,26 @@ pub record AreLeaves (l : Leaves) (many nodes : ℕ) : Type 0 where
   pub count : l.count ≡ saturated many
   pub conditions : l.conditions ≡ saturated nodes
 
--- the nodes of these conditions, and of those of all leaves
+-- the nodes of these conditions
 abbrev pub nodes_of_each : List ℕ → List FormTree → ℕ
 nodes_of_each counts [] = 0
 nodes_of_each counts (c ∷ cs) = instance_nodes counts c + nodes_of_each counts cs
 
+-- the nodes of the conditions of all leaves
 abbrev pub condition_nodes : {A : Type 0} → List ℕ → List (Leaf A) → ℕ
 condition_nodes counts [] = 0
 condition_nodes counts (l ∷ ls) = nodes_of_each counts l.0 + condition_nodes counts ls
 
--- those of a formula, and of some formulas together
+-- the sizes of a formula
 abbrev pub AreSizesOf : Sizes → List ℕ → FormTree → Type 0
 AreSizesOf s counts p = AreSizes s (instance_nodes counts (normal true p)) (instance_nodes counts (normal false p))
 
+-- the sizes of some formulas together
 abbrev pub AreSizesOfAll : Sizes → List ℕ → FormTrees → Type 0
 AreSizesOfAll s counts ps = AreSizes s (all_instance_nodes counts (normals true ps))
     (all_instance_nodes counts (normals false ps))
 
+-- these leaves, counted
 abbrev pub AreLeavesOf : {A : Type 0} → Leaves → List ℕ → List (Leaf A) → Type 0
 AreLeavesOf l counts ls = AreLeaves l (length ls) (condition_nodes counts ls)
 

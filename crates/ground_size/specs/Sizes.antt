@@ -38,9 +38,11 @@ abbrev pub exchanges : List ℕ → ℕ → List ℕ → ℕ
 exchanges counts tuples [] = 0
 exchanges counts tuples (k ∷ ks) = slice_index counts k * tuples + exchanges counts tuples ks
 
+-- the axioms of one symbol whose arguments are of these sorts
 abbrev pub congruence_axioms : List ℕ → List ℕ → ℕ
 congruence_axioms counts sorts = exchanges counts (tuple_count counts sorts) sorts
 
+-- how many axioms of equality there are
 abbrev pub axiom_count : Symbols → List ℕ → ℕ
 axiom_count sig counts =
     sum_below sig.sorts (λ k. equivalence_axioms (slice_index counts k))

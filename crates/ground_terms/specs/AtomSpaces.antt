@@ -4,6 +4,7 @@ use Rattle.fol_sig.specs.Tables.{Declared}
 use Rattle.fol_sig.specs.Symbols.{symbols}
 use Rattle.ground_terms.specs.AtomNumbers.{relation_atoms, equation_atoms, atom_count}
 
+-- the signature, and how many terms each sort has
 pub record AtomSpace : Type 0 where
   pub signature : Declared
   pub counts : List ℕ
@@ -25,6 +26,7 @@ AreEquationFirsts counts firsts =
 abbrev pub IsEquation : List ℕ → ℕ → ℕ → ℕ → Type 0
 IsEquation counts k x y = (k < length counts) × (x < slice_index counts k) × (y < slice_index counts k)
 
+-- how many atoms stand before those of each relation and of each sort, and whether all have numbers below 2^32
 pub record AreFirsts (s : AtomSpace) (relations equations : List ℕ) (few : Bool) : Type 0 where
   pub counted : length s.counts ≡ s.signature.sorts
   pub relations_first : AreRelationFirsts s relations

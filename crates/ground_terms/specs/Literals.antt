@@ -5,17 +5,19 @@ use Rattle.ground_terms.specs.declared.ground.Junction.TheVariants.{And, Or}
 use Rattle.ground_terms.specs.Same.{holds_in}
 use Rattle.ground_terms.specs.Trees.{Tree, Trees, literal, node, none, part}
 
--- literals, and Ors of literals
+-- each part is a literal
 abbrev pub AreLiterals : Trees → Type 0
 AreLiterals none = Unit {0}
 AreLiterals (part (literal a positive) ps) = AreLiterals ps
 AreLiterals (part (node j qs) ps) = ⊥
 
+-- a literal, or an Or of literals
 abbrev pub IsFlat : Tree → Type 0
 IsFlat (literal a positive) = Unit {0}
 IsFlat (node Or ps) = AreLiterals ps
 IsFlat (node And ps) = ⊥
 
+-- each is a literal or an Or of literals
 abbrev pub AreFlat : List Tree → Type 0
 AreFlat [] = Unit {0}
 AreFlat (p ∷ ps) = IsFlat p × AreFlat ps

@@ -31,6 +31,7 @@ values_in_order sig lists s [] v = v
 values_in_order sig lists s (k ∷ order) v =
     values_in_order sig lists s order (λ q i. if q == k then value_of_term sig s v (term_at lists k i) else v q i)
 
+-- the values of all terms, where the arguments of a sort's terms are of sorts before it in the order
 abbrev pub term_values : Symbols → Lists → List ℕ → Reading → Elements
 term_values sig lists order s = values_in_order sig lists s order (λ k i. 0)
 
@@ -64,6 +65,7 @@ pub record HasValues (sig : Symbols) (lists : Lists) (s : Tables) (v : Elements)
   pub values : AreValues sig lists s v
   pub realises : Realises sig (numbering sig lists) (atoms_in sig (reading s) v) s v
 
+-- so it is for each structure that fits and closed lists, where the sorts have an order
 abbrev pub StructuresGiveValues : Type 0
 StructuresGiveValues = (sig : Symbols) (order : List ℕ) (lists : Lists) (s : Tables)
     → AreSorted sig → IsStrata sig order → AreClosed sig lists → FitsStructure sig s

@@ -11,6 +11,7 @@ pub record IsLed (leaders : List ℕ) : Type 0 where
   pub first : (x : ℕ) → x < length leaders → slice_index leaders x ≤ x
   pub itself : (x : ℕ) → x < length leaders → slice_index leaders (slice_index leaders x) ≡ slice_index leaders x
 
+-- the row of each sort is of such leaders
 abbrev pub AreLed : Rows → Type 0
 AreLed rows = (k : ℕ) → k < length rows → IsLed (row_of rows k)
 

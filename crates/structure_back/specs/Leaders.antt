@@ -10,6 +10,7 @@ pub record IsOwn (n : ℕ) (row : List ℕ) : Type 0 where
   pub long : length row ≡ n
   pub each : (x : ℕ) → x < n → slice_index row x ≡ x
 
+-- rows of these lengths in which each number stands at its own place
 pub record AreOwn (counts : List ℕ) (rows : Rows) : Type 0 where
   pub long : map length rows ≡ counts
   pub each : (k x : ℕ) → x < slice_index counts k → looked_up rows k x ≡ x

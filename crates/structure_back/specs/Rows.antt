@@ -2,9 +2,11 @@
 use Rattle.std.specs.Prelude.{ℕ, List, [], slice_index, slice_index_or, slice_set}
 use Rattle.ground_terms.specs.Values.{Elements}
 
+-- a row of numbers for each sort
 abbrev pub Rows : Type 0
 Rows = List (List ℕ)
 
+-- the row of sort k; an empty one where there is none
 abbrev pub row_of : Rows → ℕ → List ℕ
 row_of rows k = slice_index_or rows k []
 

@@ -59,6 +59,7 @@ pub record AreCells (sig : Symbols) (names : Numbering) (sizes : List ℕ) (v me
       → slice_index cells n ≡ value_at sig names v member f (tuple_at sizes (sig.from_of f) n)
   pub within : (n : ℕ) → n < length cells → slice_index cells n < slice_index sizes (sig.into_of f)
 
+-- at classes a function has the class of its application to their members
 abbrev pub AreFunctionsRead : Symbols → Numbering → Elements → Elements → Tables → Type 0
 AreFunctionsRead sig names v member s = (f : ℕ) (cs : List ℕ) → f < sig.functions → InRange s.sizes (sig.from_of f) cs
     → fun_at s f cs ≡ value_at sig names v member f cs
