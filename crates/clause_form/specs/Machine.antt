@@ -29,7 +29,7 @@ settle_nodes n (f ∷ fs) ls es =
     then settle_nodes n fs (take f.start ls) (es ++ definition f.junction f.own (drop f.start ls))
     else state n (f ∷ fs) ls es
 
--- whatever ends here has ended
+-- each node whose parts are all there has ended, and a formula has where no node is open
 abbrev pub settle : State → State
 settle s = settle_nodes s.numbers s.nodes s.lits s.clauses
 
@@ -45,7 +45,7 @@ act s (a_node j parts) =
     state (with_place s.numbers) (frame j s.numbers parts s.lits ∷ s.nodes)
     (s.lits ++ place_lit s.numbers ∷ []) s.clauses
 
--- what ends before a call ends, and the call is done
+-- one call, behind what ends before it
 abbrev pub step : State → Call → State
 step s call = act (settle s) call
 

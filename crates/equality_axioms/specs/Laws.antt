@@ -58,7 +58,7 @@ pub record AreImplications (axioms : List Tree) : Type 0 where
   pub single : length (all_positives (trees_of axioms)) ≡ length axioms
   pub over : AreOver (all_positives (trees_of axioms)) (trees_of axioms)
 
--- so it is for the axioms over closed lists
+-- each axiom over closed lists is a clause with one positive literal, and no atom stands in negative literals alone
 abbrev pub AxiomsAreImplications : Type 0
 AxiomsAreImplications = (sig : Symbols) (lists : Lists) → AreSorted sig → AreClosed sig lists
     → AreImplications (equality_axioms sig lists)

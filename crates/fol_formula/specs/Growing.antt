@@ -12,7 +12,7 @@ pub record KeepsFitting (sig more : Symbols) : Type 0 where
   pub formulas : (sorts : List ℕ) (p : FormTree) → FitsForm sig sorts p → FitsForm more sorts p
   pub terms : (sorts : List ℕ) (t : TermTree) (k : ℕ) → FitsTerm sig sorts t k → FitsTerm more sorts t k
 
--- so it is for any symbols and those that they grow to
+-- what fits some symbols fits those that they grow to
 abbrev pub FittingIsKept : Type 0
 FittingIsKept = (sig more : Symbols) → Grows sig more → KeepsFitting sig more
 
@@ -21,6 +21,6 @@ pub record ReadsItsOwn (sig : Symbols) (a b : Reading) : Type 0 where
   pub formulas : (p : FormTree) (sorts env : List ℕ) → FitsForm sig sorts p → truth a p env ≡ truth b p env
   pub terms : (t : TermTree) (sorts env : List ℕ) (k : ℕ) → FitsTerm sig sorts t k → value a t env ≡ value b t env
 
--- so it is for any two structures that are read alike
+-- what fits the symbols is equally true, and has equal values, in structures that are read alike at them
 abbrev pub TruthReadsItsOwn : Type 0
 TruthReadsItsOwn = (sig : Symbols) (a b : Reading) → AreReadAlike sig a b → ReadsItsOwn sig a b

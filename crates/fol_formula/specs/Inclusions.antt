@@ -23,7 +23,7 @@ pub record QuantifierFree (p : FormTree) : Type 0 where
   pub exists_forall : (positive : Bool) → IsExistsForall positive p
   pub plain : HasPlainTerms p
 
--- so it is for each formula without quantifiers
+-- each formula without quantifiers is of these fragments
 abbrev pub QuantifierFreeIsUniversal : Type 0
 QuantifierFreeIsUniversal = (p : FormTree) → IsQuantifierFree p → QuantifierFree p
 

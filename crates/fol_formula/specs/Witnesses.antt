@@ -81,15 +81,15 @@ pub record NeedsNoWitness (p : FormTree) : Type 0 where
   pub witnessed : (s : Reading) (witnesses : List ℕ) (at : ℕ) (env : List ℕ)
       → is_witnessed s witnesses at p env ≡ truth s p env
 
--- so it is for each formula without existentials
+-- a formula without existentials needs no witness
 abbrev pub WithoutExistentials : Type 0
 WithoutExistentials = (p : FormTree) → HasNoExistential p → NeedsNoWitness p
 
--- and for the normal form of each universal formula
+-- the normal form of a formula that is universal by polarity needs no witness
 abbrev pub UniversalNeedsNoWitness : Type 0
 UniversalNeedsNoWitness =
     (positive : Bool) (p : FormTree) → IsUniversal positive p → NeedsNoWitness (normal_form positive p)
 
--- and for each universal formula that is in normal form without `ite` already
+-- a universal formula that is in normal form without `ite` needs no witness
 abbrev pub UniversalNormalNeedsNoWitness : Type 0
 UniversalNormalNeedsNoWitness = (p : FormTree) → IsUniversal true p → IsNormalForm p → NeedsNoWitness p

@@ -60,7 +60,7 @@ pub record GrowsSignature (sig : Declared) (ks : List ℕ) : Type 0 where
   pub grows : GrowsBy (symbols sig) ks (symbols (grown sig ks))
   pub signature : IsSignature sig → length sig.functions + length ks < 2 ^ 32 → IsSignature (grown sig ks)
 
--- so it is for each signature and any of its sorts
+-- a signature with functions without arguments behind its own, into its sorts, has grown by them
 abbrev pub SignaturesGrow : Type 0
 SignaturesGrow = (sig : Declared) (ks : List ℕ) → AreSorts sig.sorts ks → GrowsSignature sig ks
 
@@ -69,7 +69,7 @@ pub record GrowsSignatureByRelations (sig : Declared) (rs : List (List ℕ)) : T
   pub grows : GrowsByRelations (symbols sig) rs (symbols (grown_by_relations sig rs))
   pub signature : IsSignature sig → length sig.relations + length rs < 2 ^ 32 → IsSignature (grown_by_relations sig rs)
 
--- so it is for each signature and relations of at most 8 arguments over its sorts
+-- a signature with relations of at most 8 arguments over its sorts behind its own has grown by them
 abbrev pub SignaturesGrowByRelations : Type 0
 SignaturesGrowByRelations = (sig : Declared) (rs : List (List ℕ)) → All (AreSorts sig.sorts) rs
     → All (λ ks. length ks ≤ 8) rs → GrowsSignatureByRelations sig rs
@@ -80,7 +80,7 @@ pub record KeepsSorts (sig more : Symbols) : Type 0 where
   pub strata : (order : List ℕ) → IsStrata sig order → IsStrata more order
   pub strata_before : (order : List ℕ) → IsStrata more order → IsStrata sig order
 
--- so it is for any symbols and those that they grow to
+-- symbols that grow stay sorted, and their sorts have the same orders
 abbrev pub SortsAreKept : Type 0
 SortsAreKept = (sig more : Symbols) → Grows sig more → KeepsSorts sig more
 
@@ -93,7 +93,7 @@ pub record IsExtension (sig more : Symbols) (s : Tables) (ks xs : List ℕ) : Ty
   pub alike : AreReadAlike sig (reading (with_constants s ks xs)) (reading s)
   pub without : reduct sig (with_constants s ks xs) ≡ s
 
--- a structure that fits is so extended by elements of the sorts of the constants
+-- a structure that fits is extended by elements of the sorts of the new constants
 abbrev pub StructuresExtend : Type 0
 StructuresExtend = (sig more : Symbols) (s : Tables) (ks xs : List ℕ)
     → GrowsBy sig ks more → FitsStructure sig s → InRange s.sizes ks xs → IsExtension sig more s ks xs
@@ -103,7 +103,7 @@ pub record IsReduct (sig : Symbols) (t : Tables) : Type 0 where
   pub fits : FitsStructure sig (reduct sig t)
   pub alike : AreReadAlike sig (reading t) (reading (reduct sig t))
 
--- so it is for each structure that fits the grown symbols
+-- a structure that fits the grown symbols has a reduct to the symbols
 abbrev pub StructuresReduce : Type 0
 StructuresReduce = (sig more : Symbols) (t : Tables) → Grows sig more → FitsStructure more t → IsReduct sig t
 
@@ -127,7 +127,7 @@ pub record IsExtensionByTables (sig more : Symbols) (s : Tables) (ts : List Rela
   pub alike : AreReadAlike sig (reading (with_fresh_tables s ts)) (reading s)
   pub without : reduct sig (with_fresh_tables s ts) ≡ s
 
--- a structure that fits is so extended by full tables over the sorts of the relations
+-- a structure that fits is extended by full tables over the sorts of the new relations
 abbrev pub StructuresExtendByTables : Type 0
 StructuresExtendByTables = (sig more : Symbols) (s : Tables) (rs : List (List ℕ)) (ts : List RelationTable)
     → GrowsByRelations sig rs more → FitsStructure sig s → AreTablesOf s.sizes rs ts
@@ -149,6 +149,6 @@ pub record CommutesWithUpdates (sig : Symbols) (t : Tables) : Type 0 where
   pub function : (f : ℕ) (cells : List ℕ) → f < sig.functions
       → reduct sig (with_function_cells t f cells) ≡ with_function_cells (reduct sig t) f cells
 
--- so it is for each reduct, whether or not the structure fits any symbols
+-- a reduct to any symbols commutes with a change of the tables of these symbols
 abbrev pub ReductsCommuteWithUpdates : Type 0
 ReductsCommuteWithUpdates = (sig : Symbols) (t : Tables) → CommutesWithUpdates sig t

@@ -45,6 +45,6 @@ pub record IsItsTuples (s : Tables) (r : ℕ) (f : List ℕ → Bool) : Type 0 w
   pub in_range : are_in_range s.sizes (relation_at s r).sorts (tuples_where s r f) ≡ true
   pub same : with_tuples s r (tuples_where s r f) ≡ with_table s r f
 
--- so it is whatever the truth values are
+-- whatever the truth values, the table of a relation is that of the tuples of which it is true
 abbrev pub TablesAreTuples : Type 0
 TablesAreTuples = (s : Tables) (r : ℕ) (f : List ℕ → Bool) → IsItsTuples s r f

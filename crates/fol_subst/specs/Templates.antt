@@ -61,7 +61,7 @@ abbrev pub InstancesReplaceRelations : Type 0
 InstancesReplaceRelations =
     (r : ℕ) (body : FormTree) (args : TermTrees) → rel_instance (change_rel r body) r args ≡ instance body args
 
--- arguments of the sorts of the parameters
+-- where the arguments have the sorts of the parameters, the instance fits the sorts that the arguments fit
 abbrev pub InstancesFit : Type 0
 InstancesFit = (sig : Symbols) (sorts ks : List ℕ) (body : FormTree) (args : TermTrees) → FitsForm sig (reverse ks) body
     → FitsTerms sig sorts args ks → FitsForm sig sorts (instance body args)

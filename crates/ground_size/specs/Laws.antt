@@ -28,7 +28,7 @@ pub record AreAxiomsCounted (sig : Declared) (p : FormTree) (lists : Lists) : Ty
   pub nodes : nodes_all (trees_of (equality_axioms (symbols (skolem_signature sig p)) lists)) ≤ 4 * axiom_count
       (symbols sig) (term_counts lists)
 
--- so it is for each sentence that fits the signature
+-- the axioms over the closed lists of a sentence with its constants are as many as the counts of terms say
 abbrev pub AxiomsAreCounted : Type 0
 AxiomsAreCounted = (sig : Declared) (p : FormTree) (lists : Lists)
     → AreSorted (symbols sig) → FitsForm (symbols sig) [] p → AreClosed (symbols (skolem_signature sig p)) lists

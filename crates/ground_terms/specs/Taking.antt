@@ -16,7 +16,7 @@ pub record Takes (old new : List Call → Type 0) (whole left : List Call) : Typ
   pub split : some ++ left ≡ whole
   pub taken : (calls : List Call) → old calls → new (calls ++ some)
 
--- all of them
+-- the sink took all of these calls
 abbrev pub TakesAll : (List Call → Type 0) → (List Call → Type 0) → List Call → Type 0
 TakesAll old new whole = Takes old new whole []
 

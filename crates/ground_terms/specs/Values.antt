@@ -65,7 +65,7 @@ pub record HasValues (sig : Symbols) (lists : Lists) (s : Tables) (v : Elements)
   pub values : AreValues sig lists s v
   pub realises : Realises sig (numbering sig lists) (atoms_in sig (reading s) v) s v
 
--- so it is for each structure that fits and closed lists, where the sorts have an order
+-- where the sorts have an order, the terms of closed lists have values in each structure that fits
 abbrev pub StructuresGiveValues : Type 0
 StructuresGiveValues = (sig : Symbols) (order : List ℕ) (lists : Lists) (s : Tables)
     → AreSorted sig → IsStrata sig order → AreClosed sig lists → FitsStructure sig s
