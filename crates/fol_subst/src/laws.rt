@@ -43,8 +43,9 @@ pub fn own_values()
 {}
 
 /// A formula with arguments in the place of its parameters is what a relation becomes that is replaced by it. It fits
-/// where the arguments have the sorts of the parameters, has no quantifier and plain terms where it and they have none,
-/// and does not depend on an argument whose parameter does not stand in it.
+/// where the arguments have the sorts of the parameters, has no quantifier where neither it nor they have one, has no
+/// quantifier inside a term where it has none there and they have none at all, and does not depend on an argument whose
+/// parameter does not stand in it.
 pub fn instance_laws()
     ensures replaced { InstancesReplaceRelations }
     ensures fits { InstancesFit }
