@@ -18,9 +18,11 @@ use Rattle.model_reasons.specs.Idle.{idle_conjectures}
 unfoldable pub next_name : List (List ℕ) → ℕ → List ℕ
 next_name names k = codes ", " ++ name_at names k
 
+-- the needed conjectures behind the first
 abbrev pub more_needs : List (List ℕ) → List Need → List ℕ
 more_needs names needs = flat_map (λ n. next_name names n.conjecture) needs
 
+-- the conjectures of these numbers, behind the first
 abbrev pub more_names : List (List ℕ) → List ℕ → List ℕ
 more_names names ks = flat_map (λ k. next_name names k) ks
 
@@ -29,10 +31,12 @@ abbrev pub needs_text : List (List ℕ) → List Need → List ℕ
 needs_text names [] = codes "no conjecture"
 needs_text names (n ∷ needs) = name_at names n.conjecture ++ more_needs names needs
 
+-- that a goal fails; or the path of the first one that is left open, and the option to raise
 abbrev pub lack_text : Lack → List ℕ
 lack_text (Fails shown) = codes "fails"
 lack_text (Open goal c) = open_at (codes "left open at path ") goal.path c (codes "")
 
+-- by which conjectures a group is carried, or what it lacks where all are held
 abbrev pub carried_text : List (List ℕ) → Carried → List ℕ
 carried_text names (By needs) = codes "by " ++ needs_text names needs
 carried_text names (Not lack) = lack_text lack

@@ -26,6 +26,7 @@ use Rattle.told_report.specs.InText.{TextTold}
 use Rattle.told_report.specs.ExecutionText.{differences_text, state_text, step_text, after_text}
 use Rattle.told_report.specs.ToldText.{fault_text, path_text}
 
+-- the singular for 1 alone
 abbrev pub unit_text : ℕ → List ℕ
 unit_text n = if n == 1 then codes " action" else codes " actions"
 
@@ -49,6 +50,7 @@ part_text m told s part =
     part_head m part ++ step_text m told.lines part.stage part.trace.path s part.trace.havoc
     ++ changes_until m told s part.end
 
+-- where a part ends; where it aborts, the structure in which it begins
 abbrev pub end_or : Tables → Option Tables → Tables
 end_or s None = s
 end_or s (Some end) = end
@@ -74,12 +76,14 @@ broken_text m told k answer.Safe = []
 broken_text m told k (answer.Undecided c) = []
 broken_text m told k (answer.Broken run) = run_text m told k run
 
+-- why a length is left open: it has too many paths, or a goal of it passes a limit
 abbrev pub bound_line : BoundCause → List ℕ
 bound_line (cause.Paths n) =
     numbered (codes "they have ") n
     (codes " paths, more than are followed, whatever the options; leave out actions that the run does not need\n")
 bound_line (cause.Goal place c) = cause_line (codes "") c
 
+-- runs with 2 actions are left open: .., and the option to raise, if one helps
 unfoldable pub open_line : ℕ → BoundCause → List ℕ
 open_line k c = actions_text (codes "runs with ") k (codes " are left open: ") ++ bound_line c
 
@@ -94,6 +98,7 @@ abbrev pub all_broken : ModelTree → TextTold → ℕ → List Length → List 
 all_broken m told k [] = []
 all_broken m told k (l ∷ ls) = broken_text m told k l ++ all_broken m told (k + 1) ls
 
+-- a line for each length from k on that is left open
 abbrev pub all_open : ℕ → List Length → List ℕ
 all_open k [] = []
 all_open k (l ∷ ls) = open_text k l ++ all_open (k + 1) ls
@@ -103,6 +108,7 @@ abbrev pub set_off : List ℕ → List ℕ
 set_off [] = []
 set_off (b ∷ bs) = codes "\n" ++ (b ∷ bs)
 
+-- the first line; k is the last length that was answered
 abbrev pub verdict_line : Verdict → ℕ → List ℕ
 verdict_line verdict.Safe k = actions_text (codes "safe up to ") k (codes "\n")
 verdict_line verdict.NotSafe k = codes "not safe\n"

@@ -31,6 +31,7 @@ drop_head m d =
     ++ stage_text m.names d.shown.goal.stage ++ codes " breaks it"
     ++ path_text d.shown.trace.path (length (stage_paths m d.shown.goal.stage))
 
+-- a conjecture that is dropped, and the execution that breaks it
 unfoldable pub drop_text : ModelTree → TextTold → Dropped → List ℕ
 drop_text m told d = drop_head m d ++ execution_text m told d.shown.goal.about d.shown
 
@@ -43,6 +44,7 @@ abbrev pub open_line : Names → Option (Goal × Cause) → List ℕ
 open_line names None = []
 open_line names (Some first) = undecided_text names first.0.stage first.0.about first.0.path first.1
 
+-- of a model and what is found of its conjectures
 unfoldable pub subset_text : ModelTree → TextTold → Houdini → List ℕ
 subset_text m told h =
     verdict_line (length h.kept) (length m.conjectures) h.unsettled ++ flat_map (drop_text m told) h.dropped

@@ -22,6 +22,7 @@ pub record Definitions : Type 0 where
   pub sorts : List (List ℕ)
   pub bodies : List FormTree
 
+-- the k-th definition, from 0; past the last, no name, no parameters, and a right side that is false
 abbrev pub definition_at : Definitions → ℕ → Derived
 definition_at d k = record {
   name = slice_index_or d.names k [];
@@ -35,6 +36,7 @@ is_true_of s r xs = truth (reading s) r.body (reverse xs)
 
 -- ---- where they stand
 
+-- the derived relations that a draft has so far
 abbrev pub drafted : DraftTree → Definitions
 drafted d = record { names = d.vocabulary.derived_names; sorts = d.vocabulary.derived; bodies = d.bodies }
 
@@ -53,6 +55,7 @@ pub record FitsDerived (sig : Symbols) (r : Derived) : Type 0 where
   pub short : length r.sorts ≤ 8
   pub body : FitsForm sig (reverse r.sorts) r.body
 
+-- there are as many names and right sides as definitions, and each fits the symbols
 pub record FitDefinitions (sig : Symbols) (d : Definitions) : Type 0 where
   pub named : length d.names ≡ length d.sorts
   pub counted : length d.bodies ≡ length d.sorts

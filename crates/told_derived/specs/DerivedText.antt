@@ -39,9 +39,11 @@ flip_text l r xs false true = signed_text l (codes "    + ") r xs
 flip_text l r xs true false = signed_text l (codes "    - ") r xs
 flip_text l r xs true true = []
 
+-- how a derived relation differs at a tuple from the first structure to the second; empty where it does not
 abbrev pub change_text : Labels → Tables → Tables → Derived → List ℕ → List ℕ
 change_text l s t r xs = flip_text l r xs (is_true_of s r xs) (is_true_of t r xs)
 
+-- a line for each tuple at which it differs, in lexicographic order
 abbrev pub change_lines : Labels → Tables → Tables → Derived → List ℕ
 change_lines l s t r = at_tuples s.sizes r.sorts (change_text l s t r)
 

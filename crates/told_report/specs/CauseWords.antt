@@ -8,9 +8,11 @@ use Rattle.told_report.specs.NumberText.{numbered, two_numbered}
 abbrev pub most_terms : ℕ
 most_terms = 100000
 
+-- of --ground, the size of a goal's ground formulas
 abbrev pub most_ground : ℕ
 most_ground = 50000000
 
+-- of --conflicts, the clauses that may be learnt for a goal
 abbrev pub most_conflicts : ℕ
 most_conflicts = 100000000
 

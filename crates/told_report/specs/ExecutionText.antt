@@ -74,6 +74,7 @@ unfoldable pub values_text : Labels → Option FormTree → List ℕ → List �
 values_text l None values = []
 values_text l (Some c) values = elements_text l (codes " of ") (leading_sorts c) values
 
+-- "  after this linked_down is false", where the line may go on
 unfoldable pub claim_text : Names → ℕ → List ℕ
 claim_text names k = labelled (codes "  after this ") (name_at names.conjectures k) (codes " is false")
 
@@ -82,6 +83,7 @@ unfoldable pub false_text : ModelTree → Tables → ℕ → List ℕ → List �
 false_text m s k values =
     claim_text m.names k ++ values_text (labels_of m s) (slice_get m.conjectures k) values ++ codes "\n"
 
+-- that the execution aborts; or that a conjecture is false where it ends, and of which elements
 abbrev pub after_text : ModelTree → Tables → About → List ℕ → List ℕ
 after_text m s about.Abort values = codes "  after this it aborts\n"
 after_text m s (about.Conjecture k) values = false_text m s k values

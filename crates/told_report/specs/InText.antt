@@ -4,6 +4,7 @@ use Rattle.fol_sig.specs.Tables.{Tables}
 use Rattle.rml_command.specs.Models.{ModelTree}
 use Rattle.rml_command.specs.declared.goal.Stage.{Stage}
 
+-- what is asked of the text while a report is told: functions of a path, of a structure, and of two
 pub record TextTold : Type 0 where
   -- the lines of the branches that a path of a stage's block takes, by its number from 1
   pub lines : Stage → ℕ → List ℕ

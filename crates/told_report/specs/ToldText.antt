@@ -45,6 +45,7 @@ abbrev pub least_text : Least → List ℕ
 least_text least.Yes = []
 least_text (least.Stopped bound size c) = cause_line (codes "  there may be a smaller one: ") c
 
+-- what the block does, on which of its paths, whether the structure may be smaller, and the execution
 unfoldable pub failure_text : ModelTree → TextTold → Stage → About → ℕ → Least → Counterexample → List ℕ
 failure_text m told s a paths l shown =
     broken_text m.names s a ++ path_text shown.trace.path paths ++ least_text l ++ execution_text m told a shown
@@ -55,13 +56,16 @@ failing_text m told s a answer.Holds = []
 failing_text m told s a (answer.Fails paths l shown) = failure_text m told s a paths l shown
 failing_text m told s a (answer.Undecided path c) = []
 
+-- empty where the group holds or is left open
 abbrev pub group_failing : ModelTree → TextTold → Group → List ℕ
 group_failing m told g = failing_text m told g.stage g.about g.answer
 
+-- action connect linked_down is left open at path 1: .., and the option to raise
 unfoldable pub undecided_text : Names → Stage → About → ℕ → Cause → List ℕ
 undecided_text names s a path c =
     head_text names s a ++ open_at (codes " is left open at path ") path c (codes "\n")
 
+-- action connect breaks linked_down, in a line
 unfoldable pub failed_line : Names → Stage → About → List ℕ
 failed_line names s a = stage_text names s ++ fault_text names a ++ codes "\n"
 
@@ -71,9 +75,11 @@ summary_text names s a answer.Holds = []
 summary_text names s a (answer.Fails paths l shown) = failed_line names s a
 summary_text names s a (answer.Undecided path c) = undecided_text names s a path c
 
+-- the line of a group at the end of the report; empty where it holds
 abbrev pub group_summary : Names → Group → List ℕ
 group_summary names g = summary_text names g.stage g.about g.answer
 
+-- 1 where the group holds, else 0
 abbrev pub held_by : Answer → ℕ
 held_by answer.Holds = 1
 held_by (answer.Fails paths l shown) = 0
@@ -88,6 +94,7 @@ held (g ∷ gs) = held_by g.answer + held gs
 unfoldable pub count_line : List Group → List ℕ
 count_line gs = two_numbered (codes "") (held gs) (codes " of ") (length gs) (codes " groups hold\n")
 
+-- the first line of the report
 abbrev pub verdict_line : Verdict → List ℕ
 verdict_line verdict.Inductive = codes "inductive\n"
 verdict_line verdict.NotInductive = codes "not inductive\n"

@@ -28,6 +28,7 @@ cell_text l s (symbol.Relation r) xs = if rel_at s r.0 xs then true_text l s (sy
 cell_text l s (symbol.Function f) xs =
     value_text l s (symbol.Function f) xs (function_at s f.0).into (fun_at s f.0 xs)
 
+-- of a relation the atoms that are true, of a function or variable each value, each behind a comma
 abbrev pub facts_text : Labels → Tables → Symbol → List ℕ
 facts_text l s q = cells_text s (cell_text l s) q
 
@@ -54,6 +55,7 @@ separator (suc k) = codes ", "
 unfoldable pub sort_text : Names → ℕ → ℕ → List ℕ
 sort_text names k size = separator k ++ decimal size ++ codes " " ++ name_at names.sorts k
 
+-- the line "  before: 2 client, 1 server", and below it the structure, its elements by their names
 unfoldable pub before_text : ModelTree → Tables → List ℕ
 before_text m s =
     codes "  before" ++ join_below (length s.sizes) (λ k. sort_text m.names k (size_at s k)) ++ codes "\n"

@@ -29,6 +29,7 @@ moved_text l s q xs k old new =
 abbrev pub move_text : Labels → Tables → Symbol → List ℕ → ℕ → ℕ → ℕ → List ℕ
 move_text l s q xs k old new = if old == new then [] else moved_text l s q xs k old new
 
+-- how a symbol differs at a tuple from the first structure to the second; empty where it does not
 abbrev pub change_text : Labels → Tables → Tables → Symbol → List ℕ → List ℕ
 change_text l s t (symbol.Relation r) xs =
     flip_text l s (symbol.Relation r) xs (rel_at s r.0 xs) (rel_at t r.0 xs)
@@ -44,5 +45,6 @@ abbrev pub below_changes : List ℕ → List ℕ
 below_changes [] = codes "  changes nothing\n"
 below_changes (b ∷ bs) = codes "  changes\n" ++ (b ∷ bs)
 
+-- how the second structure differs from the first; elements have the names that they have in the first
 abbrev pub changes_text : ModelTree → Tables → Tables → List ℕ
 changes_text m s t = below_changes (change_lines (labels_of m s) s t)

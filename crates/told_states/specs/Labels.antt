@@ -14,6 +14,7 @@ use Rattle.rml_command.specs.declared.names.Names.{Names}
 use Rattle.told_states.specs.SymbolText.{is_variable, function_symbol}
 use Rattle.told_states.specs.declared.label.Label.{Label}
 
+-- the names of a model's symbols, and a label for each element of a listed sort
 pub record Labels : Type 0 where
   pub names : Names
   pub labels : List Label
@@ -30,6 +31,7 @@ label_of s f = record {
 abbrev pub is_name : Declared → Tables → ℕ → Bool
 is_name sig s f = is_listed sig f && is_variable (function_symbol f) (arguments_of s (function_symbol f))
 
+-- the label of the function f in a list of one; none where f is not such a name
 abbrev pub labels_at : Declared → Tables → ℕ → List Label
 labels_at sig s f = if is_name sig s f then label_of s f ∷ [] else []
 
@@ -37,6 +39,7 @@ labels_at sig s f = if is_name sig s f then label_of s f ∷ [] else []
 abbrev pub labels_of : ModelTree → Tables → Labels
 labels_of m s = record { names = m.names; labels = join_below (length s.functions) (labels_at m.signature s) }
 
+-- whether the function of this number names an element
 abbrev pub is_among : List Label → ℕ → Bool
 is_among labels f = list_any (λ l. l.name.0 == f) labels
 

@@ -26,6 +26,7 @@ at_tuples sizes ks text = join_below (tuple_count sizes ks) (λ n. text (tuple_a
 abbrev pub relation_symbol : ℕ → Symbol
 relation_symbol r = symbol.Relation (record { 0 = r })
 
+-- a function or variable, by its number
 abbrev pub function_symbol : ℕ → Symbol
 function_symbol f = symbol.Function (record { 0 = f })
 
@@ -39,5 +40,6 @@ symbols_of s =
 abbrev pub cells_text : Tables → (Symbol → List ℕ → List ℕ) → Symbol → List ℕ
 cells_text s text q = at_tuples s.sizes (arguments_of s q) (text q)
 
+-- the relations first
 abbrev pub all_cells : Tables → (Symbol → List ℕ → List ℕ) → List ℕ
 all_cells s text = flat_map (cells_text s text) (symbols_of s)
