@@ -22,9 +22,11 @@ number_text n = codes " `choose` takes branch " ++ decimal n
 unfoldable pub count_text : ℕ → List ℕ
 count_text n = codes " of " ++ decimal n ++ codes "\n"
 
+-- the way of a `choose`, to the end of its line
 abbrev pub branch_text : Branch → List ℕ
 branch_text b = number_text b.number ++ count_text b.count
 
+-- which way a path goes at a mark, to the end of the line
 unfoldable pub turn_text : Turn → List ℕ
 turn_text turns.AssertFails = codes " the `assert` fails\n"
 turn_text turns.AssertPasses = codes " the `assert` is passed\n"
@@ -32,6 +34,7 @@ turn_text turns.IfHolds = codes " the condition of `if` is true\n"
 turn_text turns.IfFails = codes " the condition of `if` is false\n"
 turn_text (turns.Takes b) = branch_text b
 
+-- a line: the line and the column of a mark in the text, and its way
 abbrev pub mark_text : List ℕ → Mark → List ℕ
 mark_text text k = place_text text k.at ++ turn_text k.turn
 

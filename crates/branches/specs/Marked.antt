@@ -18,6 +18,7 @@ pub record MarkedPath : Type 0 where
   pub primitives : List PrimitiveTree
   pub marks : List Mark
 
+-- primitives without a mark
 abbrev pub unmarked : List PrimitiveTree → MarkedPath
 unmarked qs = record { primitives = qs; marks = [] }
 
@@ -25,6 +26,7 @@ unmarked qs = record { primitives = qs; marks = [] }
 abbrev pub marked : ℕ → Turn → List PrimitiveTree → MarkedPath
 marked at t qs = record { primitives = qs; marks = record { at = at; turn = t } ∷ [] }
 
+-- one path behind the other
 abbrev pub joined : MarkedPath → MarkedPath → MarkedPath
 joined p q = record { primitives = p.primitives ++ q.primitives; marks = p.marks ++ q.marks }
 

@@ -15,6 +15,7 @@ use Rattle.branches.specs.Marked.{branch_count}
 abbrev pub most : ℕ
 most = 2 ^ 64 - 1
 
+-- a sum, but not above the greatest count
 abbrev pub sum : ℕ → ℕ → ℕ
 sum a b = min (a + b) most
 
@@ -49,9 +50,11 @@ pub record Found : Type 0 where
 abbrev pub found : List Mark → Option ℕ → Found
 found marks next = record { marks = marks; next = next }
 
+-- the one mark of a way that is taken at a place
 abbrev pub mark : ℕ → Turn → List Mark
 mark at t = record { at = at; turn = t } ∷ []
 
+-- what is found behind these marks, with them in front
 abbrev pub behind : List Mark → Found → Found
 behind marks f = found (marks ++ f.marks) f.next
 
@@ -59,13 +62,16 @@ behind marks f = found (marks ++ f.marks) f.next
 abbrev pub Adds : Found → List Mark → List Mark → Option ℕ → Type 0
 Adds f old new next = (new ≡ old ++ f.marks) × (next ≡ f.next)
 
+-- after these marks the way goes on as the rest says, or ends where there is no number
 abbrev pub going_on : List Mark → Option ℕ → (ℕ → Found) → Found
 going_on marks None rest = found marks None
 going_on marks (Some k) rest = behind marks (rest k)
 
+-- after what is found the way goes on by the number that it leaves
 abbrev pub then_along : Found → (ℕ → Found) → Found
 then_along f rest = going_on f.marks f.next rest
 
+-- the way of number 0 fails at the `assert` and ends there; each other one passes it
 abbrev pub assert_along : ℕ → ℕ → Found
 assert_along at k =
     if k == 0 then found (mark at turns.AssertFails) None else found (mark at turns.AssertPasses) (Some (k - 1))
@@ -95,30 +101,37 @@ abbrev mutual
 
 -- ---- the block of a stage, without the model before it
 
+-- the block of an `init` in the place of what was found before
 abbrev pub init_in : List CommandTree → ItemTree → List CommandTree
 init_in found (Init at cs) = cs
 init_in found _ = found
 
+-- the block of the last `init`, or what was found before
 abbrev pub last_init : List CommandTree → List ItemTree → List CommandTree
 last_init found [] = found
 last_init found (item ∷ items) = last_init (init_in found item) items
 
+-- the block of a `final` in the place of what was found before
 abbrev pub final_in : List CommandTree → ItemTree → List CommandTree
 final_in found (Final at cs) = cs
 final_in found _ = found
 
+-- the block of the last `final`, or what was found before
 abbrev pub last_final : List CommandTree → List ItemTree → List CommandTree
 last_final found [] = found
 last_final found (item ∷ items) = last_final (final_in found item) items
 
+-- the block of an action in a list of one; none of another item
 abbrev pub action_of : ItemTree → List (List CommandTree)
 action_of (Action name cs) = cs ∷ []
 action_of _ = []
 
+-- the blocks of the actions, in order
 abbrev pub actions_of : List ItemTree → List (List CommandTree)
 actions_of [] = []
 actions_of (item ∷ items) = action_of item ++ actions_of items
 
+-- the block of a stage; `init` and `final` are empty where there is none
 abbrev pub stage_commands : List ItemTree → Stage → Option (List CommandTree)
 stage_commands items stage.Init = Some (last_init [] items)
 stage_commands items (stage.Action a) = slice_get (actions_of items) a

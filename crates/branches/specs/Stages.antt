@@ -22,10 +22,12 @@ abbrev pub init_or : Located → DraftTree → ItemTree → Located
 init_or found d (Init at cs) = located d cs
 init_or found d _ = found
 
+-- a `final` in the place of what stood before
 abbrev pub final_or : Located → DraftTree → ItemTree → Located
 final_or found d (Final at cs) = located d cs
 final_or found d _ = found
 
+-- the block of an action, in a list of one; none of another item
 abbrev pub action_in : DraftTree → ItemTree → List Located
 action_in d (Action name cs) = located d cs ∷ []
 action_in d _ = []
@@ -36,10 +38,12 @@ module _ (text : List ℕ) where
   init_behind found d [] = found
   init_behind found d (item ∷ items) = init_behind (init_or found d item) (draft_with text d item) items
 
+  -- the last `final` of the items behind a draft
   abbrev pub final_behind : Located → DraftTree → List ItemTree → Located
   final_behind found d [] = found
   final_behind found d (item ∷ items) = final_behind (final_or found d item) (draft_with text d item) items
 
+  -- the blocks of the actions among the items behind a draft, in order
   abbrev pub actions_behind : DraftTree → List ItemTree → List Located
   actions_behind d [] = []
   actions_behind d (item ∷ items) = action_in d item ++ actions_behind (draft_with text d item) items
@@ -50,6 +54,7 @@ module _ (text : List ℕ) where
   located_block items (stage.Action a) = slice_get (actions_behind empty_draft items) a
   located_block items stage.Final = Some (final_behind (located empty_draft []) empty_draft items)
 
+  -- the marked paths of a block; none where there is no block
   abbrev pub marked_of : Option Located → List MarkedPath
   marked_of None = []
   marked_of (Some b) = marked_block text b.before (block_of b.commands)
@@ -58,6 +63,7 @@ module _ (text : List ℕ) where
   abbrev pub stage_marked : List ItemTree → Stage → List MarkedPath
   stage_marked items s = marked_of (located_block items s)
 
+-- the marks of a path; none where there is no path
 abbrev pub marks_in : Option MarkedPath → List Mark
 marks_in None = []
 marks_in (Some p) = p.marks

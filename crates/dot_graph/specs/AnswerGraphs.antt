@@ -35,6 +35,7 @@ abbrev pub end_graph : ℕ → Names → Stage → Option Tables → List ℕ
 end_graph n names stage None = []
 end_graph n names stage (Some end) = state_graph n (stage_text names stage) names end
 
+-- the ends of these parts, the first with this number
 abbrev pub part_graphs : ℕ → ModelTree → List Part → List ℕ
 part_graphs n m [] = []
 part_graphs n m (part ∷ parts) = end_graph n m.names part.stage part.end ++ part_graphs (n + 1) m parts

@@ -10,15 +10,18 @@ use Rattle.fol_sig.specs.declared.symbol.Symbol.{Symbol}
 use Rattle.fol_sig.specs.declared.symbol.Symbol.TheVariants as symbol
 use Rattle.dot_graph.specs.NodeText.{node_id}
 
+-- the attributes of what differs in the other structure; none of what does not
 unfoldable pub colour_text : Bool → List ℕ
 colour_text true = codes "color=red, fontcolor=red, "
 colour_text false = []
 
+-- an edge from one node to another, with a name at it
 unfoldable pub edge_line : List ℕ → List ℕ → List ℕ → Bool → List ℕ
 edge_line a b name changed =
     codes "    " ++ a ++ codes " -> " ++ b ++ codes " [" ++ colour_text changed ++ codes "label=<" ++ name
     ++ codes ">];\n"
 
+-- a box with a symbol's name
 unfoldable pub small_node : List ℕ → List ℕ → Bool → List ℕ
 small_node id name changed =
     codes "    " ++ id ++ codes " [" ++ colour_text changed ++ codes "shape=box, label=<" ++ name ++ codes ">];\n"
@@ -30,6 +33,7 @@ place_edges letter id n (k ∷ ks) [] changed = []
 place_edges letter id n (k ∷ ks) (x ∷ xs) changed =
     edge_line id (node_id letter k x) (decimal n) changed ++ place_edges letter id (n + 1) ks xs changed
 
+-- a small node, with an edge to each element of the tuple
 unfoldable pub hub_text : List ℕ → List ℕ → List ℕ → List ℕ → List ℕ → Bool → List ℕ
 hub_text letter id name ks xs changed = small_node id name changed ++ place_edges letter id 1 ks xs changed
 
@@ -42,6 +46,7 @@ pair_text letter id name k x (j ∷ []) (y ∷ ys) changed =
 pair_text letter id name k x (j ∷ i ∷ js) (y ∷ ys) changed =
     hub_text letter id name (k ∷ j ∷ i ∷ js) (x ∷ y ∷ ys) changed
 
+-- a tuple of these sorts; nothing of one element alone, which is a mark at its node
 abbrev pub tuple_text : List ℕ → List ℕ → List ℕ → List ℕ → List ℕ → Bool → List ℕ
 tuple_text letter id name [] xs changed = small_node id name changed
 tuple_text letter id name (k ∷ ks) [] changed = []
@@ -57,6 +62,7 @@ abbrev pub symbol_id : Symbol → List ℕ
 symbol_id (symbol.Relation r) = codes "r" ++ decimal r.0
 symbol_id (symbol.Function f) = codes "f" ++ decimal f.0
 
+-- the small node of a tuple, by the letter of the structure, the symbol and the elements
 unfoldable pub hub_id : List ℕ → Symbol → List ℕ → List ℕ
 hub_id letter q xs = letter ++ symbol_id q ++ digits_text xs
 

@@ -10,6 +10,7 @@ use Rattle.rml_report.specs.ReportText.{head_text, outcome_of}
 use Rattle.dot_graph.specs.NodeText.{frames_text}
 use Rattle.dot_graph.specs.EdgeText.{edges_text}
 
+-- the frame and the title of one structure of a picture
 unfoldable pub side_head : List ℕ → List ℕ → List ℕ
 side_head letter title =
     codes "  subgraph cluster_" ++ letter ++ codes " {\n" ++ codes "    label=<" ++ title ++ codes ">;\n"

@@ -33,6 +33,7 @@ is_only [] k = false
 is_only (j ∷ []) k = j == k
 is_only (j ∷ i ∷ js) k = false
 
+-- a function without arguments is a variable
 abbrev pub is_none : List ℕ → Bool
 is_none [] = true
 is_none (k ∷ ks) = false
@@ -49,10 +50,12 @@ variable_mark names s t k x f =
     if is_none (function_at s f).sorts && ((function_at s f).into == k)
     then so_text (name_at names.functions f) (x == fun_at s f []) (x == fun_at t f []) else []
 
+-- the mark of a symbol at the element x of sort k, if it can have one there
 abbrev pub symbol_mark : Names → Tables → Tables → ℕ → ℕ → Symbol → List ℕ
 symbol_mark names s t k x (symbol.Relation r) = relation_mark names s t k x r.0
 symbol_mark names s t k x (symbol.Function f) = variable_mark names s t k x f.0
 
+-- all marks of an element, those of relations first
 abbrev pub marks_text : Names → Tables → Tables → ℕ → ℕ → List ℕ
 marks_text names s t k x = flat_map (symbol_mark names s t k x) (symbols_of s)
 
@@ -62,9 +65,11 @@ node_line letter names s t k x =
     codes "      " ++ node_id letter k x ++ codes " [label=<" ++ element_text names k x ++ marks_text names s t k x
     ++ codes ">];\n"
 
+-- the sort's name, as the title of its frame
 unfoldable pub frame_title : Names → ℕ → List ℕ
 frame_title names k = labelled (codes "      label=<") (name_at names.sorts k) (codes ">;\n")
 
+-- what a sort's frame begins with
 unfoldable pub frame_head : List ℕ → Names → ℕ → List ℕ
 frame_head letter names k =
     codes "    subgraph cluster_" ++ letter ++ decimal k ++ codes " {\n" ++ frame_title names k
@@ -74,5 +79,6 @@ unfoldable pub sort_frame : List ℕ → Names → Tables → Tables → ℕ →
 sort_frame letter names s t k =
     frame_head letter names k ++ join_below (size_at s k) (node_line letter names s t k) ++ codes "    }\n"
 
+-- a frame for each sort, in order
 abbrev pub frames_text : List ℕ → Names → Tables → Tables → List ℕ
 frames_text letter names s t = join_below (length s.sizes) (sort_frame letter names s t)

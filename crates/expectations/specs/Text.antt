@@ -13,9 +13,11 @@ abbrev pub spelling : {A : Type 0} → (A → Bool) → List (List ℕ × A) →
 spelling p [] = []
 spelling p (row ∷ rows) = if p row.1 then row.0 else spelling p rows
 
+-- a reserved word as it is written
 unfoldable pub word_text : Word → List ℕ
 word_text w = spelling (λ v. word_number v == word_number w) words
 
+-- a sign as it is written
 unfoldable pub sign_text : Sign → List ℕ
 sign_text s = spelling (λ t. sign_number t == sign_number s) signs
 

@@ -12,10 +12,12 @@ use Rattle.rml_lex.specs.declared.token.Fault.{Fault}
 abbrev pub line_before : List ℕ → ℕ → List ℕ
 line_before text at = after_last (λ b. b == 10) (take at text)
 
+-- the bytes in front of the first line feed, or all where there is none
 abbrev pub up_to_end : List ℕ → List ℕ
 up_to_end [] = []
 up_to_end (b ∷ bs) = if b == 10 then [] else b ∷ up_to_end bs
 
+-- from a place to the end of its line; none where the place is at a line feed or behind the text
 abbrev pub line_from : List ℕ → ℕ → List ℕ
 line_from text at = up_to_end (drop at text)
 
@@ -44,6 +46,7 @@ unfoldable pub caret_line : List ℕ → ℕ → List ℕ
 caret_line text at =
     blanks (length (decimal (line_of text at))) ++ codes " | " ++ blanks (column_of text at - 1) ++ codes "^\n"
 
+-- by the file's name and the model's text
 unfoldable pub diagnostic_text : List ℕ → List ℕ → Fault → List ℕ
 diagnostic_text file text fault =
     head_line file text fault ++ source_line text fault.at ++ caret_line text fault.at

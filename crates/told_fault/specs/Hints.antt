@@ -164,6 +164,7 @@ abbrev pub first_begun : List (List ℕ × Hint) → List ℕ → Option Hint
 first_begun [] bytes = None
 first_begun (row ∷ rows) bytes = if starts_with nat_eq bytes row.0 then Some row.1 else first_begun rows bytes
 
+-- a pattern without bytes, which fits every word
 abbrev pub is_any : List ℕ → Bool
 is_any [] = true
 is_any (b ∷ bytes) = false
@@ -185,6 +186,7 @@ begins_with word.Remove = true
 begins_with word.Put = true
 begins_with _ = false
 
+-- a command begins with a name or with one of these words
 abbrev pub begins_command : Kind → Bool
 begins_command kind.Name = true
 begins_command (kind.Word w) = begins_with w
@@ -211,6 +213,7 @@ round_at text at earlier before (t ∷ ts) =
     if nat_lt t.start at then round_at text at before (word_of text t) ts
     else record { earlier = earlier; before = before; here = word_of text t; begins = begins_command t.kind }
 
+-- the sign that stands between two commands
 abbrev pub is_separator : Sign → Bool
 is_separator sign.Semicolon = true
 is_separator _ = false
@@ -219,14 +222,17 @@ abbrev pub is_semicolon : Kind → Bool
 is_semicolon (kind.Sign s) = is_separator s
 is_semicolon _ = false
 
+-- whether a `;` is among these kinds
 abbrev pub may_separate : List Kind → Bool
 may_separate [] = false
 may_separate (k ∷ ks) = is_semicolon k || may_separate ks
 
+-- the hint that is there; or, where there is none and a `;` is missing, that one
 abbrev pub or_semicolon : Option Hint → Bool → Option Hint
 or_semicolon (Some h) missing = Some h
 or_semicolon None missing = if missing then Some hint.Semicolon else None
 
+-- the first hint, or the second where there is no first
 abbrev pub or_else : Option Hint → Option Hint → Option Hint
 or_else (Some h) other = Some h
 or_else None other = other
@@ -242,6 +248,7 @@ byte_hint text at = or_else (first_begun pair_rows (drop (at - 1) text)) (first_
 abbrev pub hint_of : Round → List Kind → Option Hint
 hint_of round kinds = or_semicolon (first_fitting token_rows round) (round.begins && may_separate kinds)
 
+-- of what stands round the place of an unexpected token, where these kinds may stand
 abbrev pub token_hint : List ℕ → List Token → ℕ → List Kind → Option Hint
 token_hint text tokens at kinds = hint_of (round_at text at [] [] tokens) kinds
 

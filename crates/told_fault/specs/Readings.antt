@@ -24,6 +24,7 @@ abbrev pub advice_at : FaultCode → List ℕ → ℕ → Option Hint
 advice_at code.BadByte text at = byte_hint text at
 advice_at _ text at = None
 
+-- the hint for a fault of a text's bytes
 abbrev pub byte_advice : List ℕ → Fault → Option Hint
 byte_advice text fault = advice_at fault.code text fault.at
 
@@ -47,6 +48,7 @@ abbrev pub hint_line : Option Hint → List ℕ
 hint_line None = []
 hint_line (Some hint) = codes "  = hint: " ++ words_of hint ++ codes "\n"
 
+-- which kinds of token may stand at the fault, where one is unexpected, and a hint
 abbrev pub advice_text : List ℕ → Fault → Reading → List ℕ
 advice_text text fault (NoTokens hint) = hint_line hint
 advice_text text fault (Unexpected kinds hint) = expected_text kinds ++ hint_line hint
