@@ -39,6 +39,7 @@ part_data m start part =
     ∷ (codes "takes", takes_along m.names start (part_path m part) part.trace.havoc)
     ∷ (codes "end", end_data m.names part.end) ∷ [])
 
+-- {"kind":"paths","number":5000}; or the cause of a goal that is left open
 abbrev pub bound_cause_data : BoundCause → Data
 bound_cause_data (cause.Paths n) = counted_data (codes "paths") n
 bound_cause_data (cause.Goal place c) = cause_data c
@@ -54,6 +55,7 @@ length_members m (answer.Broken run) =
     (codes "parts", list_data (map (part_data m run.start) run.parts))
     ∷ (codes "values", numbers_data run.values) ∷ []
 
+-- what is answered of the runs with k actions
 unfoldable pub length_data : ModelTree → ℕ → Length → Data
 length_data m k l = object_of ((codes "steps", number_data k) ∷ length_members m l)
 

@@ -37,10 +37,12 @@ open_data names goal cause =
     object_of ((codes "stage", stage_data names goal.stage) ∷ (codes "about", about_data names goal.about)
     ∷ (codes "path", number_data goal.path) ∷ (codes "cause", cause_data cause) ∷ [])
 
+-- null where no goal is left open
 abbrev pub unsettled_data : Names → Option (Goal × Cause) → Data
 unsettled_data names None = null
 unsettled_data names (Some first) = open_data names first.0 first.1
 
+-- the kept conjectures are the greatest inductive set where no goal of theirs is left open
 abbrev pub verdict_data : Option (Goal × Cause) → Data
 verdict_data None = string (codes "greatest")
 verdict_data (Some first) = string (codes "undecided")

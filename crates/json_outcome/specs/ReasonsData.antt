@@ -30,11 +30,13 @@ need_data m n =
     object_of ((codes "conjecture", name_data m.names.conjectures n.conjecture) ∷ (codes "without", lack_data m n.lack)
     ∷ [])
 
+-- the conjectures that carry a group, or what it lacks where all are held
 abbrev pub carried_members : ModelTree → Carried → List (List ℕ × Data)
 carried_members m (By needs) =
     (codes "carried", boolean true) ∷ (codes "needs", list_data (map (need_data m) needs)) ∷ []
 carried_members m (Not lack) = (codes "carried", boolean false) ∷ (codes "lack", lack_data m lack) ∷ []
 
+-- a group, and what carries it
 unfoldable pub reason_data : ModelTree → Reason → Data
 reason_data m r =
     object_of ((codes "stage", stage_data m.names r.stage) ∷ (codes "about", about_data m.names r.about)

@@ -36,6 +36,7 @@ answer_members m answer.Holds branches = (codes "answer", string (codes "holds")
 answer_members m (answer.Fails paths l shown) branches = failing_members m paths l shown branches
 answer_members m (answer.Undecided path cause) branches = undecided_members path cause
 
+-- a group and its answer; the branches are told of one that fails
 unfoldable pub group_data : ModelTree → Group → Data → Data
 group_data m g branches =
     object_of ((codes "stage", stage_data m.names g.stage) ∷ (codes "about", about_data m.names g.about)
@@ -51,12 +52,15 @@ abbrev pub groups_data : ModelTree → List Group → List Data → List Data
 groups_data m [] branches = []
 groups_data m (g ∷ gs) branches = group_data m g (first_or_null branches) ∷ groups_data m gs (drop 1 branches)
 
+-- whether some structure satisfies the axioms is left open, for this cause
 unfoldable pub open_data : Cause → Data
 open_data cause = object_of ((codes "answer", string (codes "undecided")) ∷ (codes "cause", cause_data cause) ∷ [])
 
+-- {"answer":"consistent"}
 unfoldable pub settled_data : List ℕ → Data
 settled_data answer = object_of ((codes "answer", string answer) ∷ [])
 
+-- whether some structure satisfies the axioms
 abbrev pub axioms_data : Axioms → Data
 axioms_data axioms.Consistent = settled_data (codes "consistent")
 axioms_data axioms.Inconsistent = settled_data (codes "inconsistent")

@@ -62,6 +62,7 @@ count_of s listed.Sorts = length s.sizes
 count_of s listed.Relations = length s.relations
 count_of s listed.Functions = length s.functions
 
+-- a sort with its size, or a relation or function with its cells
 abbrev pub item_data : Names → Tables → Listed → ℕ → Data
 item_data names s listed.Sorts k = sort_data names k (size_at s k)
 item_data names s listed.Relations r = relation_data names s r
@@ -71,6 +72,7 @@ item_data names s listed.Functions f = function_data names s f
 abbrev pub items_data : Names → Tables → Listed → Data
 items_data names s l = list_data (join_below (count_of s l) (λ k. item_data names s l k ∷ []))
 
+-- {"sorts":[..],"relations":[..],"functions":[..]}
 unfoldable pub structure_data : Names → Tables → Data
 structure_data names s =
     object_of ((codes "sorts", items_data names s listed.Sorts)

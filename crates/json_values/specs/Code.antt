@@ -11,13 +11,16 @@ use Rattle.serde_json.specs.Data.{Items, no_items, item, Members, no_members, me
 abbrev pub Mark : Type 0
 Mark = ℕ × (List ℕ × (ℤ × Float))
 
+-- a mark with bytes or a number, and neither integer nor float
 abbrev pub plain_mark : ℕ → List ℕ → Mark
 plain_mark kind bytes = (kind, (bytes, (pos 0, nan)))
 
+-- each truth value is a kind of its own
 abbrev pub truth_mark : Bool → Mark
 truth_mark false = plain_mark 1 []
 truth_mark true = plain_mark 2 []
 
+-- each sort of number is a kind of its own
 abbrev pub number_mark : Num → Mark
 number_mark (unsigned n) = plain_mark 3 (n ∷ [])
 number_mark (negative z) = (4, ([], (z, nan)))
@@ -41,26 +44,32 @@ abbrev mutual
   encode_members no_members rest = plain_mark 11 [] ∷ rest
   encode_members (member k d ms) rest = plain_mark 12 k ∷ encode d (encode_members ms rest)
 
+-- what marks stand for: a value, or all items or members from some one on
 pub data Piece : Type 0 where
   a_value : Data → Piece
   some_items : Items → Piece
   some_members : Members → Piece
 
+-- pieces that are decoded, that of the first mark on top
 abbrev pub Stack : Type 0
 Stack = List Piece
 
+-- goes on with the value on top; nothing where there is none
 abbrev pub on_value : Stack → (Data → Stack → Stack) → Stack
 on_value (a_value d ∷ rest) go = go d rest
 on_value _ go = []
 
+-- goes on with the items on top; nothing where there are none
 abbrev pub on_items : Stack → (Items → Stack → Stack) → Stack
 on_items (some_items ds ∷ rest) go = go ds rest
 on_items _ go = []
 
+-- goes on with the members on top; nothing where there are none
 abbrev pub on_members : Stack → (Members → Stack → Stack) → Stack
 on_members (some_members ms ∷ rest) go = go ms rest
 on_members _ go = []
 
+-- the first number, or 0
 abbrev pub first_of : List ℕ → ℕ
 first_of [] = 0
 first_of (n ∷ ns) = n
@@ -82,10 +91,12 @@ apply kind s z x rest =
     else if kind == 11 then some_members no_members ∷ rest
     else on_value rest (λ d rest. on_members rest (λ ms rest. some_members (member s d ms) ∷ rest))
 
+-- what the marks stand for, from the last to the first
 abbrev pub decode : List Mark → Stack
 decode [] = []
 decode (t ∷ ts) = apply t.0 t.1.0 t.1.1.0 t.1.1.1 (decode ts)
 
+-- decoding gives back what was encoded, on top of what the marks behind it stand for
 mutual
   pub decode-value : (d : Data) (rest : List Mark) → decode (encode d rest) ≡ a_value d ∷ decode rest
   decode-value null rest = refl
@@ -111,10 +122,12 @@ mutual
       ap (apply 12 k (pos 0) nan)
       (decode-value d (encode_members ms rest) ∙ ap (λ s. a_value d ∷ s) (decode-members ms rest))
 
+-- the value on top, or null
 abbrev pub first_value : Stack → Data
 first_value (a_value d ∷ rest) = d
 first_value _ = null
 
+-- the members on top, or none
 abbrev pub first_members : Stack → Members
 first_members (some_members ms ∷ rest) = ms
 first_members _ = no_members
@@ -122,11 +135,13 @@ first_members _ = no_members
 abbrev pub marks_code : Coded (List Mark)
 marks_code = coded_list (coded× coded_ℕ (coded× (coded_list coded_ℕ) (coded× coded_ℤ coded_float)))
 
+-- data is coded as its marks
 abbrev pub data_code : Coded Data
 data_code =
     code_by (List Mark) marks_code (λ d. encode d []) (λ ts. first_value (decode ts))
     (λ d. ap first_value (decode-value d []))
 
+-- members are coded as their marks
 abbrev pub members_code : Coded Members
 members_code =
     code_by (List Mark) marks_code (λ ms. encode_members ms []) (λ ts. first_members (decode ts))

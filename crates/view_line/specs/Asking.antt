@@ -26,6 +26,7 @@ pub data Query : Type 0 where
   of_why : Text → Asked → Query
   of_replay : Text → Text → Query
 
+-- the question that a value of the program stands for
 abbrev pub question_line : Question → Query
 question_line (question.Check file asked) = of_check file.now asked
 question_line (question.Houdini file asked) = of_houdini file.now asked
@@ -33,11 +34,13 @@ question_line (question.Bmc file bound) = of_bmc file.now bound
 question_line (question.Why file asked) = of_why file.now asked
 question_line (question.Replay model report) = of_replay model.now report.now
 
+-- what a command line of `ivyview` asks for
 pub data AskLine : Type 0 where
   help : AskLine
   version : AskLine
   show : Query → Options → AskLine
 
+-- the command line that a value of the program stands for
 abbrev pub ask_line : Ask → AskLine
 ask_line ask.Help = help
 ask_line ask.Version = version
@@ -51,6 +54,7 @@ HasQuestionRanges (question.Bmc file bound) = (bound.steps ≤ 12) × IsInRange 
 HasQuestionRanges (question.Why file asked) = IsInRange asked
 HasQuestionRanges (question.Replay model report) = Unit {0}
 
+-- `--help` and `--version` have no numbers
 abbrev pub HasAskRanges : Ask → Type 0
 HasAskRanges ask.Help = Unit {0}
 HasAskRanges ask.Version = Unit {0}
@@ -72,18 +76,20 @@ abbrev pub why_of : Option Line → Option Query
 why_of (Some (check file asked)) = Some (of_why file asked)
 why_of _ = None
 
+-- the question of words without the options of `ivyview`; none where they are no such command line
 abbrev pub asked_of : List Text → Option Query
 asked_of [] = None
 asked_of (command ∷ words) =
     if bytes_eq command (codes "why") then why_of (check_line (command ∷ words))
     else question_of (line_of (command ∷ words))
 
--- no picture is drawn, and no limit counted in a lean way, for `why` and `replay`
+-- whether no picture is asked for
 abbrev pub is_not_dot : Form → Bool
 is_not_dot form.Dot = false
 is_not_dot form.Told = true
 is_not_dot form.Json = true
 
+-- no picture is drawn, and no limit counted in a lean way, for `why` and `replay`
 abbrev pub is_offered : Query → Options → Bool
 is_offered (of_check file asked) options = true
 is_offered (of_houdini file asked) options = true
@@ -91,6 +97,7 @@ is_offered (of_bmc file bound) options = true
 is_offered (of_why file asked) options = not options.lean && is_not_dot options.form
 is_offered (of_replay model report) options = not options.lean && is_not_dot options.form
 
+-- the question with its options, if there are both and it can be asked with these
 abbrev pub offered : Option Query → Option Options → Option AskLine
 offered None options = None
 offered (Some q) None = None

@@ -34,6 +34,7 @@ status_text =
     ++ codes "3 where something is left open, 4 for a faulty or too long file, 5 where a file or a stream fails,\n"
     ++ codes "7 for want of memory.\n"
 
+-- what `--help` is answered with
 unfoldable pub help_text : List ℕ
 help_text = head_text ++ options_text ++ status_text
 

@@ -7,6 +7,7 @@ use Rattle.view_line.specs.declared.options.Form.{Form}
 use Rattle.view_line.specs.declared.options.Form.TheVariants.{Told, Dot, Json}
 use Rattle.view_line.specs.declared.options.Options.{Options}
 
+-- `--lean`, `--dot` or `--json`
 abbrev pub is_own : Text → Bool
 is_own word = bytes_eq word (codes "--lean") || (bytes_eq word (codes "--dot") || bytes_eq word (codes "--json"))
 
@@ -20,6 +21,7 @@ abbrev pub has : Text → List Text → Bool
 has option [] = false
 has option (word ∷ words) = bytes_eq word option || has option words
 
+-- by whether `--dot` and `--json` stand: a text where neither does, and none where both do
 abbrev pub form_by : Bool → Bool → Option Form
 form_by false false = Some Told
 form_by true false = Some Dot

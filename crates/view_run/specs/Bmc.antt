@@ -26,6 +26,7 @@ length_graphs m answers.Safe = []
 length_graphs m (answers.Undecided c) = []
 length_graphs m (answers.Broken run) = run_graphs m run
 
+-- the outcome as a JSON value, in a line
 unfoldable pub bounded_line : List ℕ → ModelTree → Bounded → List ℕ
 bounded_line file m b = line_of file (bounded_members m b)
 
@@ -35,10 +36,12 @@ bounded_view Told file text reading m b = runs_text m (text_told text reading) b
 bounded_view Dot file text reading m b = flat_map (length_graphs m) b.lengths
 bounded_view Json file text reading m b = bounded_line file m b
 
+-- what is due on a sink, and the status: of an answer, or of the text's fault
 abbrev pub answer_view : Form → List ℕ → List ℕ → Reading → BmcAnswer → Due
 answer_view form file text reading (Answered m b) =
     on_out (bounded_view form file text reading m b) (bounded_status (verdict_of b.lengths))
 answer_view form file text reading (Fault fault) = fault_view form (codes "bmc") file text fault reading
 
+-- of an answer with the text as far as it can be read
 abbrev pub bmc_view : Form → List ℕ → List ℕ → Viewed BmcAnswer → Due
 bmc_view form file text v = answer_view form file text v.reading v.answer

@@ -18,6 +18,7 @@ use Rattle.view_run.specs.declared.viewed.Viewed.{Viewed}
 use Rattle.view_run.specs.Views.{source_of, text_told, line_of, fault_view}
 use Rattle.view_run.specs.WayData.{drop_ways}
 
+-- the outcome as a JSON value, in a line; with branches where the text has a tree
 unfoldable pub found_line : List ℕ → Option TextAndTree → ModelTree → Houdini → List ℕ
 found_line file source m h = line_of file (houdini_members m h (drop_ways source h.dropped))
 
@@ -27,10 +28,12 @@ found_text Told file text reading m h = subset_text m (text_told text reading) h
 found_text Dot file text reading m h = drop_graphs 1 m h.dropped
 found_text Json file text reading m h = found_line file (source_of text reading) m h
 
+-- what is due on a sink, and the status: of an answer, or of the text's fault
 abbrev pub answer_view : Form → List ℕ → List ℕ → Reading → HoudiniAnswer → Due
 answer_view form file text reading (Found m h) =
     on_out (found_text form file text reading m h) (houdini_status h.dropped h.unsettled)
 answer_view form file text reading (Fault fault) = fault_view form (codes "houdini") file text fault reading
 
+-- of an answer with the text as far as it can be read
 abbrev pub houdini_view : Form → List ℕ → List ℕ → Viewed HoudiniAnswer → Due
 houdini_view form file text v = answer_view form file text v.reading v.answer

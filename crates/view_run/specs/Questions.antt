@@ -111,6 +111,7 @@ file_of (of_bmc file bound) = file
 file_of (of_why file asked) = file
 file_of (of_replay model report) = model
 
+-- the name of the model's file in a command line; empty where no question is asked
 abbrev pub model_of : Option AskLine → List ℕ
 model_of (Some (show q options)) = file_of q
 model_of _ = []
@@ -120,6 +121,7 @@ abbrev pub report_of : Option AskLine → List ℕ
 report_of (Some (show (of_replay model report) options)) = report
 report_of _ = []
 
+-- what is due, by the command line, the texts and the answer
 abbrev pub answer_due : Option AskLine → List ℕ → List ℕ → Answer → Due
 answer_due ask first second answer.Words = words_due (words_of ask)
 answer_due ask first second (answer.Check v) = check_view (form_of ask) (model_of ask) first v

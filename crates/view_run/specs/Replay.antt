@@ -20,17 +20,21 @@ unfoldable pub line_view : List ℕ → ℕ → ℕ → List ℕ → List ℕ
 line_view file line number words =
     file ++ codes ":" ++ decimal line ++ codes ": P" ++ decimal number ++ codes " " ++ words ++ codes "\n"
 
+-- the line that says how many executions of the report were followed
 unfoldable pub confirmed_view : ℕ → List ℕ
 confirmed_view n = codes "confirmed; executions that were followed: " ++ decimal n ++ codes "\n"
 
+-- that the report is confirmed, with status 0; or the first line that is denied, with status 1
 abbrev pub judged_told : List ℕ → Judged → Due
 judged_told file (Confirmed n) = on_out (confirmed_view n) 0
 judged_told file (Denied line code) = on_out (line_view file line (denial.number_of code) (denial.text_of code)) 1
 
+-- 0 where the report is confirmed, 1 where a line is denied
 abbrev pub judged_status : Judged → ℕ
 judged_status (Confirmed n) = 0
 judged_status (Denied line code) = 1
 
+-- a text, or a JSON value; no picture is asked for
 abbrev pub judged_view : Form → List ℕ → List ℕ → Judged → Due
 judged_view Told file report judged = judged_told report judged
 judged_view Dot file report judged = judged_told report judged
@@ -42,10 +46,12 @@ unread_view Told file report line = on_err (line_view report line 1 (codes "unex
 unread_view Dot file report line = on_err (line_view report line 1 (codes "unexpected line")) 4
 unread_view Json file report line = on_out (line_of file (unread_members line)) 4
 
+-- what is due on a sink, and the status: of the model's fault, an unread line, or a judged report
 abbrev pub answer_view : Form → List ℕ → List ℕ → List ℕ → Reading → ReplayAnswer → Due
 answer_view form file report text reading (Fault fault) = fault_view form (codes "replay") file text fault reading
 answer_view form file report text reading (Unread unread) = unread_view form file report unread.line
 answer_view form file report text reading (Replayed judged) = judged_view form file report judged
 
+-- of an answer with the model's text as far as it can be read
 abbrev pub replay_view : Form → List ℕ → List ℕ → List ℕ → Viewed ReplayAnswer → Due
 replay_view form file report text v = answer_view form file report text v.reading v.answer

@@ -47,6 +47,7 @@ definitions_in text (Parsed tree) = definitions_of text (file_tree tree)
 abbrev pub told_by : Option TextAndTree → Definitions → TextTold
 told_by source d = record { lines = ways_at source; facts = facts_text d; changes = changes_text d }
 
+-- what a text tells beside its model, as far as it can be read
 abbrev pub text_told : List ℕ → Reading → TextTold
 text_told text reading = told_by (source_of text reading) (definitions_in text reading)
 

@@ -43,6 +43,7 @@ answer_ways source s answer.Holds = null
 answer_ways source s (answer.Fails paths least shown) = ways_data source s shown.trace.path
 answer_ways source s (answer.Undecided path cause) = null
 
+-- the branches of each group that fails, null for each other one
 abbrev pub group_ways : Option TextAndTree → List Group → List Data
 group_ways source groups = map (λ g. answer_ways source g.stage g.answer) groups
 

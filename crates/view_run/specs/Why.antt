@@ -27,11 +27,13 @@ abbrev pub IsWhyAnswer : Ceilings → List ℕ → WhyAnswer → Type 0
 IsWhyAnswer limits text (Reasons m reasons) = IsTheModel text m × AreReasons limits m reasons
 IsWhyAnswer limits text (Fault fault) = IsTheFault text fault
 
+-- a goal of the group fails even where all conjectures are held
 abbrev pub fails : Carried → Bool
 fails (By needs) = false
 fails (Not (Fails shown)) = true
 fails (Not (Open goal c)) = false
 
+-- no goal of the group fails where all conjectures are held, but one is left open
 abbrev pub is_open : Carried → Bool
 is_open (By needs) = false
 is_open (Not (Fails shown)) = false
@@ -44,6 +46,7 @@ why_status reasons =
     else if list_any (λ r. is_open r.carried) reasons then 3
     else 0
 
+-- the outcome as a JSON value, in a line
 unfoldable pub reasons_line : List ℕ → ModelTree → List Reason → List ℕ
 reasons_line file m reasons = line_of file (reasons_members m reasons)
 
@@ -53,9 +56,11 @@ reasons_view Told file m reasons = reasons_text m reasons
 reasons_view Dot file m reasons = reasons_text m reasons
 reasons_view Json file m reasons = reasons_line file m reasons
 
+-- what is due on a sink, and the status: of the reasons, or of the text's fault
 abbrev pub answer_view : Form → List ℕ → List ℕ → Reading → WhyAnswer → Due
 answer_view form file text reading (Reasons m reasons) = on_out (reasons_view form file m reasons) (why_status reasons)
 answer_view form file text reading (Fault fault) = fault_view form (codes "why") file text fault reading
 
+-- of an answer with the text as far as it can be read
 abbrev pub why_view : Form → List ℕ → List ℕ → Viewed WhyAnswer → Due
 why_view form file text v = answer_view form file text v.reading v.answer
