@@ -18,7 +18,7 @@ pub record MarkedPath : Type 0 where
   pub primitives : List PrimitiveTree
   pub marks : List Mark
 
--- primitives without a mark
+-- a path that meets no `if`, `choose` or `assert`
 abbrev pub unmarked : List PrimitiveTree → MarkedPath
 unmarked qs = record { primitives = qs; marks = [] }
 

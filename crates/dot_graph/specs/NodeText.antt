@@ -33,7 +33,7 @@ is_only [] k = false
 is_only (j ∷ []) k = j == k
 is_only (j ∷ i ∷ js) k = false
 
--- a function without arguments is a variable
+-- whether there are no sorts: a function without arguments is a variable
 abbrev pub is_none : List ℕ → Bool
 is_none [] = true
 is_none (k ∷ ks) = false

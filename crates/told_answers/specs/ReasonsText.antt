@@ -31,7 +31,7 @@ abbrev pub needs_text : List (List ℕ) → List Need → List ℕ
 needs_text names [] = codes "no conjecture"
 needs_text names (n ∷ needs) = name_at names n.conjecture ++ more_needs names needs
 
--- that a goal fails; or the path of the first one that is left open, and the option to raise
+-- that a goal fails; or the path of the first one that is left open, and why it is
 abbrev pub lack_text : Lack → List ℕ
 lack_text (Fails shown) = codes "fails"
 lack_text (Open goal c) = open_at (codes "left open at path ") goal.path c (codes "")

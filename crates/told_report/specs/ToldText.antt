@@ -60,7 +60,7 @@ failing_text m told s a (answer.Undecided path c) = []
 abbrev pub group_failing : ModelTree → TextTold → Group → List ℕ
 group_failing m told g = failing_text m told g.stage g.about g.answer
 
--- action connect linked_down is left open at path 1: .., and the option to raise
+-- action connect linked_down is left open at path 1: .., in a line
 unfoldable pub undecided_text : Names → Stage → About → ℕ → Cause → List ℕ
 undecided_text names s a path c =
     head_text names s a ++ open_at (codes " is left open at path ") path c (codes "\n")

@@ -14,7 +14,7 @@ use Rattle.rml_command.specs.declared.names.Names.{Names}
 use Rattle.told_states.specs.SymbolText.{is_variable, function_symbol}
 use Rattle.told_states.specs.declared.label.Label.{Label}
 
--- the names of a model's symbols, and a label for each element of a listed sort
+-- the names of a model's symbols, and a label for each name of a listed sort's element
 pub record Labels : Type 0 where
   pub names : Names
   pub labels : List Label

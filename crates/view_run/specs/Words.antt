@@ -6,7 +6,7 @@ use Rattle.view_line.specs.HelpText.{help_text, usage_text}
 use Rattle.view_run.specs.declared.words.Words.{Words}
 use Rattle.view_run.specs.declared.words.Words.TheVariants.{Help, Version, Usage}
 
--- help and version are verdicts with status 0; the usage is a complaint with status 2
+-- help and version on the sink of verdicts, with status 0; the usage on that of complaints, with status 2
 abbrev pub words_due : Words → Due
 words_due Help = on_out help_text 0
 words_due Version = on_out (codes "ivyview 1, for models of rml 1 and 2\n") 0
