@@ -13,6 +13,7 @@ IsWord name = AllByRecursion (λ b. goes_on b ≡ true) name
 abbrev pub AreWords : List (List ℕ) → Type 0
 AreWords names = AllByRecursion IsWord names
 
+-- so is each name of each kind
 pub record HasWords (names : Names) : Type 0 where
   pub sorts : AreWords names.sorts
   pub relations : AreWords names.relations

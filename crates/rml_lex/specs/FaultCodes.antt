@@ -3,6 +3,7 @@ use Rattle.std.specs.Prelude.{ℕ, List, codes}
 use Rattle.rml_lex.specs.declared.fault_code.FaultCode.{FaultCode}
 use Rattle.rml_lex.specs.declared.fault_code.FaultCode.TheVariants as fault
 
+-- the number by which a fault is told; no fault has 21
 abbrev pub number_of : FaultCode → ℕ
 number_of fault.BadByte = 1
 number_of fault.LongName = 2
@@ -26,6 +27,7 @@ number_of fault.NotAlternationFree = 19
 number_of fault.TooManyPaths = 20
 number_of fault.LargeDefinition = 22
 
+-- the words in which a fault is told
 abbrev pub text_of : FaultCode → List ℕ
 text_of fault.BadByte = codes "bad byte"
 text_of fault.LongName = codes "name too long"

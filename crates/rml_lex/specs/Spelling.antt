@@ -7,6 +7,7 @@ use Rattle.rml_lex.specs.declared.token.Word.TheVariants as word
 use Rattle.rml_lex.specs.declared.token.Sign.{Sign}
 use Rattle.rml_lex.specs.declared.token.Sign.TheVariants as sign
 
+-- every reserved word, with its spelling
 abbrev pub words : List (List ℕ × Word)
 words =
     (codes "rml", word.Rml)

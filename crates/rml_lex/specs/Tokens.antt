@@ -51,6 +51,7 @@ number_front n m =
     if nat_lt 9 n || nat_lt n m then front.Fault fault_code.BadNumber
     else front.Token kind.Number n
 
+-- the sign that stands there, as long as its spelling; a byte that begins no token is a fault
 abbrev pub sign_front : Option (List ℕ × Sign) → Front
 sign_front (Some row) = front.Token (kind.Sign row.1) (length row.0)
 sign_front None = front.Fault fault_code.BadByte

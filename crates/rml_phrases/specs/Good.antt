@@ -9,6 +9,7 @@ use Rattle.rml_phrases.specs.Reading.{begins, TooDeep, Failure, Read, Reader, fa
 
 -- ---- exact
 
+-- the next token; at the end there is none
 abbrev pub head : Tokens → Option Token
 head [] = None
 head (t ∷ ts) = Some t
@@ -21,6 +22,7 @@ pub record Took {A : Type 0} (p : Reader A) (L : Phrase A) (ts : Tokens) (z : A 
   -- it looks at one token behind the phrase, and no further
   pub again : (vs : Tokens) → head z.1 ≡ head vs → p (front ++ vs) ≡ Ok (z.0, vs)
 
+-- some tokens spell a value of it
 pub record Some_of {A : Type 0} (L : Phrase A) : Type 0 where
   pub tokens : Tokens
   pub value : A
@@ -42,6 +44,7 @@ pub record Exact {A : Type 0} (p : Reader A) (L : Phrase A) (first more : List K
 
 -- ---- with one level more
 
+-- it failed at a token that opens one level too many
 abbrev pub Deepens : {A : Type 0} → Result A Failure → Type 0
 Deepens r = (at : Tokens) × (r ≡ fails TooDeep at)
 
@@ -69,6 +72,7 @@ pub record Extends {A : Type 0} (p q : Reader A) (L M : Phrase A) : Type 0 where
 
 -- ---- how a piece may begin
 
+-- the tokens that were not read: those behind the value, or those from the fault on
 abbrev pub rest_of : {A : Type 0} → Read A → Tokens
 rest_of (Ok z) = z.1
 rest_of (Err w) = w.rest
@@ -95,6 +99,7 @@ pub record Good {A : Type 0} (p q : Reader A) (a b : Piece A) (f m : List Kind) 
   pub some : Some_of b.whole
   pub closed : IsClosed a.front
 
+-- no tokens are of the piece, not even as a beginning
 pub record IsNothing {A : Type 0} (a : Piece A) : Type 0 where
   pub whole : (ts : Tokens) (x : A) → a.whole ts x → ⊥
   pub front : (ts : Tokens) → a.front ts → ⊥
@@ -107,5 +112,6 @@ Held None (Some q) a b f m e = IsNothing a × Some_of b.whole
 Held (Some p) None a b f m e = ⊥
 Held (Some p) (Some q) a b f m e = Good p q a b f m e
 
+-- o reads a and r, with one level more, reads b, inside a token that opens a level; None is where no level is left
 pub record Inside {A : Type 0} (o r : Option (Reader A)) (a b : Piece A) (f m : List Kind) (e : Bool) : Type 0 where
   pub held : Held o r a b f m e

@@ -6,6 +6,7 @@ use Rattle.rml_lex.specs.declared.token.Token.{Token}
 abbrev pub Tokens : Type 0
 Tokens = List Token
 
+-- which tokens spell which value
 abbrev pub Phrase : Type 0 → Type 1
 Phrase A = Tokens → A → Type 0
 
@@ -38,6 +39,7 @@ abbrev pub many : {A : Type 0} → Phrase A → Phrase (List A)
 many a ts [] = ts ≡ []
 many a ts (x ∷ xs) = (front : Tokens) × (back : Tokens) × (ts ≡ front ++ back) × a front x × many a back xs
 
+-- where the first token begins; of no tokens, 0
 abbrev pub place_of : Tokens → ℕ
 place_of [] = 0
 place_of (t ∷ ts) = t.start

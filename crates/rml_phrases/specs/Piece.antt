@@ -5,6 +5,7 @@ use Rattle.rml_lex.specs.declared.token.Token.{Token}
 use Rattle.rml_phrases.specs.Language.{Tokens, Phrase}
 use Rattle.rml_phrases.specs.Language as phrase
 
+-- `whole` says which tokens spell which value, `front` with which tokens such a spelling may begin
 pub record Piece (A : Type 0) : Type 1 where
   pub whole : Phrase A
   pub front : Tokens → Type 0

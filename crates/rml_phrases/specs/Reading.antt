@@ -113,16 +113,19 @@ sign_number Ampersand = 14
 sign_number Bar = 15
 sign_number Star = 16
 
+-- the number of a kind, by which kinds are compared
 abbrev pub number : Kind → ℕ
 number kind.Name = 0
 number kind.Number = 1
 number (Word w) = 2 + word_number w
 number (Sign s) = 29 + sign_number s
 
+-- the kind is one of these
 abbrev pub has : List Kind → Kind → Bool
 has [] k = false
 has (j ∷ js) k = (number j == number k) || has js k
 
+-- there is a next token, and it is of one of these kinds
 abbrev pub begins : List Kind → Tokens → Bool
 begins ks [] = false
 begins ks (t ∷ ts) = has ks t.kind
@@ -135,6 +138,7 @@ pub record Follows (k : Kind) (ts us : Tokens) : Type 0 where
 
 -- ---- the words
 
+-- why reading stops: what comes next cannot stand there, or it opens a level where none is left
 pub data Why : Type 0 where
   Unexpected : Why
   TooDeep : Why
@@ -144,44 +148,56 @@ pub record Failure : Type 0 where
   pub why : Why
   pub rest : Tokens
 
+-- a value and the tokens behind those that spell it, or a failure
 abbrev pub Read : Type 0 → Type 0
 Read A = Result (A × Tokens) Failure
 
+-- what reads a value off the front of tokens
 abbrev pub Reader : Type 0 → Type 0
 Reader A = Tokens → Read A
 
 infixl 10 ◌>>=◌
+-- goes on with the value, or keeps the failure
 abbrev pub ◌>>=◌ : {A B : Type 0} → Result A Failure → (A → Result B Failure) → Result B Failure
 (Ok x) >>= f = f x
 (Err e) >>= f = Err e
 
+-- the failure that leaves these tokens
 abbrev pub fails : {A : Type 0} → Why → Tokens → Result A Failure
 fails why ts = Err (record { why = why; rest = ts })
 
+-- one token of this kind
 abbrev pub expect_at : Kind → Reader Token
 expect_at k [] = fails Unexpected []
 expect_at k (t ∷ ts) = cond (number k == number t.kind) (Ok (t, ts)) (fails Unexpected (t ∷ ts))
 
+-- p, and behind it q
 abbrev pub both_at : {A B : Type 0} → Reader A → Reader B → Reader (A × B)
 both_at p q ts = p ts >>= λ x. q x.1 >>= λ y. Ok ((x.0, y.0), y.1)
 
+-- p, whose value is made into another
 abbrev pub made_at : {A B : Type 0} → (A → B) → Reader A → Reader B
 made_at f p ts = p ts >>= λ x. Ok (f x.0, x.1)
 
+-- p where the next token is of one of these kinds, and else q
 abbrev pub either_at : {A : Type 0} → List Kind → Reader A → Reader A → Reader A
 either_at first p q ts = cond (begins first ts) (p ts) (q ts)
 
+-- p where the next token is of one of these kinds, and else nothing
 abbrev pub optional_at : {A : Type 0} → List Kind → Reader A → Reader (Option A)
 optional_at first p ts = cond (begins first ts) (p ts >>= λ x. Ok (Some x.0, x.1)) (Ok (None, ts))
 
+-- p as long as the next token is of one of these kinds, but no more than so many times
 abbrev pub times_at : {A : Type 0} → ℕ → List Kind → Reader A → Reader (List A)
 times_at zero first p ts = Ok ([], ts)
 times_at (suc n) first p ts =
     cond (begins first ts) (p ts >>= λ x. times_at n first p x.1 >>= λ xs. Ok (x.0 ∷ xs.0, xs.1)) (Ok ([], ts))
 
+-- p as long as the next token is of one of these kinds, but no more often than there are tokens
 abbrev pub many_at : {A : Type 0} → List Kind → Reader A → Reader (List A)
 many_at first p ts = times_at (length ts) first p ts
 
+-- p, with the place of its first token
 abbrev pub placed_at : {A : Type 0} → Reader A → Reader (ℕ × A)
 placed_at p ts = p ts >>= λ x. Ok ((place_of ts, x.0), x.1)
 
@@ -199,23 +215,29 @@ listed_for (suc n) first k p ts = cond (begins first ts)
     (Ok (x.0 ∷ [], x.1)))
     (Ok ([], ts))
 
+-- [a {k a} [k]], where p reads a, and `first` is what a begins with
 abbrev pub listed_at : {A : Type 0} → List Kind → Kind → Reader A → Reader (List A)
 listed_at first k p ts = listed_for (length ts) first k p ts
 
+-- j a k, where j opens a level, and a is read where a level is left
 abbrev pub between_at : {A : Type 0} → Kind → Option (Reader A) → Kind → Reader A
 between_at j p k = made_at (λ x. x.0.1) (both_at (opening_at j p) (expect_at k))
 
+-- k a
 abbrev pub after_at : {A : Type 0} → Kind → Reader A → Reader A
 after_at k p = made_at (λ x. x.1) (both_at (expect_at k) p)
 
+-- {k a}
 abbrev pub more_at : {A : Type 0} → Kind → Reader A → Reader (List A)
 more_at k p = many_at (k ∷ []) (after_at k p)
 
+-- a {k a}
 abbrev pub separated_at : {A : Type 0} → Kind → Reader A → Reader (List A)
 separated_at k p = made_at (λ x. x.0 ∷ x.1) (both_at p (more_at k p))
 
 -- ---- what a function of the parser gives
 
+-- a stop is the failure of reading, and leaves the same tokens; a want of memory says nothing of the reading
 abbrev pub Stops : {Y : Type 0} → Refused Stop → Result Y Failure → Type 0
 Stops (refused.For (stops.Unexpected rest)) read = read ≡ fails Unexpected rest.now
 Stops (refused.For (stops.TooDeep rest)) read = read ≡ fails TooDeep rest.now

@@ -37,6 +37,7 @@ use Rattle.rml_syntax.specs.Grammar.{file, max_levels}
 abbrev pub format_of_digit : ℕ → Option Format
 format_of_digit d = if d == 49 then Some One else if d == 50 then Some Two else None
 
+-- zeros may stand before the one digit; no other number is that of a format
 abbrev pub format_of_digits : List ℕ → Option Format
 format_of_digits [] = None
 format_of_digits (d ∷ digits) =
@@ -51,6 +52,7 @@ format_of text (t ∷ u ∷ ts) =
     if (number (Word Rml) == number t.kind) && (number Number == number u.kind) then format_of_digits (word_of text u)
     else Some One
 
+-- the tokens are of this format; with a number other than 1 and 2 they are of none
 abbrev pub IsFormat : List ℕ → Tokens → Format → Type 0
 IsFormat text ts format = format_of text ts ≡ Some format
 

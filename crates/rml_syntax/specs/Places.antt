@@ -7,6 +7,7 @@ use Rattle.rml_syntax.specs.Tree.{CommandTree, Block, Blocks, Skip, Abort, Assum
 use Rattle.rml_syntax.specs.Tree.{Put, Assign, no_command, and_command, no_block, and_block, block_of, ItemTree, Sort}
 use Rattle.rml_syntax.specs.Tree.{Relation, Function, Variable, Axiom, Conjecture, Init, Action, Final, Define}
 
+-- the right side of `:=`; a `*` has no place
 abbrev pub places_of_side : Option ExprTree → List ℕ
 places_of_side None = []
 places_of_side (Some e) = places_of_expr e
@@ -38,6 +39,7 @@ abbrev pub binder_places : List Binder → List ℕ
 binder_places [] = []
 binder_places (b ∷ bs) = b.name.start ∷ b.sort.start ∷ binder_places bs
 
+-- the places of an item: its name or, of `init` and `final`, its word, and then those of its parts
 abbrev pub places_of_item : ItemTree → List ℕ
 places_of_item (Sort name names) = name.start ∷ name_places names
 places_of_item (Relation name sorts) = name.start ∷ name_places sorts

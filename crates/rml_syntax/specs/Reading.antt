@@ -38,30 +38,38 @@ pub record Inners : Type 0 where
   pub terms : Option terms.Inners
   pub cmds : Option (Reader (List CommandTree))
 
+-- "{" cmds "}"
 unfoldable pub block_at : Inners → Reader (List CommandTree)
 block_at inner = between_at (Sign OpenBrace) inner.cmds (Sign CloseBrace)
 
+-- ["else" block]: without it, no commands
 unfoldable pub else_block_at : Inners → Reader (List CommandTree)
 else_block_at inner = made_at or_none (optional_at (Word Else ∷ []) (after_at (Word Else) (block_at inner)))
 
+-- "*" | expr
 unfoldable pub value_at : Inners → Reader (Option ExprTree)
 value_at inner =
     either_at (Sign Star ∷ []) (made_at (λ t. None) (expect_at (Sign Star)))
     (made_at (λ e. Some e) (expr_at inner.terms))
 
+-- NAME ["(" exprs ")"]
 abbrev pub called_at : Inners → Reader (Name × List ExprTree)
 called_at inner = both_at name_at (arguments_at inner.terms)
 
+-- expr block ["else" block]: what stands behind `if`
 abbrev pub if_at : Inners → Reader ((ExprTree × List CommandTree) × List CommandTree)
 if_at inner = both_at (both_at (expr_at inner.terms) (block_at inner)) (else_block_at inner)
 
+-- NAME "(" exprs ")" "=" expr: what stands behind `put`
 abbrev pub put_at : Inners → Reader ((Name × List ExprTree) × ExprTree)
 put_at inner = both_at (both_at name_at (enclosed_at inner.terms)) (after_at (Sign Equal) (expr_at inner.terms))
 
+-- NAME ["(" names ")"] ":=" ("*" | expr)
 abbrev pub assign_at : Inners → Reader CommandTree
 assign_at inner =
     made_at assigned (both_at (both_at name_at (parameters_at inner.terms)) (after_at (Sign Becomes) (value_at inner)))
 
+-- one command: by its first word, and where it begins with none of them, an assignment
 unfoldable pub cmd_at : Inners → Reader CommandTree
 cmd_at inner = either_at (Word Skip ∷ []) (made_at (λ t. node.Skip t.start) (expect_at (Word Skip)))
     (either_at (Word Abort ∷ []) (made_at (λ t. node.Abort t.start) (expect_at (Word Abort)))
@@ -81,12 +89,15 @@ cmd_starts =
     Word Skip ∷ Word Abort ∷ Word Assume ∷ Word Assert ∷ Word If ∷ Word Choose ∷ Word Insert ∷ Word Remove ∷ Word Put
     ∷ kind.Name ∷ []
 
+-- [cmd {";" cmd} [";"]]
 unfoldable pub cmds_at : Inners → Reader (List CommandTree)
 cmds_at inner = listed_at cmd_starts (Sign Semicolon) (cmd_at inner)
 
+-- NAME ":" a
 abbrev pub named_at : {A : Type 0} → Reader A → Reader (Name × A)
 named_at p = both_at name_at (after_at (Sign Colon) p)
 
+-- an item of both formats, by its first word; `final` is tried last
 unfoldable pub plain_item_at : Inners → Reader ItemTree
 plain_item_at inner = either_at (Word Relation ∷ [])
     (made_at (λ x. node.Relation x.0 x.1) (after_at (Word Relation) (both_at name_at (parameters_at inner.terms))))
@@ -104,29 +115,35 @@ plain_item_at inner = either_at (Word Relation ∷ [])
     (made_at (λ x. node.Action x.0 x.1) (after_at (Word Action) (both_at name_at (block_at inner))))
     (made_at (λ x. node.Final x.0.start x.1) (both_at (expect_at (Word Final)) (block_at inner)))))))))
 
+-- ["=" "{" names "}"]: without it, no names
 unfoldable pub elements_at : Inners → Reader (List Name)
 elements_at inner =
     made_at or_none
     (optional_at (Sign Equal ∷ [])
     (after_at (Sign Equal) (between_at (Sign OpenBrace) (piece (λ r. r.names) inner.terms) (Sign CloseBrace))))
 
+-- binder {"," binder}
 unfoldable pub binders_at : Reader (List Binder)
 binders_at = separated_at (Sign Comma) binder_at
 
+-- ["(" binders ")"]: without parentheses, no parameters
 unfoldable pub bound_parameters_at : Inners → Reader (List Binder)
 bound_parameters_at inner =
     made_at or_none
     (optional_at (Sign OpenParen ∷ [])
     (between_at (Sign OpenParen) (piece (λ r. binders_at) inner.terms) (Sign CloseParen)))
 
+-- "sort" NAME ["=" "{" names "}"]
 abbrev pub sort_at : Inners → Reader ItemTree
 sort_at inner = made_at (λ x. node.Sort x.0 x.1) (after_at (Word Sort) (both_at name_at (elements_at inner)))
 
+-- "define" NAME ["(" binders ")"] ":=" expr
 abbrev pub definition_at : Inners → Reader ItemTree
 definition_at inner = made_at (λ x. node.Define x.0.0 x.0.1 x.1)
     (after_at (Word Define)
     (both_at (both_at name_at (bound_parameters_at inner)) (after_at (Sign Becomes) (expr_at inner.terms))))
 
+-- an item; names of elements and definitions are read in format 2 alone
 unfoldable pub item_at : Format → Inners → Reader ItemTree
 item_at One inner =
     either_at (Word Sort ∷ []) (made_at (λ n. node.Sort n []) (after_at (Word Sort) name_at)) (plain_item_at inner)
@@ -134,6 +151,7 @@ item_at Two inner =
     either_at (Word Sort ∷ []) (sort_at inner)
     (either_at (Word Define ∷ []) (definition_at inner) (plain_item_at inner))
 
+-- what an item of both formats begins with, but for `sort`
 abbrev pub plain_starts : List Kind
 plain_starts =
     Word Relation ∷ Word Function ∷ Word Variable ∷ Word Axiom ∷ Word Conjecture ∷ Word Init ∷ Word Action
@@ -144,6 +162,7 @@ abbrev pub item_starts : Format → List Kind
 item_starts One = Word Sort ∷ plain_starts
 item_starts Two = Word Sort ∷ Word Define ∷ plain_starts
 
+-- ["rml" NUMBER] {item}
 unfoldable pub items_at : Format → Inners → Reader (List ItemTree)
 items_at format inner =
     either_at (Word Rml ∷ [])
@@ -161,6 +180,7 @@ inside_at (suc n) = Some (cmds_at (record { terms = terms.inners n; cmds = insid
 abbrev pub inners : ℕ → Inners
 inners n = record { terms = terms.inners n; cmds = inside_at n }
 
+-- no token is left
 abbrev pub is_end : Tokens → Bool
 is_end [] = true
 is_end (t ∷ ts) = false
@@ -183,13 +203,16 @@ read_in (Some format) ts = of_format format (all_at format max_levels ts)
 abbrev pub read_at : List ℕ → Tokens → Result FileTree Failure
 read_at text ts = read_in (format_of text ts) ts
 
+-- the code of a fault, by why the reading stopped
 abbrev pub code_of : Why → FaultCode
 code_of Unexpected = fault_code.UnexpectedToken
 code_of TooDeep = fault_code.DeepNesting
 
+-- the fault of a text where reading failed: at the next token, or at the text's end
 abbrev pub failure_of : List ℕ → Failure → Fault
 failure_of text f = record { code = code_of f.why; at = place_at text f.rest }
 
+-- the fault of a text where a function of the parser stopped, likewise
 abbrev pub fault_of : List ℕ → Stop → Fault
 fault_of text (stops.Unexpected rest) = record { code = fault_code.UnexpectedToken; at = place_at text rest.now }
 fault_of text (stops.TooDeep rest) = record { code = fault_code.DeepNesting; at = place_at text rest.now }

@@ -35,9 +35,11 @@ abbrev mutual
   BlocksNest n no_block = Unit {0}
   BlocksNest n (and_block b bs) = BlockNests n b × BlocksNest n bs
 
+-- and so of each command in a list
 abbrev pub CommandsNest : ℕ → List CommandTree → Type 0
 CommandsNest n cs = AllByRecursion (CommandNests n) cs
 
+-- so it is of each expression and each choice of an item; the parameters of a definition do not count
 abbrev pub ItemNests : ℕ → ItemTree → Type 0
 ItemNests n (Sort name names) = Unit {0}
 ItemNests n (Relation name sorts) = Unit {0}

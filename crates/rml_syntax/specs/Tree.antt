@@ -35,14 +35,18 @@ mutual
     no_block : Blocks
     and_block : Block → Blocks → Blocks
 
+-- the commands of a block as a node keeps them
 abbrev pub block_of : List CommandTree → Block
 block_of [] = no_command
 block_of (c ∷ cs) = and_command c (block_of cs)
 
+-- the branches of a choice as a node keeps them
 abbrev pub blocks_of : List (List CommandTree) → Blocks
 blocks_of [] = no_block
 blocks_of (b ∷ bs) = and_block (block_of b) (blocks_of bs)
 
+-- An item, its name first. A sort has the names of its elements, none where they are not listed; a function has its
+-- argument sorts and then that of its values; `init` and `final` have no name, but the place of their word.
 pub data ItemTree : Type 0 where
   Sort : Name → List Name → ItemTree
   Relation : Name → List Name → ItemTree
@@ -62,32 +66,41 @@ pub record FileTree : Type 0 where
 
 -- ---- the nodes that productions make
 
+-- an `assume`, at its word
 abbrev pub assumed : Token × ExprTree → CommandTree
 assumed (t, e) = Assume t.start e
 
+-- an `assert`, at its word
 abbrev pub asserted : Token × ExprTree → CommandTree
 asserted (t, e) = Assert t.start e
 
+-- an `if`, at its word; without `else` the second block is empty
 abbrev pub branched : Token × ((ExprTree × List CommandTree) × List CommandTree) → CommandTree
 branched (t, ((e, a), b)) = If t.start e (block_of a) (block_of b)
 
+-- a choice between blocks, at its word
 abbrev pub choice : Token × List (List CommandTree) → CommandTree
 choice (t, bs) = Choose t.start (blocks_of bs)
 
+-- an `insert`, at its word
 abbrev pub inserted : Token × (Name × List ExprTree) → CommandTree
 inserted (t, (name, args)) = Insert t.start name (exprs_of args)
 
+-- a `remove`, at its word
 abbrev pub removed : Token × (Name × List ExprTree) → CommandTree
 removed (t, (name, args)) = Remove t.start name (exprs_of args)
 
+-- a `put`, at its word, with the new value last
 abbrev pub putting : Token × ((Name × List ExprTree) × ExprTree) → CommandTree
 putting (t, ((name, args), value)) = Put t.start name (exprs_of args) value
 
+-- an assignment, at its name; a right side that is missing is `*`
 abbrev pub assigned : (Name × List Name) × Option ExprTree → CommandTree
 assigned ((name, parameters), value) = Assign name parameters value
 
 -- ---- the trees of the parser's values
 
+-- one level, with the tree of each part in its place
 abbrev pub command_step : commands.Command-F CommandTree → CommandTree
 command_step (commands.Skip at) = Skip at
 command_step (commands.Abort at) = Abort at
@@ -100,15 +113,18 @@ command_step (commands.Remove at name args) = Remove at name (exprs_of (expr_tre
 command_step (commands.Put at name args e) = Put at name (exprs_of (expr_trees args.items)) (expr_tree e)
 command_step (commands.Assign name parameters value) = Assign name parameters.items (option_map expr_tree value)
 
+-- the tree that a command of the parser stands for
 abbrev pub command_tree : Command → CommandTree
 command_tree = fold-Command CommandTree command_step
 
 abbrev pub command_trees : List Command → List CommandTree
 command_trees cs = map command_tree cs
 
+-- the trees of the commands in each branch of a choice
 abbrev pub block_trees : List (Vec Command) → List (List CommandTree)
 block_trees bs = map (λ b. command_trees b.items) bs
 
+-- the tree that an item of the parser stands for
 abbrev pub item_tree : Item → ItemTree
 item_tree (item.Sort name names) = Sort name names.items
 item_tree (item.Relation name sorts) = Relation name sorts.items
@@ -124,5 +140,6 @@ item_tree (item.Define name bs e) = Define name bs.items (expr_tree e)
 abbrev pub item_trees : List Item → List ItemTree
 item_trees xs = map item_tree xs
 
+-- the tree that a file of the parser stands for
 abbrev pub file_tree : Tree → FileTree
 file_tree tree = record { format = tree.format; items = item_trees tree.items.items }

@@ -8,6 +8,7 @@ use Rattle.rml_syntax.specs.Tree.{CommandTree, Block, Blocks, Skip, Abort, Assum
 use Rattle.rml_syntax.specs.Tree.{Put, Assign, no_command, and_command, no_block, and_block, ItemTree, FileTree, Sort}
 use Rattle.rml_syntax.specs.Tree.{Relation, Function, Variable, Axiom, Conjecture, Init, Action, Final, Define}
 
+-- the right side of `:=` stands among n bytes; a `*` has no place
 abbrev pub ValueWithin : ℕ → Option ExprTree → Type 0
 ValueWithin n None = Unit {0}
 ValueWithin n (Some e) = ExprWithin n e
@@ -40,6 +41,7 @@ CommandsWithin n cs = AllByRecursion (CommandWithin n) cs
 abbrev pub BindersWithin : ℕ → List Binder → Type 0
 BindersWithin n bs = AllByRecursion (BinderWithin n) bs
 
+-- the names of an item are among n bytes, and its nodes stand there
 abbrev pub ItemWithin : ℕ → ItemTree → Type 0
 ItemWithin n (Sort name names) = NameWithin n name × NamesWithin n names
 ItemWithin n (Relation name sorts) = NameWithin n name × NamesWithin n sorts
@@ -52,5 +54,6 @@ ItemWithin n (Action name cs) = NameWithin n name × CommandsWithin n cs
 ItemWithin n (Final at cs) = (at ≤ n) × CommandsWithin n cs
 ItemWithin n (Define name bs e) = NameWithin n name × BindersWithin n bs × ExprWithin n e
 
+-- and so of each item of a file
 abbrev pub TreeWithin : ℕ → FileTree → Type 0
 TreeWithin n tree = AllByRecursion (ItemWithin n) tree.items

@@ -31,9 +31,11 @@ unary_starts = Sign Tilde ∷ prim_starts
 abbrev pub expr_starts : List Kind
 expr_starts = Word Forall ∷ Word Exists ∷ unary_starts
 
+-- the kinds of token that make a whole `prim` longer: a name goes on with its arguments
 abbrev pub after_prim : List Kind
 after_prim = Sign OpenParen ∷ []
 
+-- and so the kinds that make each production above it longer, which are its own sign and those of its parts
 abbrev pub after_cmp : List Kind
 after_cmp = Sign Equal ∷ Sign NotEqual ∷ Sign OpenParen ∷ []
 

@@ -4,6 +4,7 @@ use Rattle.rml_terms.specs.declared.tree.Name.{Name}
 use Rattle.rml_terms.specs.Tree.{ExprTree, ExprTrees, True, False, Apply, Ite, Equal, Not, And, Or, Implies, Iff}
 use Rattle.rml_terms.specs.Tree.{Quantified, no_expr, and_expr}
 
+-- where each of the names begins
 abbrev pub name_places : List Name → List ℕ
 name_places names = map (λ n. n.start) names
 
@@ -28,5 +29,6 @@ abbrev mutual
   places_of_exprs no_expr = []
   places_of_exprs (and_expr e es) = places_in false e ++ places_of_exprs es
 
+-- the places of an expression that stands by itself: a quantifier at its front has its own
 abbrev pub places_of_expr : ExprTree → List ℕ
 places_of_expr e = places_in false e

@@ -13,6 +13,7 @@ NameWithin n name = (name.start ≤ name.end) × (name.end ≤ n)
 abbrev pub NamesWithin : ℕ → List Name → Type 0
 NamesWithin n names = AllByRecursion (NameWithin n) names
 
+-- the bytes of a binder's name and of its sort's are among n
 abbrev pub BinderWithin : ℕ → Binder → Type 0
 BinderWithin n b = NameWithin n b.name × NameWithin n b.sort
 
