@@ -37,6 +37,7 @@ pub record IsInModelFragment (m : ModelTree) : Type 0 where
   pub conditions : AllByRecursion (λ c. IsDecidable c.word c.sentence) m.places.conditions
   pub blocks : EachBlock (EachPrimitive IsInFragment) m
 
+-- a block has at most 4,096 paths
 abbrev pub HasFewPaths : CommandTree → Type 0
 HasFewPaths c = length (paths_of c) ≤ 4096
 

@@ -82,6 +82,7 @@ pub record WrittenFits (sig more : Symbols) (p : List PrimitiveTree) : Type 0 wh
   pub fits : FitsPath more (written sig sig.relations p)
   pub fragment : AllByRecursion IsInFragment p → AllByRecursion IsInFragment (written sig sig.relations p)
 
+-- so it is of every path that fits its signature
 abbrev pub WrittenPathsFit : Type 0
 WrittenPathsFit = (sig more : Symbols) (p : List PrimitiveTree) → GrowsByRelations sig (havocked sig p) more
     → FitsPath sig p → WrittenFits sig more p

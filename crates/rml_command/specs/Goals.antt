@@ -58,10 +58,12 @@ block_of m stage.Init = Some m.init
 block_of m (stage.Action a) = slice_get m.actions a
 block_of m stage.Final = Some m.last
 
+-- the paths of a block, in order; where there is no block, none
 abbrev pub paths_of_block : Option CommandTree → List (List PrimitiveTree)
 paths_of_block None = []
 paths_of_block (Some block) = paths_of block
 
+-- the paths of a stage's block; of an action that the model does not have, none
 abbrev pub stage_paths : ModelTree → Stage → List (List PrimitiveTree)
 stage_paths m s = paths_of_block (block_of m s)
 
@@ -115,6 +117,7 @@ abbrev pub leading_sorts : FormTree → List ℕ
 leading_sorts (for_all k p) = k ∷ leading_sorts p
 leading_sorts _ = []
 
+-- the formula behind them
 abbrev pub body_of : FormTree → FormTree
 body_of (for_all k p) = body_of p
 body_of p = p
@@ -143,6 +146,7 @@ pub record IsCounterexample (m : ModelTree) (goal : Goal) (s : Tables) (havocs :
   pub count : length havocs ≡ havoc_count path
   pub fails : FailsGoal m goal.about values (follow_path m.axioms path havocs s)
 
+-- the goal has no counterexample: no structure, havocs and values are one
 abbrev pub HasNone : ModelTree → Goal → Type 0
 HasNone m goal = (s : Tables) (havocs : List Havoc) (values : List ℕ) → IsCounterexample m goal s havocs values → ⊥
 

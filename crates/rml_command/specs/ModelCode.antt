@@ -41,11 +41,13 @@ names_code =
     })
     (λ n. refl)
 
+-- the word of a condition as a number
 abbrev pub word_number : Word → ℕ
 word_number word.Assume = 0
 word_number word.Assert = 1
 word_number word.If = 2
 
+-- the word with this number; from 2 on it is `if`
 abbrev pub word_back : ℕ → Word
 word_back n = if n == 0 then word.Assume else if n == 1 then word.Assert else word.If
 

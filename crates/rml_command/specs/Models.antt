@@ -51,9 +51,11 @@ FitsPrimitive sig (havoc v) = (v < sig.functions) × (sig.from_of v ≡ []) × (
 FitsPrimitive sig (havoc_rel r) = r < sig.relations
 FitsPrimitive sig abort = Unit {0}
 
+-- each primitive of a command fits
 abbrev pub FitsCommand : Symbols → CommandTree → Type 0
 FitsCommand sig c = EachPrimitive (FitsPrimitive sig) c
 
+-- each primitive of a path fits
 abbrev pub FitsPath : Symbols → List PrimitiveTree → Type 0
 FitsPath sig p = AllByRecursion (FitsPrimitive sig) p
 
@@ -66,6 +68,7 @@ FitsStep sig (havoc v) = FitsPrimitive sig (havoc v)
 FitsStep sig (havoc_rel r) = ⊥
 FitsStep sig abort = FitsPrimitive sig abort
 
+-- each primitive of a path is such a step
 abbrev pub FitsSteps : Symbols → List PrimitiveTree → Type 0
 FitsSteps sig p = AllByRecursion (FitsStep sig) p
 

@@ -8,6 +8,7 @@ use Rattle.rml_command.specs.Spans.{RouteTree}
 use Rattle.rml_command.specs.declared.span.Span.{Span}
 use Rattle.rml_command.specs.declared.command.Primitive.{Primitive}
 
+-- the primitive at a place of the list; behind its end, abort
 abbrev pub primitive_at : List Primitive → ℕ → PrimitiveTree
 primitive_at ps i = slice_index_or (map primitive ps) i abort
 

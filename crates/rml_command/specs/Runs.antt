@@ -50,6 +50,7 @@ abbrev pub SomeAborts : List Step → Type 0
 SomeAborts [] = ⊥
 SomeAborts (step ∷ steps) = (step.outcome ≡ aborted) ⊎ SomeAborts steps
 
+-- init, an action or final of the run aborts
 abbrev pub Aborts : Run → Type 0
 Aborts run = (run.first ≡ aborted) ⊎ SomeAborts run.steps ⊎ (run.last ≡ Some aborted)
 
@@ -58,6 +59,7 @@ abbrev pub BreaksAt : ModelTree → Outcome → Type 0
 BreaksAt m aborted = ⊥
 BreaksAt m (ended s) = (k : ℕ) × (c : FormTree) × (slice_get m.conjectures k ≡ Some c) × (is_true s c ≡ false)
 
+-- a conjecture is false at the end of a step
 abbrev pub SomeBreaks : ModelTree → List Step → Type 0
 SomeBreaks m [] = ⊥
 SomeBreaks m (step ∷ steps) = BreaksAt m step.outcome ⊎ SomeBreaks m steps

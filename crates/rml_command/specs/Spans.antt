@@ -8,6 +8,7 @@ use Rattle.rml_command.specs.declared.span.Span.{Span}
 abbrev pub places_in : Span → List ℕ
 places_in s = count_from s.start (s.end - s.start)
 
+-- the places of spans, one span after another
 abbrev pub places_of : List Span → List ℕ
 places_of spans = flat_map places_in spans
 
@@ -24,6 +25,7 @@ pub record RouteTree : Type 0 where
 abbrev pub no_route : RouteTree
 no_route = record { places = []; aborts = false }
 
+-- the one route, and behind it the other, by which it ends
 abbrev pub joined : RouteTree → RouteTree → RouteTree
 joined r q = record { places = r.places ++ q.places; aborts = q.aborts }
 

@@ -22,6 +22,7 @@ mutual
     no_commands : CommandTrees
     command_then : CommandTree → CommandTrees → CommandTrees
 
+-- the commands as a tree keeps them
 abbrev pub commands_of : List CommandTree → CommandTrees
 commands_of [] = no_commands
 commands_of (c ∷ cs) = command_then c (commands_of cs)

@@ -21,6 +21,7 @@ use Rattle.rml_command.specs.declared.command.Primitive.TheVariants as p
 use Rattle.rml_command.specs.declared.command.Command.{Command, fold-Command}
 use Rattle.rml_command.specs.declared.command.Command.TheOpen.{Command-F}
 
+-- a primitive with its symbols by number
 abbrev pub primitive : Primitive → PrimitiveTree
 primitive (p.Assume sentence) = assume sentence
 primitive (p.SetRel r by) = set_rel r.0 (form by)

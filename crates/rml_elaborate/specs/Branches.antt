@@ -9,6 +9,7 @@ use Rattle.rml_syntax.specs.declared.tree.Command.TheOpen as opened
 use Rattle.rml_syntax.specs.declared.tree.Command.TheFolds.{fold-roll-Command}
 use Rattle.rml_syntax.specs.Tree.{CommandTree, command_tree, command_step, Choose, blocks_of, block_trees}
 
+-- a choice of the parser, branch by branch
 pub tree-choice : (command : Command) (at : ℕ) (bs : Vec (Vec Command)) → command ≡ variants.Choose at bs
     → command_tree command ≡ Choose at (blocks_of (block_trees bs.items))
 tree-choice command at bs is =

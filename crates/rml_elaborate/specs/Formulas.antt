@@ -21,6 +21,7 @@ atom_of bodies (Relation r) args = rel r args
 atom_of bodies (Derived d) args = instance (slice_index_or bodies d bottom) args
 atom_of bodies _ args = bottom
 
+-- a bound name, or a function with its arguments
 abbrev pub application_of : Meaning → TermTrees → TermTree
 application_of (Bound i k) args = bound i
 application_of (Function f) args = app f args

@@ -25,10 +25,12 @@ abbrev mutual
   quantifiers_in_each all no_expr = []
   quantifiers_in_each all (and_expr e es) = quantifiers_in all e ++ quantifiers_in_each all es
 
+-- on the right of `:=`, all quantifiers; a `*` has none
 abbrev pub quantifiers_of_side : Option ExprTree → List ℕ
 quantifiers_of_side None = []
 quantifiers_of_side (Some e) = quantifiers_in true e
 
+-- the quantifiers of a command that stand where none may, in the order of reading
 abbrev mutual
   pub quantifiers_of : CommandTree → List ℕ
   quantifiers_of (Skip at) = []

@@ -23,9 +23,11 @@ use Rattle.rml_elaborate.specs.Updates.{insertion, removal, placement, assignmen
 abbrev pub is_beyond : ℕ → ℕ → Bool
 is_beyond nodes depth = nat_lt 100000 nodes || nat_lt 1000 depth
 
+-- a formula has too many nodes, or is too deep
 abbrev pub is_large : FormTree → Bool
 is_large p = is_beyond (form_nodes p) (form_depth p)
 
+-- and so a term
 abbrev pub is_large_term : TermTree → Bool
 is_large_term t = is_beyond (term_nodes t) (term_depth t)
 
@@ -37,6 +39,7 @@ is_large_update _ = false
 
 -- ---- uses
 
+-- the first place of two, where there is one
 abbrev pub first_of : Option ℕ → Option ℕ → Option ℕ
 first_of (Some at) other = Some at
 first_of None other = other
@@ -80,34 +83,41 @@ module _ (text : List ℕ) (v : Vocabulary) where
   -- ---- the first use in what is too large
 
   module _ (bodies : List FormTree) where
+    -- the first use of a derived relation in a formula that is too large
     abbrev pub large_use_in_formula : List BoundName → ExprTree → Option ℕ
     large_use_in_formula bs e = where_large (is_large (formula_of text v bodies bs e)) (first_use_of bs e)
 
+    -- and in a term
     abbrev pub large_use_in_term : List BoundName → ExprTree → Option ℕ
     large_use_in_term bs e = where_large (is_large_term (term_of text v bodies bs e)) (first_use_of bs e)
 
+    -- and in the terms of an `insert` whose right side is too large
     abbrev pub large_use_in_insertion : Name → ExprTrees → Option ℕ
     large_use_in_insertion name args =
         where_large
         (is_large_update (insertion (symbol_of v (bytes_of text name)) (terms_of text v bodies [] args)))
         (first_use_in_each [] args)
 
+    -- and so of a `remove`
     abbrev pub large_use_in_removal : Name → ExprTrees → Option ℕ
     large_use_in_removal name args =
         where_large
         (is_large_update (removal (symbol_of v (bytes_of text name)) (terms_of text v bodies [] args)))
         (first_use_in_each [] args)
 
+    -- and so of a `put`, whose new value stands last
     abbrev pub large_use_in_placement : Name → ExprTrees → ExprTree → Option ℕ
     large_use_in_placement name args e =
         where_large
         (is_large_update (placement (symbol_of v (bytes_of text name)) (terms_of text v bodies [] args)
         (term_of text v bodies [] e))) (first_of (first_use_in_each [] args) (first_use_of [] e))
 
+    -- and so of an assignment
     abbrev pub large_use_in_assignment : Name → List Name → Option ExprTree → Option ℕ
     large_use_in_assignment name ps value =
         where_large (is_large_update (assignment text v bodies (symbol_of v (bytes_of text name)) ps value))
         (first_use_in_side (symbol_of v (bytes_of text name)) ps value)
 
+    -- and in the right side of a definition
     abbrev pub large_use_in_definition : List Binder → ExprTree → Option ℕ
     large_use_in_definition bs e = large_use_in_formula (with_binders text v [] bs) e

@@ -24,6 +24,7 @@ abbrev pub equations : TermTrees → FormTrees
 equations no_terms = no_forms
 equations (term_then t ts) = form_then (equal (bound (term_count ts)) t) (equations ts)
 
+-- the parameters are these terms, one by one
 abbrev pub at_tuple : TermTrees → FormTree
 at_tuple ts = conjunction (equations ts)
 
@@ -32,6 +33,7 @@ abbrev pub right_of_insertion : ℕ → TermTrees → FormTree
 right_of_insertion r ts =
     disjunction (form_then (rel r (parameters (term_count ts))) (form_then (at_tuple ts) no_forms))
 
+-- the primitive of an `insert`; what stands for a target that is no relation is read by nobody
 abbrev pub insertion : Meaning → TermTrees → PrimitiveTree
 insertion (Relation r) ts = set_rel r (right_of_insertion r ts)
 insertion _ ts = abort
@@ -41,6 +43,7 @@ abbrev pub right_of_removal : ℕ → TermTrees → FormTree
 right_of_removal r ts =
     conjunction (form_then (rel r (parameters (term_count ts))) (form_then (negation (at_tuple ts)) no_forms))
 
+-- the primitive of a `remove`, likewise
 abbrev pub removal : Meaning → TermTrees → PrimitiveTree
 removal (Relation r) ts = set_rel r (right_of_removal r ts)
 removal _ ts = abort
@@ -49,6 +52,7 @@ removal _ ts = abort
 abbrev pub right_of_placement : ℕ → TermTrees → TermTree → TermTree
 right_of_placement f ts u = ite (at_tuple ts) u (app f (parameters (term_count ts)))
 
+-- the primitive of a `put`; what stands for a target that is no function is read by nobody
 abbrev pub placement : Meaning → TermTrees → TermTree → PrimitiveTree
 placement (Function f) ts u = set_fun f (right_of_placement f ts u)
 placement _ ts u = abort

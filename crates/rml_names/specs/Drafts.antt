@@ -14,6 +14,7 @@ use Rattle.rml_names.specs.declared.draft.ModelDraft.{ModelDraft}
 use Rattle.rml_names.specs.Vocabulary.{Vocabulary}
 use Rattle.rml_names.specs.Growth.{empty_vocabulary}
 
+-- the names of a model; those of derived relations are none of them
 abbrev pub names_in : NameTables → Names
 names_in t = record {
   sorts = t.sorts;
@@ -24,6 +25,7 @@ names_in t = record {
   actions = t.actions;
 }
 
+-- what is declared, as plain data
 abbrev pub words_in : Declarations → Vocabulary
 words_in d = record {
   signature = d.signature;
@@ -53,6 +55,7 @@ pub record DraftTree : Type 0 where
   pub last : CommandTree
   pub places : Places
 
+-- the parts before the first item: `init` and `final` are `skip`
 abbrev pub empty_draft : DraftTree
 empty_draft = record {
   vocabulary = empty_vocabulary;
@@ -103,6 +106,7 @@ places_in p = record {
 abbrev pub listed_in : ListedAxioms → ListedTree
 listed_in l = record { names = l.names.items; sentences = l.sentences.items; places = l.places.items }
 
+-- the parts so far, as plain data
 abbrev pub draft_in : ModelDraft → DraftTree
 draft_in d = record {
   vocabulary = words_in d.declared;

@@ -17,12 +17,14 @@ abbrev pub sort_of_number : ℕ → Sort
 sort_of_number k = record { 0 = k }
 
 module _ (text : List ℕ) where
+  -- a sort, whose number is how many sorts there were
   abbrev pub with_sort : Vocabulary → Name → Vocabulary
   with_sort v name = record v {
     signature = record v.signature { sorts = v.signature.sorts + 1 };
     names = record v.names { sorts = v.names.sorts ++ bytes_of text name ∷ [] };
   }
 
+  -- a relation, with its argument sorts
   abbrev pub with_relation : Vocabulary → Name → List ℕ → Vocabulary
   with_relation v name sorts = record v {
     signature = record v.signature { relations = v.signature.relations ++ sorts ∷ [] };
@@ -46,10 +48,12 @@ module _ (text : List ℕ) where
     names = record v.names { functions = v.names.functions ++ bytes_of text name ∷ [] };
   }
 
+  -- the names of a sort's elements, in order
   abbrev pub with_elements : Vocabulary → ℕ → List Name → Vocabulary
   with_elements v sort [] = v
   with_elements v sort (name ∷ names) = with_elements (with_element v sort name) sort names
 
+  -- the name of an axiom; what the axiom says is no part of this
   abbrev pub with_axiom : Vocabulary → Name → Vocabulary
   with_axiom v name = record v { names = record v.names { axioms = v.names.axioms ++ bytes_of text name ∷ [] } }
 

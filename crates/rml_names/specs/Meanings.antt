@@ -25,6 +25,7 @@ is_among names name = list_any (bytes_eq name) names
 
 -- ---- symbols
 
+-- the symbol by its number among relations, functions and derived relations; the first that there is counts
 abbrev pub symbol_by : Option ℕ → Option ℕ → Option ℕ → Meaning
 symbol_by (Some r) f d = Relation r
 symbol_by None (Some f) d = Function f
@@ -51,9 +52,11 @@ is_relation (Function f) = false
 is_relation (Derived d) = true
 is_relation Unknown = false
 
+-- a relation, function, variable or derived relation has this name
 abbrev pub is_symbol : Vocabulary → List ℕ → Bool
 is_symbol v name = is_known (symbol_of v name)
 
+-- the sorts that stand between a name's parentheses; a bound and an unknown name have none
 abbrev pub argument_sorts : Vocabulary → Meaning → List ℕ
 argument_sorts v (Bound i k) = []
 argument_sorts v (Relation r) = (symbols v.signature).sorts_of r
@@ -86,6 +89,7 @@ is_writable v _ = true
 
 -- ---- bound names
 
+-- a name that a binder or parameter binds, and its sort
 pub record BoundName : Type 0 where
   pub name : List ℕ
   pub sort : ℕ
@@ -108,6 +112,7 @@ module _ (text : List ℕ) where
   abbrev pub sort_number : Vocabulary → Name → ℕ
   sort_number v name = unwrap_or (sort_by_name v name) 0
 
+  -- the name that a binder binds; where its sort is unknown, with the sort 0
   abbrev pub binding : Vocabulary → Binder → BoundName
   binding v b = record { name = bytes_of text b.name; sort = sort_number v b.sort }
 

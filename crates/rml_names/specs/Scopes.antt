@@ -5,6 +5,7 @@ use Rattle.rml_names.specs.declared.scope.Scope.TheOpen.{Scope-F}
 use Rattle.rml_names.specs.declared.scope.Scope.TheFolds.{fold-Scope}
 use Rattle.rml_names.specs.Meanings.{BoundName}
 
+-- one binder more, before those outside
 abbrev pub scope_step : Scope-F (List BoundName) → List BoundName
 scope_step Scope-F.Outside = []
 scope_step (Scope-F.Inside b outer) = record { name = b.name.now; sort = b.sort } ∷ outer.now

@@ -24,10 +24,12 @@ use Rattle.rml_names.specs.Meanings.{bytes_of, is_among, is_known, is_relation, 
 use Rattle.rml_names.specs.Meanings.{result_sort, is_variable, is_function_with_arguments, is_writable, BoundName}
 use Rattle.rml_names.specs.Meanings.{meaning_of, sort_by_name, binding, with_parameters, with_binders, term_sort}
 
+-- what a text has to meet, and the fault where it is not met
 pub record Demand : Type 0 where
   pub fault : Fault
   pub met : Bool
 
+-- the demand that stands at this place, with this code
 abbrev pub asks : ℕ → FaultCode → Bool → Demand
 asks at code met = record { fault = record { code = code; at = at }; met = met }
 
@@ -99,6 +101,7 @@ module _ (text : List ℕ) where
       asks b.name.start fault_code.TakenName (not (is_symbol v (bytes_of text b.name)))
       ∷ asks b.sort.start fault_code.UnknownName (is_some (sort_by_name text v b.sort)) ∷ []
 
+  -- what an expression demands under these binders, the nearest one first, where a formula or a term is wanted
   abbrev mutual
     pub demands : Vocabulary → List BoundName → Wanted → ExprTree → List Demand
     demands v bound w (True at) = compound w at []
@@ -163,6 +166,7 @@ module _ (text : List ℕ) where
   side_of v (meaning.Relation r) = Formula
   side_of v x = Term (result_sort v x)
 
+  -- the right side of `:=` under its parameters; a `*` demands nothing
   abbrev pub side_demands : Vocabulary → List BoundName → Meaning → Option ExprTree → List Demand
   side_demands v bound x None = []
   side_demands v bound x (Some e) = demands v bound (side_of v x) e
@@ -176,6 +180,7 @@ module _ (text : List ℕ) where
       ∷ asks at fault_code.WrongArgumentCount (length ps == length (argument_sorts v x)) ∷ [])
       ++ (parameter_demands v [] ps ++ side_demands v (with_parameters text [] ps (argument_sorts v x)) x value)
 
+  -- what a command demands, its parts in the order of reading
   abbrev mutual
     pub command_demands : Vocabulary → Format → CommandTree → List Demand
     command_demands v format (Skip at) = []

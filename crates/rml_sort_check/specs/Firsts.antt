@@ -17,10 +17,12 @@ join : (f : Fault) (p q : Option Fault) (b : Bool) → (p ≡ None → q ≡ Non
 join f p q true so h = so h
 join f p q false so h = h
 
+-- where all are met, so are those of the first part
 pub met_left : (xs ys : List Demand) → first_fault (xs ++ ys) ≡ None → first_fault xs ≡ None
 met_left [] ys h = refl
 met_left (x ∷ xs) ys h = join x.fault (first_fault (xs ++ ys)) (first_fault xs) x.met (met_left xs ys) h
 
+-- and so are those of the second
 pub met_right : (xs ys : List Demand) → first_fault (xs ++ ys) ≡ None → first_fault ys ≡ None
 met_right [] ys h = h
 met_right (x ∷ xs) ys h = met_right xs ys (met x (xs ++ ys) h).1
