@@ -24,6 +24,7 @@ pub data Line : Type 0 where
   emit : Text → Emission → Line
   sample : ℕ → Line
 
+-- what a request asks for, with the names of its files
 abbrev pub request_line : Request → Line
 request_line (request.Check file asked) = check file.now asked
 request_line (request.Houdini file asked) = houdini file.now asked
@@ -90,6 +91,7 @@ asked_by rows =
     (number_of 1 50000000 default_asked.ground_size (first_of (codes "ground") rows)))
     (number_of 1 100000 default_asked.terms (first_of (codes "terms") rows))
 
+-- what these arguments of the command ask for, where `clap` found them
 abbrev pub check_by : Option (List Row) → Option Line
 check_by rows =
     option_and_then
@@ -130,6 +132,7 @@ what_of word =
     else if bytes_eq word (codes "lrat") then Some Lrat
     else None
 
+-- a goal's number, what is to be written of it, and what a decision may spend
 abbrev pub emission_by : List Row → Option Emission
 emission_by rows =
     option_and_then

@@ -5,6 +5,7 @@ use Rattle.rml_lex.specs.declared.fault_code.FaultCode.{FaultCode}
 use Rattle.rml_lex.specs.FaultCodes.{number_of}
 use Rattle.rml_fragment.specs.First.{IsNotBehind}
 
+-- the one that stands first; at one place, the one whose code has the lower number
 abbrev pub earlier_of : Fault → Fault → Fault
 earlier_of f g =
     if nat_lt f.at g.at then f
@@ -17,14 +18,17 @@ earlier None g = g
 earlier (Some f) None = Some f
 earlier (Some f) (Some g) = Some (earlier_of f g)
 
+-- the fault of a check that is not passed
 abbrev pub fault_unless : Bool → FaultCode → ℕ → Option Fault
 fault_unless true code at = None
 fault_unless false code at = Some (record { code = code; at = at })
 
+-- what was found is one of P
 abbrev pub IsFound : (Fault → Type 0) → Option Fault → Type 0
 IsFound P None = Unit {0}
 IsFound P (Some f) = P f
 
+-- a fault was found, and it comes no later than this one
 abbrev pub IsNotBehindFound : Option Fault → Fault → Type 0
 IsNotBehindFound None g = ⊥
 IsNotBehindFound (Some f) g = IsNotBehind f g

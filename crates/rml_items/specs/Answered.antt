@@ -14,19 +14,23 @@ use Rattle.rml_sort_check.specs.Firsts.{first_left, first_right}
 abbrev pub Refuses : List Demand → Refused Fault → Type 0
 Refuses ds e = Because (λ f. first_fault ds ≡ Some f) e
 
+-- lists with the same first fault are refused alike
 pub refuses_as : (xs ys : List Demand) (e : Refused Fault) → first_fault xs ≡ first_fault ys → Refuses xs e
     → Refuses ys e
 refuses_as xs ys (For f) same h = sym same ∙ h
 refuses_as xs ys NoMemory same h = tt
 
+-- a refusal of the first part is one of the whole
 pub refuses_left : (xs ys : List Demand) (e : Refused Fault) → Refuses xs e → Refuses (xs ++ ys) e
 refuses_left xs ys (For f) h = first_left xs ys f h
 refuses_left xs ys NoMemory h = tt
 
+-- where the first part is met, a refusal of the second is one of the whole
 pub refuses_right : (xs ys : List Demand) (e : Refused Fault) → first_fault xs ≡ None → Refuses ys e
     → Refuses (xs ++ ys) e
 refuses_right xs ys e met h = refuses_as ys (xs ++ ys) e (sym (first_right xs ys met)) h
 
+-- where both parts are met, the whole is
 pub both_met : (xs ys : List Demand) → first_fault xs ≡ None → first_fault ys ≡ None → first_fault (xs ++ ys) ≡ None
 both_met xs ys a b = first_right xs ys a ∙ b
 
@@ -42,6 +46,7 @@ pub because_first : (P : Fault → Type 0) (ds : List Demand) (e : Refused Fault
 because_first P ds (For f) so h = so f h
 because_first P ds NoMemory so h = tt
 
+-- what holds of the refusal that a call gave holds of the call's result
 pub if_err : {X : Type 0} (P : Refused Fault → Type 0) (r : Result X (Refused Fault)) (e : Refused Fault)
     → IsErrAnd r (λ x. x ≡ e) → P e → IfErr r P
 if_err P (Ok x) e is h = absurd is

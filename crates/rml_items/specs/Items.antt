@@ -23,6 +23,7 @@ pub record Standing : Type 0 where
   pub has_init : Bool
   pub has_last : Bool
 
+-- before the first item
 abbrev pub no_items : Standing
 no_items = record { words = empty_vocabulary; has_init = false; has_last = false }
 
@@ -38,6 +39,7 @@ stands_once at taken = asks at fault_code.DeclaredTwice (not taken) ∷ []
 module _ (text : List ℕ) where
   -- ---- demands
 
+  -- the sort is declared
   abbrev pub sort_known : Vocabulary → Name → Demand
   sort_known v sort = asks sort.start fault_code.UnknownName (is_some (sort_by_name text v sort))
 
@@ -48,6 +50,7 @@ module _ (text : List ℕ) where
       sort_known v sort ∷ asks sort.start fault_code.WrongArgumentCount (nat_lt i max_arguments)
       ∷ sort_demands v (suc i) sorts
 
+  -- relations, functions, variables and derived relations have one name space
   abbrev pub declares_symbol : Vocabulary → Name → List Demand
   declares_symbol v name = declares v (is_symbol v (bytes_of text name)) name
 
@@ -64,9 +67,11 @@ module _ (text : List ℕ) where
   abbrev pub declares_sentence : Vocabulary → Name → List Demand
   declares_sentence v name = declares v (is_sentence v (bytes_of text name)) name
 
+  -- sorts have a name space of their own
   abbrev pub declares_sort : Vocabulary → Name → List Demand
   declares_sort v name = declares v (is_among v.names.sorts (bytes_of text name)) name
 
+  -- and so have actions
   abbrev pub declares_action : Vocabulary → Name → List Demand
   declares_action v name = declares v (is_among v.names.actions (bytes_of text name)) name
 
@@ -104,6 +109,7 @@ module _ (text : List ℕ) where
   body_demands format v (Final at cs) = block_demands text v format (block_of cs)
   body_demands format v (Define name bs e) = definition_demands text v bs e
 
+  -- what an item demands, in the order of reading
   abbrev pub item_demands : Format → Standing → ItemTree → List Demand
   item_demands format d item = head_demands d.words item ++ (once_demands d item ++ body_demands format d.words item)
 
@@ -127,14 +133,17 @@ module _ (text : List ℕ) where
   words_with v (Final at cs) = v
   words_with v (Define name bs e) = with_definition text v name (parameter_sorts v bs)
 
+  -- `init` has stood, with this item more
   abbrev pub has_init_with : Bool → ItemTree → Bool
   has_init_with had (Init at cs) = true
   has_init_with had _ = had
 
+  -- and so `final`
   abbrev pub has_last_with : Bool → ItemTree → Bool
   has_last_with had (Final at cs) = true
   has_last_with had _ = had
 
+  -- what some items declare, with one more
   abbrev pub with_item : Standing → ItemTree → Standing
   with_item d item = record {
     words = words_with d.words item;
@@ -144,10 +153,12 @@ module _ (text : List ℕ) where
 
   -- ---- whole trees
 
+  -- with these more, one after another
   abbrev pub with_items : Standing → List ItemTree → Standing
   with_items d [] = d
   with_items d (item ∷ items) = with_items (with_item d item) items
 
+  -- what items demand, each by what those before it declare
   abbrev pub items_demands : Format → Standing → List ItemTree → List Demand
   items_demands format d [] = []
   items_demands format d (item ∷ items) = item_demands format d item

@@ -19,6 +19,7 @@ abbrev pub FaultStandsInText : Type 0
 FaultStandsInText = (text : List ℕ) (n : ℕ) (tree : FileTree) (f : Fault) → TreeWithin n tree
     → fault_of text tree ≡ Some f → StandsBy n f
 
+-- where the demands stand
 abbrev pub demand_places : List Demand → List ℕ
 demand_places ds = map (λ d. d.fault.at) ds
 

@@ -7,6 +7,7 @@ use Rattle.rml_names.specs.Drafts.{words_in}
 use Rattle.rml_items.specs.declared.items.Progress.{Progress}
 use Rattle.rml_items.specs.Items.{Standing}
 
+-- what the items so far declare, as plain data
 abbrev pub standing_of : Progress → Standing
 standing_of p = record { words = words_in p.known; has_init = p.has_init; has_last = p.has_last }
 

@@ -29,32 +29,39 @@ front_of : {A : Type 0} (P : List A → Type 0) (Q R : Type 0) (xs : List A) (i 
     → (P (x ∷ drop (i + 1) xs) → Q) → P (drop i xs) → Q
 front_of P Q R xs i x lt is so h = so (subst P (drop_read xs i x lt is) h)
 
+-- the tree of a block's commands
 abbrev pub tree_of : List Command → Block
 tree_of cs = block_of (command_trees cs)
 
+-- the trees of a choice's branches
 abbrev pub trees_of : List (Vec Command) → Blocks
 trees_of bs = blocks_of (block_trees bs)
 
+-- what is known from a place of a block on is known of the command there: how deep its binders nest
 pub front_nests : (n : ℕ) (xs : List Command) (i : ℕ) (x : Command) → i < length xs → x ≡ get_or xs i x
     → BlockNests n (tree_of (drop i xs)) → CommandNests n (command_tree x)
 front_nests n xs i x lt is h =
     front_of (λ l. BlockNests n (tree_of l)) (CommandNests n (command_tree x)) (Unit {0}) xs i x lt is (λ p. p.0) h
 
+-- and where its names stand
 pub front_within : (n : ℕ) (xs : List Command) (i : ℕ) (x : Command) → i < length xs → x ≡ get_or xs i x
     → BlockWithin n (tree_of (drop i xs)) → CommandWithin n (command_tree x)
 front_within n xs i x lt is h =
     front_of (λ l. BlockWithin n (tree_of l)) (CommandWithin n (command_tree x)) (Unit {0}) xs i x lt is (λ p. p.0) h
 
+-- the same of a branch of a choice: how deep its binders nest
 pub front_block_nests : (n : ℕ) (xs : List (Vec Command)) (i : ℕ) (x : Vec Command) → i < length xs → x ≡ get_or xs i x
     → BlocksNest n (trees_of (drop i xs)) → BlockNests n (tree_of x.items)
 front_block_nests n xs i x lt is h =
     front_of (λ l. BlocksNest n (trees_of l)) (BlockNests n (tree_of x.items)) (Unit {0}) xs i x lt is (λ p. p.0) h
 
+-- and where its names stand
 pub front_block_within : (n : ℕ) (xs : List (Vec Command)) (i : ℕ) (x : Vec Command) → i < length xs → x ≡ get_or xs i x
     → BlocksWithin n (trees_of (drop i xs)) → BlockWithin n (tree_of x.items)
 front_block_within n xs i x lt is h =
     front_of (λ l. BlocksWithin n (trees_of l)) (BlockWithin n (tree_of x.items)) (Unit {0}) xs i x lt is (λ p. p.0) h
 
+-- the tree of a choice as it stands in the program
 pub choice_tree : (c : Command) (at : ℕ) (bs : Vec (Vec Command)) → c ≡ variants.Choose at bs
     → command_tree c ≡ syntax.Choose at (trees_of bs.items)
 choice_tree c at bs is =
@@ -72,23 +79,28 @@ if_given P c at e a b xs ys is p q h =
     ∙ fold-roll-Command syntax.CommandTree command_step (opened.If at e a b) in
     rw (p, q) (subst P t h)
 
+-- and so of a choice
 pub choice_given : (P : syntax.CommandTree → Type 0) (c : Command) (at : ℕ) (bs : Vec (Vec Command))
     (xs : List (Vec Command)) → c ≡ variants.Choose at bs → xs ≡ bs.items
     → P (command_tree c) → P (syntax.Choose at (trees_of xs))
 choice_given P c at bs xs is p h = rw p (subst P (choice_tree c at bs is) h)
 
+-- the first branch of an `if` nests as the `if` does
 pub first_nests : (n : ℕ) (c : Command) (at : ℕ) (e : Expr) (a b : Vec Command) (xs : List Command)
     → c ≡ variants.If at e a b → xs ≡ a.items → CommandNests n (command_tree c) → BlockNests n (tree_of xs)
 first_nests n c at e a b xs is p h = let g = if_given (CommandNests n) c at e a b xs b.items is p refl h in g.1
 
+-- and so does the second
 pub second_nests : (n : ℕ) (c : Command) (at : ℕ) (e : Expr) (a b : Vec Command) (xs : List Command)
     → c ≡ variants.If at e a b → xs ≡ b.items → CommandNests n (command_tree c) → BlockNests n (tree_of xs)
 second_nests n c at e a b xs is p h = let g = if_given (CommandNests n) c at e a b a.items xs is refl p h in g.2
 
+-- the names of the first branch of an `if` stand where those of the `if` do
 pub first_within : (n : ℕ) (c : Command) (at : ℕ) (e : Expr) (a b : Vec Command) (xs : List Command)
     → c ≡ variants.If at e a b → xs ≡ a.items → CommandWithin n (command_tree c) → BlockWithin n (tree_of xs)
 first_within n c at e a b xs is p h = let g = if_given (CommandWithin n) c at e a b xs b.items is p refl h in g.2
 
+-- and so do those of the second
 pub second_within : (n : ℕ) (c : Command) (at : ℕ) (e : Expr) (a b : Vec Command) (xs : List Command)
     → c ≡ variants.If at e a b → xs ≡ b.items → CommandWithin n (command_tree c) → BlockWithin n (tree_of xs)
 second_within n c at e a b xs is p h = let g = if_given (CommandWithin n) c at e a b a.items xs is refl p h in g.3
@@ -100,6 +112,7 @@ of_if P c at e a b is h =
     subst P (sym (ap command_tree (is ∙ sym (rolls-If at e a b))
     ∙ fold-roll-Command syntax.CommandTree command_step (opened.If at e a b))) h
 
+-- and so of a choice
 pub of_choice : (P : syntax.CommandTree → Type 0) (c : Command) (at : ℕ) (bs : Vec (Vec Command))
     → c ≡ variants.Choose at bs → P (syntax.Choose at (trees_of bs.items)) → P (command_tree c)
 of_choice P c at bs is h = subst P (sym (choice_tree c at bs is)) h
@@ -111,24 +124,28 @@ branches_nest n at (and_block b bs) h = h
 
 -- ---- turns of the loop over the commands of a block
 
+-- what is known from a place of a block on is known behind it: how deep binders nest
 pub rest_nests : (n : ℕ) (xs : List Command) (i : ℕ) (x : Command) → i < length xs → x ≡ get_or xs i x
     → BlockNests n (tree_of (drop i xs)) → BlockNests n (tree_of (drop (i + 1) xs))
 rest_nests n xs i x lt is h =
     front_of (λ l. BlockNests n (tree_of l)) (BlockNests n (tree_of (drop (i + 1) xs))) (Unit {0}) xs i x lt is
     (λ p. p.1) h
 
+-- and where names stand
 pub rest_within : (n : ℕ) (xs : List Command) (i : ℕ) (x : Command) → i < length xs → x ≡ get_or xs i x
     → BlockWithin n (tree_of (drop i xs)) → BlockWithin n (tree_of (drop (i + 1) xs))
 rest_within n xs i x lt is h =
     front_of (λ l. BlockWithin n (tree_of l)) (BlockWithin n (tree_of (drop (i + 1) xs))) (Unit {0}) xs i x lt is
     (λ p. p.1) h
 
+-- the same of the branches of a choice: how deep binders nest
 pub rest_blocks_nest : (n : ℕ) (xs : List (Vec Command)) (i : ℕ) (x : Vec Command) → i < length xs → x ≡ get_or xs i x
     → BlocksNest n (trees_of (drop i xs)) → BlocksNest n (trees_of (drop (i + 1) xs))
 rest_blocks_nest n xs i x lt is h =
     front_of (λ l. BlocksNest n (trees_of l)) (BlocksNest n (trees_of (drop (i + 1) xs))) (Unit {0}) xs i x lt is
     (λ p. p.1) h
 
+-- and where names stand
 pub rest_blocks_within : (n : ℕ) (xs : List (Vec Command)) (i : ℕ) (x : Vec Command) → i < length xs → x ≡ get_or xs i x
     → BlocksWithin n (trees_of (drop i xs)) → BlocksWithin n (trees_of (drop (i + 1) xs))
 rest_blocks_within n xs i x lt is h =
@@ -179,6 +196,7 @@ module _ {A : Type 0} (D : List A → List Demand) (E : A → List Demand)
 
 -- ---- how large a command is
 
+-- a number that is greater for a command than for each of its blocks, and for a block than for each of its commands
 abbrev mutual
   pub command_size : syntax.CommandTree → ℕ
   command_size (syntax.If at e a b) = suc (block_size a + block_size b)
@@ -193,6 +211,7 @@ abbrev mutual
   blocks_size no_block = 0
   blocks_size (and_block b bs) = suc (block_size b + blocks_size bs)
 
+-- the first branch of an `if` is smaller than it
 pub first_smaller : (c : Command) (at : ℕ) (e : Expr) (a b : Vec Command) (xs : List Command) → c ≡ variants.If at e a b
     → xs ≡ a.items → block_size (tree_of xs) < command_size (command_tree c)
 first_smaller c at e a b xs is p =
@@ -200,6 +219,7 @@ first_smaller c at e a b xs is p =
     (subst (λ l. block_size (tree_of l) < suc (block_size (tree_of a.items) + block_size (tree_of b.items))) (sym p)
     (omega arith))
 
+-- and so is the second
 pub second_smaller : (c : Command) (at : ℕ) (e : Expr) (a b : Vec Command) (xs : List Command)
     → c ≡ variants.If at e a b → xs ≡ b.items → block_size (tree_of xs) < command_size (command_tree c)
 second_smaller c at e a b xs is p =
@@ -220,6 +240,7 @@ branch_smaller [] i x lt is = absurd (omega arith)
 branch_smaller (y ∷ ys) zero x lt is = rw is (omega arith)
 branch_smaller (y ∷ ys) (suc i) x lt is = let h = branch_smaller ys i x (omega arith) is in omega (arith, h)
 
+-- and so is each branch of a choice
 pub choice_smaller : (c : Command) (at : ℕ) (bs : Vec (Vec Command)) (xs : List (Vec Command)) (i : ℕ) (x : Vec Command)
     (ys : List Command) → c ≡ variants.Choose at bs → xs ≡ bs.items
     → i < length xs → x ≡ get_or xs i x → ys ≡ x.items → block_size (tree_of ys) < command_size (command_tree c)
@@ -231,10 +252,12 @@ choice_smaller c at bs xs i x ys is p lt at_i q =
 
 -- ---- a block's commands
 
+-- what is known of each command of a list is known of its block: how deep binders nest
 pub block_nests : (n : ℕ) (cs : List syntax.CommandTree) → CommandsNest n cs → BlockNests n (block_of cs)
 block_nests n [] h = tt
 block_nests n (c ∷ cs) h = (h.0, block_nests n cs h.1)
 
+-- and where names stand
 pub block_within : (n : ℕ) (cs : List syntax.CommandTree) → CommandsWithin n cs → BlockWithin n (block_of cs)
 block_within n [] h = tt
 block_within n (c ∷ cs) h = (h.0, block_within n cs h.1)

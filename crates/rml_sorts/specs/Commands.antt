@@ -26,6 +26,7 @@ branching p cs ds = choose (command_then (seq (command_then (prim (assume p)) cs
     (command_then (seq (command_then (prim (assume (negation p))) ds)) no_commands))
 
 module _ (text : List ℕ) (v : Vocabulary) (bodies : List FormTree) where
+  -- the command that a command of the text stands for; a block is a sequence
   abbrev mutual
     pub command_of : syntax.CommandTree → CommandTree
     command_of (Skip at) = seq no_commands
@@ -56,6 +57,7 @@ module _ (text : List ℕ) (v : Vocabulary) (bodies : List FormTree) where
   abbrev pub condition : Word → ℕ → FormTree → Condition
   condition w at p = record { word = w; at = at; sentence = p }
 
+  -- the conditions of a command, in the order of reading
   abbrev mutual
     pub conditions_of : syntax.CommandTree → List Condition
     conditions_of (Skip at) = []

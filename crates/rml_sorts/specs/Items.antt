@@ -41,6 +41,7 @@ module _ (text : List ℕ) where
     quantifiers = places.quantifiers ++ quantifiers_of_block (block_of cs);
   }
 
+  -- a block as one command
   abbrev pub block_command : DraftTree → List syntax.CommandTree → CommandTree
   block_command d cs = seq (commands_of text d.vocabulary d.bodies (block_of cs))
 
@@ -52,6 +53,8 @@ module _ (text : List ℕ) where
     places = listed.places ++ name.start ∷ [];
   }
 
+  -- a sort's number is that of the next sort, and its elements' names have those of the next functions; without
+  -- names no axiom is added
   abbrev pub with_listed : DraftTree → Name → List Name → ListedTree
   with_listed d name [] = d.listed
   with_listed d name (one ∷ names) = with_listed_axiom d.listed name
@@ -98,6 +101,7 @@ module _ (text : List ℕ) where
   abbrev pub draft_with : DraftTree → ItemTree → DraftTree
   draft_with d item = record (parts_with d item) { vocabulary = words_with text d.vocabulary item }
 
+  -- with these items more, one after another
   abbrev pub draft_of : DraftTree → List ItemTree → DraftTree
   draft_of d [] = d
   draft_of d (item ∷ items) = draft_of (draft_with d item) items
@@ -108,6 +112,7 @@ module _ (text : List ℕ) where
 
   -- ---- what is too large
 
+  -- what is too large in items, each by the draft of those before it
   abbrev pub items_sizes : DraftTree → List ItemTree → List Demand
   items_sizes d [] = []
   items_sizes d (item ∷ items) = item_sizes text d.vocabulary d.bodies item ++ items_sizes (draft_with d item) items

@@ -19,6 +19,7 @@ no_large_use None = []
 no_large_use (Some at) = asks at fault_code.LargeDefinition false ∷ []
 
 module _ (text : List ℕ) (v : Vocabulary) (bodies : List FormTree) where
+  -- what is too large in a command, in the order of reading
   abbrev mutual
     pub command_sizes : CommandTree → List Demand
     command_sizes (Skip at) = []
@@ -41,6 +42,7 @@ module _ (text : List ℕ) (v : Vocabulary) (bodies : List FormTree) where
     blocks_sizes no_block = []
     blocks_sizes (and_block b bs) = block_sizes b ++ blocks_sizes bs
 
+  -- and in an item
   abbrev pub item_sizes : ItemTree → List Demand
   item_sizes (syntax.Sort name names) = []
   item_sizes (Relation name sorts) = []

@@ -32,6 +32,8 @@ pub record IsPlainDraft (d : DraftTree) : Type 0 where
   pub conditions : AllByRecursion (λ c. HasPlainTerms c.sentence) d.places.conditions
   pub blocks : EachDraftBlock (EachPrimitive HasPlainSides) d
 
+-- The parts fit one another, each thing has a name and a place, each choice a branch, and each assumption comes from a
+-- condition of the text.
 pub record IsSound (d : DraftTree) : Type 0 where
   pub words : IsSorted d.vocabulary
   pub bodies : HasBodies d.vocabulary d.bodies
