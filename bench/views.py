@@ -120,6 +120,7 @@ FAULTS = [
      "sort s\nsort t\nrelation r(s, t)\naxiom a: forall X:s. exists Y:t. r(X, Y)\n", "fault"),
     ("more paths than are followed", "relation p\naction a { " + "; ".join(["if p { skip }"] * 13) + " }\n", "fault"),
     ("a sort that is another's", "sort s\nsort t\nvariable x : s\nvariable y : t\naxiom a: x = y\n", "fault"),
+    ("a format that there is not", "rml 3\nrelation p\n", "fault"),
     ("a definition in a file of format 1", "relation p\ndefine d := p\n", "fault"),
     ("a name of a listed sort that is set", "rml 2\nsort s = { a, b }\naction t { a := b }\n", "fault"),
     ("a definition that is too large", "rml 2\nrelation p\ndefine d0 := p\n" + "".join(

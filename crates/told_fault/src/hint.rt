@@ -52,7 +52,7 @@ pub enum Hint {
     Havoc,
     /// An action has no parameters: declare `variable x : s`, and begin with `x := *`.
     Parameters,
-    /// There is one format: `rml 1`.
+    /// A file begins with `rml 1`, with `rml 2`, or with neither.
     Format,
     /// A quantifier names sorts, and stands before a dot.
     Quantifier,
@@ -123,7 +123,7 @@ impl Hint {
             Hint::Havoc => "to set x to any element is written `x := *`",
             Hint::Parameters =>
                 "an action has no parameters: declare `variable x : s`, and begin with `x := *`",
-            Hint::Format => "there is one format: `rml 1`",
+            Hint::Format => "a file begins with `rml 1`, with `rml 2`, or with neither",
             Hint::Quantifier => "a quantifier is written `forall X:s. ..` or `exists X:s. ..`",
             Hint::Member => "what is in a set is told by a relation: `r(x)`, `r(x, y)`",
             Hint::Set => "a set is a relation: `insert r(x)`, `remove r(x)`, `r(X) := ..`",

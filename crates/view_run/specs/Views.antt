@@ -1,4 +1,5 @@
--- What all questions share: an answer with the text as far as it can be read, the branches of a path, and faults.
+-- What all questions share: an answer with the text as far as it can be read, the branches of a path, what derived
+-- relations are in a structure, and faults.
 use Rattle.std.specs.Prelude.{ℕ, List, [], Option, Some, None, codes}
 use Rattle.serde_json.specs.Data.{Members, object, string}
 use Rattle.rml_lex.specs.declared.token.Fault.{Fault}
