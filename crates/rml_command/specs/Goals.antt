@@ -117,7 +117,7 @@ abbrev pub leading_sorts : FormTree → List ℕ
 leading_sorts (for_all k p) = k ∷ leading_sorts p
 leading_sorts _ = []
 
--- the formula behind them
+-- the formula behind the leading run of `forall`
 abbrev pub body_of : FormTree → FormTree
 body_of (for_all k p) = body_of p
 body_of p = p

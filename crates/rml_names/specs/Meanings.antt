@@ -56,7 +56,7 @@ is_relation Unknown = false
 abbrev pub is_symbol : Vocabulary → List ℕ → Bool
 is_symbol v name = is_known (symbol_of v name)
 
--- the sorts that stand between a name's parentheses; a bound and an unknown name have none
+-- the sorts of the arguments of what is meant; a bound and an unknown name have none
 abbrev pub argument_sorts : Vocabulary → Meaning → List ℕ
 argument_sorts v (Bound i k) = []
 argument_sorts v (Relation r) = (symbols v.signature).sorts_of r

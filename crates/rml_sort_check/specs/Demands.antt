@@ -24,7 +24,7 @@ use Rattle.rml_names.specs.Meanings.{bytes_of, is_among, is_known, is_relation, 
 use Rattle.rml_names.specs.Meanings.{result_sort, is_variable, is_function_with_arguments, is_writable, BoundName}
 use Rattle.rml_names.specs.Meanings.{meaning_of, sort_by_name, binding, with_parameters, with_binders, term_sort}
 
--- what a text has to meet, and the fault where it is not met
+-- one rule of the language at one place: the fault where it is not met, and whether it is met
 pub record Demand : Type 0 where
   pub fault : Fault
   pub met : Bool
