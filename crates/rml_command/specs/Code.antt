@@ -76,7 +76,7 @@ path_code = coded_list primitive_code
 abbrev pub paths_code : Coded (List (List PrimitiveTree))
 paths_code = coded_list path_code
 
--- the tokens of a command, before others
+-- a number that says what stands there, and a primitive
 abbrev pub CommandToken : Type 0
 CommandToken = ℕ × PrimitiveTree
 

@@ -15,7 +15,8 @@ use Rattle.rml_names.specs.declared.meaning.Meaning.{Meaning}
 use Rattle.rml_names.specs.declared.meaning.Meaning.TheVariants.{Bound, Relation, Function, Derived}
 use Rattle.rml_names.specs.Meanings.{bytes_of, BoundName, meaning_of, sort_number, binding}
 
--- `bodies` are the right sides of the derived relations, with all uses written out
+-- A relation before its arguments; a derived relation is written out, by `bodies`, the right sides of the derived
+-- relations with all uses written out; another name is no atom.
 abbrev pub atom_of : List FormTree → Meaning → TermTrees → FormTree
 atom_of bodies (Relation r) args = rel r args
 atom_of bodies (Derived d) args = instance (slice_index_or bodies d bottom) args

@@ -1,4 +1,4 @@
--- The places of quantifiers where none may stand: inside an `ite`, and on the right of an update.
+-- The places of quantifiers where none may stand: inside an `ite`, and on the right of an update or a definition.
 use Rattle.std.specs.Prelude.{ℕ, Bool, true, false, if◌then◌else◌, List, [], ◌∷◌, ◌++◌, Option, Some, None}
 use Rattle.rml_terms.specs.Tree.{ExprTree, ExprTrees, True, False, Apply, Ite, Equal, Not, And, Or, Implies, Iff}
 use Rattle.rml_terms.specs.Tree.{Quantified, no_expr, and_expr}

@@ -19,7 +19,7 @@ use Rattle.rml_elaborate.specs.Updates.{insertion, removal, placement, assignmen
 
 -- ---- sizes
 
--- over so many nodes, or over so deep
+-- more than 100,000 nodes, or deeper than 1,000
 abbrev pub is_beyond : ℕ → ℕ → Bool
 is_beyond nodes depth = nat_lt 100000 nodes || nat_lt 1000 depth
 

@@ -85,27 +85,7 @@ pub choice_given : (P : syntax.CommandTree → Type 0) (c : Command) (at : ℕ) 
     → P (command_tree c) → P (syntax.Choose at (trees_of xs))
 choice_given P c at bs xs is p h = rw p (subst P (choice_tree c at bs is) h)
 
--- the first branch of an `if` nests as the `if` does
-pub first_nests : (n : ℕ) (c : Command) (at : ℕ) (e : Expr) (a b : Vec Command) (xs : List Command)
-    → c ≡ variants.If at e a b → xs ≡ a.items → CommandNests n (command_tree c) → BlockNests n (tree_of xs)
-first_nests n c at e a b xs is p h = let g = if_given (CommandNests n) c at e a b xs b.items is p refl h in g.1
-
--- and so does the second
-pub second_nests : (n : ℕ) (c : Command) (at : ℕ) (e : Expr) (a b : Vec Command) (xs : List Command)
-    → c ≡ variants.If at e a b → xs ≡ b.items → CommandNests n (command_tree c) → BlockNests n (tree_of xs)
-second_nests n c at e a b xs is p h = let g = if_given (CommandNests n) c at e a b a.items xs is refl p h in g.2
-
--- the names of the first branch of an `if` stand where those of the `if` do
-pub first_within : (n : ℕ) (c : Command) (at : ℕ) (e : Expr) (a b : Vec Command) (xs : List Command)
-    → c ≡ variants.If at e a b → xs ≡ a.items → CommandWithin n (command_tree c) → BlockWithin n (tree_of xs)
-first_within n c at e a b xs is p h = let g = if_given (CommandWithin n) c at e a b xs b.items is p refl h in g.2
-
--- and so do those of the second
-pub second_within : (n : ℕ) (c : Command) (at : ℕ) (e : Expr) (a b : Vec Command) (xs : List Command)
-    → c ≡ variants.If at e a b → xs ≡ b.items → CommandWithin n (command_tree c) → BlockWithin n (tree_of xs)
-second_within n c at e a b xs is p h = let g = if_given (CommandWithin n) c at e a b a.items xs is refl p h in g.3
-
--- and the other way round
+-- and what holds of the parts of an `if` holds of it
 pub of_if : (P : syntax.CommandTree → Type 0) (c : Command) (at : ℕ) (e : Expr) (a b : Vec Command)
     → c ≡ variants.If at e a b → P (syntax.If at (expr_tree e) (tree_of a.items) (tree_of b.items)) → P (command_tree c)
 of_if P c at e a b is h =

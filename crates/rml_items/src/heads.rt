@@ -169,7 +169,8 @@ fn add_elements(
     Ok(())
 }
 
-/// `sort`: the sort, and the names of its elements, where it has any.
+/// Declares the sort of a `sort`, and the names of its elements, where it has any. Err: the first demand of this item
+/// that is not met, or out of memory.
 pub fn add_sort(
     alloc: Global,
     text: &[u8],
@@ -195,7 +196,7 @@ pub fn add_sort(
     add_elements(alloc, text, known, sort, names)
 }
 
-/// `relation`
+/// Declares the relation of a `relation`. Err: the first demand that is not met, or out of memory.
 pub fn add_relation(
     alloc: Global,
     text: &[u8],
@@ -219,7 +220,7 @@ pub fn add_relation(
     Ok(())
 }
 
-/// `function`
+/// Declares the function of a `function`. Err: the first demand that is not met, or out of memory.
 pub fn add_function(
     alloc: Global,
     text: &[u8],
@@ -248,7 +249,7 @@ pub fn add_function(
     Ok(())
 }
 
-/// `variable`
+/// Declares the variable of a `variable`. Err: the first demand that is not met, or out of memory.
 pub fn add_variable(
     alloc: Global,
     text: &[u8],
@@ -285,7 +286,7 @@ fn parameter_sorts(alloc: Global, text: &[u8], known: &Declarations, parameters:
     sorts
 }
 
-/// The name of an axiom.
+/// Declares the name of an axiom. Err: the first demand that is not met, or out of memory.
 pub fn add_axiom(
     alloc: Global,
     text: &[u8],
@@ -304,7 +305,7 @@ pub fn add_axiom(
     Ok(())
 }
 
-/// The name of a conjecture.
+/// Declares the name of a conjecture. Err: the first demand that is not met, or out of memory.
 pub fn add_conjecture(
     alloc: Global,
     text: &[u8],
@@ -323,7 +324,7 @@ pub fn add_conjecture(
     Ok(())
 }
 
-/// The name of an action.
+/// Declares the name of an action. Err: the first demand that is not met, or out of memory.
 pub fn add_action(
     alloc: Global,
     text: &[u8],
@@ -342,7 +343,8 @@ pub fn add_action(
     Ok(())
 }
 
-/// `define`: the relation, with the sorts of its parameters.
+/// Declares the relation of a `define`, with the sorts of its parameters; one that is not known counts as the first
+/// sort. Err: the first demand on the name that is not met, or out of memory.
 pub fn add_definition(
     alloc: Global,
     text: &[u8],

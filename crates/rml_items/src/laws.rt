@@ -1,4 +1,4 @@
-// What follows from the definitions alone. Each function is its contract, and does nothing.
+// What follows from the definitions alone. Each function is its contract, and calls the laws that its proof takes.
 ghost use Rattle.rml_items.specs.Laws.{FaultStandsInText, DemandsAscend, FaultIsLeast, WordsStaySorted};
 ghost use Rattle.rml_items.specs.Laws.{DemandsAreMet};
 

@@ -1,5 +1,6 @@
-// What is declared grows by one name. Each call says what it becomes, and asks only that the name is new and that there
-// is room for it; that a text demands both is the business of the crates above.
+// What is declared grows by one name. Each call says what it becomes, and asks that the name stands in the text and is
+// new, that there is room for it, and that its sorts are known; that a text demands this is the business of the crates
+// above.
 ghost use Rattle.std.specs.Prelude.{◌≡◌, ◌<◌, false, length, OnOk};
 ghost use Rattle.fol_sig.specs.Tables.{AreSorts};
 ghost use Rattle.rml_terms.specs.Within.{NameWithin};

@@ -30,7 +30,7 @@ module _ (text : List ℕ) where
   abbrev pub with_place : Places → ℕ → Places
   with_place places at = record places { functions = places.functions ++ at ∷ [] }
 
-  -- a sentence's quantifiers that stand where none may
+  -- the quantifiers of a sentence or a definition that stand where none may
   abbrev pub with_quantifiers : Places → List ℕ → Places
   with_quantifiers places more = record places { quantifiers = places.quantifiers ++ more }
 
@@ -45,7 +45,7 @@ module _ (text : List ℕ) where
   abbrev pub block_command : DraftTree → List syntax.CommandTree → CommandTree
   block_command d cs = seq (commands_of text d.vocabulary d.bodies (block_of cs))
 
-  -- the axiom of a sort whose elements are listed, if they are
+  -- the axiom of a sort whose elements are listed
   abbrev pub with_listed_axiom : ListedTree → Name → FormTree → ListedTree
   with_listed_axiom listed name p = record {
     names = listed.names ++ bytes_of text name ∷ [];

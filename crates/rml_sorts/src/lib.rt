@@ -1,4 +1,4 @@
-//! The model of a text's tree whose names and sorts are right, and the fault of what is too large to be written out.
+//! The model of a text's tree, or its fault: of its names and sorts, or else of what is too large to be written out.
 #![tactic(auto)]
 
 mod blocks;

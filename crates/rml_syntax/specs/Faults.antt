@@ -33,7 +33,7 @@ use Rattle.rml_syntax.specs.declared.tree.Tree.{Tree}
 use Rattle.rml_syntax.specs.Tree.{ItemTree, FileTree, file_tree}
 use Rattle.rml_syntax.specs.Grammar.{file, max_levels}
 
--- the format that digits number: a 1 or a 2 behind zeros
+-- the format of one digit
 abbrev pub format_of_digit : ℕ → Option Format
 format_of_digit d = if d == 49 then Some One else if d == 50 then Some Two else None
 

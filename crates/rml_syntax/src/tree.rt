@@ -47,6 +47,6 @@ pub enum Item {
     Init(u64, Vec<Command>),
     Action(Name, Vec<Command>),
     Final(u64, Vec<Command>),
-    /// A name, its parameters, and what stands for it.
+    /// A name, its parameters, and what it stands for.
     Define(Name, Vec<Binder>, Expr),
 }
