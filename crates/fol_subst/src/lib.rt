@@ -1,7 +1,7 @@
 //! Replacement of a symbol in a formula by what it is set to, shifting of indices, and templates: formulas with
-//! parameters. Bound variables are never captured. How large the result of a replacement is, is counted before anything
-//! is built, and that of a template follows from counts that are taken once. A replacement takes the formula and changes
-//! it in place, so what does not mention the symbol is not copied.
+//! parameters. Bound variables are never captured. How large the result of a replacement is, is counted before
+//! anything is built, and that of a template follows from counts that are taken once. A replacement takes the
+//! formula and changes it in place, so what does not mention the symbol is not copied.
 #![tactic(auto)]
 
 mod change;

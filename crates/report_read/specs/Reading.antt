@@ -29,7 +29,8 @@ use Rattle.printed_report.specs.declared.printed.PrintedAnswer.{PrintedAnswer}
 use Rattle.printed_report.specs.declared.printed.PrintedAnswer.TheVariants as answer
 use Rattle.report_read.specs.Got.{Got, got, stuck, one, and_then}
 use Rattle.report_values.specs.ValueReading.{truths_in, values_in, elements_in}
-use Rattle.report_read.specs.LineReading.{is_axioms_line, is_least_line, head_in, path_in, size_in, words_in, verdict_in}
+use Rattle.report_read.specs.LineReading.{is_axioms_line, is_least_line, head_in, path_in, size_in}
+use Rattle.report_read.specs.LineReading.{words_in, verdict_in}
 use Rattle.report_values.specs.HavocReading.{entries_along}
 use Rattle.report_read.specs.declared.heads.Standing.{Standing}
 use Rattle.report_read.specs.declared.heads.Standing.TheVariants as head

@@ -1,4 +1,5 @@
--- What is told of derived relations: the tuples of which they are true, and those of which they come to be true or false.
+-- What is told of derived relations: the tuples of which they are true, and those of which they come to be true or
+-- false.
 use Rattle.std.specs.Prelude.{ℕ, Bool, true, false, if◌then◌else◌, List, [], ◌++◌, length, codes}
 use Rattle.fol_sig.specs.Tables.{Tables}
 use Rattle.fol_sig.specs.Tuples.{join_below}

@@ -8,7 +8,8 @@ ghost use Rattle.rml_items.specs.Items.{fault_of};
 ghost use Rattle.rml_sorts.specs.Items.{model_of, size_fault_of};
 ghost use Rattle.told_states.specs.Alike.{AreAlike};
 ghost use Rattle.rml_names.specs.Drafts.{draft_in};
-ghost use Rattle.told_derived.specs.Definitions.{definition_at, definitions_of, drafted, no_definitions, FitDefinitions};
+ghost use Rattle.told_derived.specs.Definitions.{definition_at, definitions_of, drafted, no_definitions};
+ghost use Rattle.told_derived.specs.Definitions.{FitDefinitions};
 ghost use Rattle.told_derived.specs.DerivedText.{facts_text, changes_text};
 
 use crate::derived::Derived;

@@ -1,6 +1,6 @@
-//! The states of an execution as a person wants to see them. Elements have the names of their sorts with a number, those
-//! of a listed sort their own; of a structure stands what is true in it, and of two what differs. What is told of each
-//! cell of the tables is one walk, whatever it is.
+//! The states of an execution as a person wants to see them. Elements have the names of their sorts with a number,
+//! those of a listed sort their own; of a structure stands what is true in it, and of two what differs. What is told
+//! of each cell of the tables is one walk, whatever it is.
 #![tactic(auto)]
 
 mod before;
