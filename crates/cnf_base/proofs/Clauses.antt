@@ -39,3 +39,5 @@ longer_clause kept l h p ls = ap (λ b. cond b True (entry_of (with_literal kept
 pub entry_ends : (kept : List ℕ) (l : ℕ) → member (opposite l) kept ≡ true → (ls : List ℕ)
     → entry_of kept (l ∷ ls) ≡ True
 entry_ends kept l h ls = ap (λ b. cond b True (entry_of (with_literal kept l) ls)) h
+
+pub ruleset literal_added = (push_clause, same_clause, longer_clause, entry_ends)

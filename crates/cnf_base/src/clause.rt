@@ -65,7 +65,7 @@ fn has(lits: &[Lit], lit: Lit) -> bool
 }
 
 // Adds a literal that isn't there yet; false where its opposite is there.
-#[tactic(auto, using(crate::proofs::Clauses::push_clause, crate::proofs::Clauses::same_clause, crate::proofs::Clauses::longer_clause, crate::proofs::Clauses::entry_ends))]
+#[tactic(auto, using(crate::proofs::Clauses::literal_added))]
 fn add(kept: &mut SmallVec<Lit, 4>, lit: Lit) -> Mem<bool>
     ensures clause { IfOk result (λ goes_on. goes_on ≡ true → IsClause kept.old.items → IsClause kept.new.items) }
     ensures entry { IfOk result (λ goes_on. (ls : List ℕ) →
@@ -115,7 +115,7 @@ pub fn keep(kept: &mut IndexSet<Lit>, lit: Lit) -> Mem<()>
 }
 
 // As `add`, by a look-up.
-#[tactic(auto, using(crate::proofs::Clauses::wider_clause, crate::proofs::Sets::entry_goes_on, crate::proofs::Clauses::entry_ends))]
+#[tactic(auto, using(crate::proofs::Sets::literal_added))]
 fn add_long(kept: &mut IndexSet<Lit>, lit: Lit) -> Mem<bool>
     ensures clause { IfOk result (λ goes_on. goes_on ≡ true → IsClause kept.old.keys → IsClause kept.new.keys) }
     ensures entry { IfOk result (λ goes_on. (ls : List ℕ) →

@@ -50,3 +50,5 @@ range-length sizes [] [] h = refl
 range-length sizes [] (x ∷ xs) h = absurd h
 range-length sizes (k ∷ ks) [] h = absurd h
 range-length sizes (k ∷ ks) (x ∷ xs) h = ap suc (range-length sizes ks xs h.1)
+
+pub ruleset elements = (new_element, old_element, whole_tuple)

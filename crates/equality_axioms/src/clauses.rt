@@ -35,7 +35,7 @@ pub fn hand_implication_of_two<S: GroundSink>(
 }
 
 /// The tuple with another element at one place.
-#[tactic(auto, using(crate::proofs::Elements::new_element, crate::proofs::Elements::old_element, crate::proofs::Elements::whole_tuple))]
+#[tactic(auto, using(crate::proofs::Elements::elements))]
 pub fn with_element(alloc: Global, tuple: &Tuple, place: usize, element: u32) -> Tuple
     ensures { result ≡ slice_set tuple.now place element }
 {
