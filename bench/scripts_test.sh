@@ -378,6 +378,16 @@ expect 'chain: a log of its formula' diff chain.lrat <(printf '6 3 0 3 2 1 0\n7 
 bench names.py
 expect 'names: a model of the greatest size' [ "$(wc -c <"$room/out")" = 1048576 ]
 
+printf 'relation p\ninit { p := false }\nconjecture c: ~p\n' >share.rml
+bench sharing.py share.rml
+expect 'sharing: a sentence of seven nodes, two of which are the same' last_is '| `share.rml` | 1 | 7 | 7 | 6 | 6 |'
+printf 'relation p\ninit { p ? }\n' >share.rml
+bench sharing.py share.rml
+expect 'sharing: a text that is none' ended 2
+expect 'sharing: which' said 'share.rml: bad byte at'
+bench sharing.py none.rml
+expect 'sharing: a file that is not there' ended 2
+
 bench edits.py
 expect 'edits: each can be applied' ended 0
 mkdir -p tree/crates/c/src tree/crates/c/must-fail

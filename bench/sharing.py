@@ -10,7 +10,7 @@ in one pool for the model: so a tree of any size takes what its different parts 
 """
 import sys
 
-from program import examples
+from program import examples, stop
 from rml import read
 
 
@@ -114,8 +114,11 @@ def main():
     print("| File | Goals | Nodes of the trees | of the largest | Different, each sentence | all sentences |")
     print("|---|---|---|---|---|---|")
     for path in sys.argv[1:] or examples():
-        with open(path) as it:
-            model = read(it.read())
+        try:
+            with open(path) as it:
+                model = read(it.read())
+        except (OSError, ValueError) as why:
+            stop(f"{path}: {why}")
         pool = Pool()
         roots = list(sentences(pool, model))
         sizes = [pool.sizes[root] for root in roots]
