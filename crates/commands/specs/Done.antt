@@ -1,4 +1,4 @@
--- An answer with its text. Private contracts alone cite this.
+-- An answer with its text.
 use Rattle.std.specs.Prelude.{Result, Ok, Err}
 use Rattle.rml_bytes.specs.declared.outside.LoadError.{LoadError}
 use Rattle.commands.specs.Due.{Due, stop_due}

@@ -1,9 +1,11 @@
 // How many ground terms each sort has, in 64 bits.
-ghost use Rattle.std.specs.Prelude.{◌≡◌, ◌+◌, List, ℕ, map, sum, slice_index, slice_set};
+ghost use Rattle.std.specs.Prelude.{◌≡◌, ◌+◌, List, ℕ, map, replicate, sum, slice_index, slice_set, IfOk};
 ghost use Rattle.fol_sig.specs.Tables.{tuple_count, numbers};
 ghost use Rattle.fol_formula.specs.Counts.{saturated};
 
-use fol_sig::Sort;
+use base::Mem;
+use fol_sig::{Signature, Sort};
+use std::alloc::Global;
 use std::marker::Model;
 
 /// How many ground terms each sort has; a number that 64 bits do not hold is the greatest that they hold.
@@ -21,6 +23,16 @@ impl Model for Counts {
 }
 
 impl Counts {
+    /// One term of each sort of the signature: what is counted over them is the formula itself, and none of its
+    /// instances. Err: out of memory.
+    pub fn ones(alloc: Global, signature: &Signature) -> Mem<Counts>
+        ensures { IfOk result (λ counts. counts ≡ replicate signature.now.sorts 1) }
+    {
+        Ok(Counts {
+            terms: vec![in alloc; 1u64; signature.sorts() as usize]?,
+        })
+    }
+
     /// How many ground terms there are in all, counted like each.
     pub fn total(&self) -> u64
         ensures { (counts : List ℕ) → self.now ≡ map saturated counts → result ≡ saturated (sum counts) }

@@ -35,7 +35,8 @@ pub fn whole_passed(
     }
 }
 
-/// By those of its lean one. More than 2,147,483,648 constants are answered as want of memory.
+/// By those of its lean one. One that is too large to be built is answered as want of memory: one with 2,147,483,648
+/// functions and constants or more, or with a normal form of over 50,000,000 nodes, which no limit allows.
 pub fn lean_passed(
     alloc: Global,
     checked: &Checked,

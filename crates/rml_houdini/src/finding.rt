@@ -31,7 +31,7 @@ fn conjecture_of(about: About) -> u32
 /// each round the goals of those that are held are decided in order, and the first that fails drops its conjecture. The
 /// last round is one in which none fails. What was found by conjectures that are still held is not decided again, where
 /// the limits are those of whole refuting sentences; where they are those of lean ones, each round decides all that it
-/// counts. A lean sentence of more than 2,147,483,648 constants is answered as want of memory.
+/// counts. A lean sentence that is too large to be built is answered as want of memory (`lean_decide`).
 pub fn greatest<P: Progress>(
     alloc: Global,
     checked: &Checked,

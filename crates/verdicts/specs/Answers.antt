@@ -21,7 +21,7 @@ use Rattle.lean_decide.specs.declared.settling.Counted.TheVariants.{Whole}
 use Rattle.lean_decide.specs.Settled.{FirstPassed, IsOpen}
 use Rattle.cti_minimise.specs.Minimal.{IsLeast}
 
--- a counterexample, and whether its sizes are least
+-- a counterexample, and whether its sizes and numbers of true tuples are least
 pub record Failure : Type 0 where
   pub shown : Counterexample
   pub least : Least
@@ -32,7 +32,8 @@ pub data GoalAnswer : Type 0 where
   failing : Failure → GoalAnswer
   left_open : Cause → GoalAnswer
 
--- what the answer says is so, and a goal is left open exactly where it passes a limit or spends the budget of conflicts
+-- what the answer says is so; a goal is left open where it passes a limit, or where a log of just so many clauses as the
+-- budget allows exists
 abbrev pub IsGoalAnswer : Counted → Ceilings → ModelTree → Goal → GoalAnswer → Type 0
 IsGoalAnswer counted limits m goal safe = FirstPassed counted limits m goal None × HasNone m goal
 IsGoalAnswer counted limits m goal (failing f) =

@@ -86,7 +86,7 @@ fn verdict_for(groups: &[Group]) -> Verdict
 /// The limits of a goal are those of its whole sentence, or of its lean one, which is mostly a tenth of it, and causes
 /// name the counts of that. The axioms, and the trials of smaller counterexamples, are counted whole in any case: under
 /// lean counts the first counterexample is shown, mostly, of a goal that passes a limit whole, and `least` says which
-/// limit the trial passes. There a goal with more than 2,147,483,648 constants is answered as want of memory.
+/// limit the trial passes. There a goal whose lean sentence is too large to be built is answered as want of memory.
 pub fn report<P: Progress>(
     alloc: Global,
     checked: &Checked,
