@@ -1,10 +1,10 @@
 -- The one page that names every command: whose answer is whose, and what is due.
-use Rattle.std.specs.Prelude.{◌≡◌, ℕ, List, Option, Some, None, Result, Ok, Err}
+use Rattle.std.specs.Prelude.{◌≡◌, ℕ, List, map, Option, Some, None, Result, Ok, Err, String, string_bytes}
 use Rattle.rml_bytes.specs.declared.outside.LoadError.{LoadError}
 use Rattle.rml_bytes.specs.Outside.{Told}
 use Rattle.commands.specs.Ends.{EndsNone, EndsOne, EndsTwo}
-use Rattle.commands.specs.Due.{Due, stop_due}
-use Rattle.command_line.specs.Lines.{Line, check, houdini, bmc, lrat, replay, emit, sample}
+use Rattle.commands.specs.Due.{Due, stop_due, IsWritten}
+use Rattle.command_line.specs.Lines.{Line, line_of, check, houdini, bmc, lrat, replay, emit, sample}
 use Rattle.command_line.specs.declared.request.Asked.{Asked}
 use Rattle.command_line.specs.declared.request.Bound.{Bound}
 use Rattle.command_line.specs.declared.request.Emission.{Emission}
@@ -27,6 +27,7 @@ use Rattle.model_commands.specs.declared.bmc.BmcAnswer.{BmcAnswer}
 use Rattle.model_commands.specs.declared.sample.SampleAnswer.{SampleAnswer}
 use Rattle.ivy_run.specs.declared.ended.Answer.{Answer}
 use Rattle.ivy_run.specs.declared.ended.Answer.TheVariants as answer
+use Rattle.ivy_run.specs.declared.ended.Ended.{Ended}
 
 -- the answer to words that are no command line
 abbrev pub IsUsage : Answer → Type 0
@@ -117,3 +118,53 @@ answer_due line first second (answer.Sample a) = sample_due (sample_size line) a
 abbrev pub due_of : Option Line → List ℕ → List ℕ → Result Answer LoadError → Due
 due_of line first second (Ok a) = answer_due line first second a
 due_of line first second (Err why) = stop_due why
+
+-- ---- the words of `run`
+
+-- the command line that these words are, if they are one
+abbrev pub asked : List String → Option Line
+asked words = line_of (map (λ w. string_bytes w) words)
+
+-- What a run did with the files: the count of their faults before it and behind it, the bytes that it was handed, and
+-- its outcome.
+pub record Course : Type 0 where
+  pub faults : ℕ
+  pub faults_then : ℕ
+  pub ended : Ended
+
+abbrev pub course : ℕ → ℕ → Ended → Course
+course faults faults_then ended = record { faults = faults; faults_then = faults_then; ended = ended }
+
+-- it loads no file, and P holds of the answer
+abbrev pub EndsAlone : Course → (Answer → Type 0) → Type 0
+EndsAlone c P =
+    EndsNone c.faults c.faults_then c.ended.loaded.first c.ended.loaded.second (λ text other a. P a) c.ended.outcome
+
+-- it loads one file of at most so many bytes, and P holds of its text and the answer
+abbrev pub EndsOnFile : Course → Told → ℕ → (List ℕ → Answer → Type 0) → Type 0
+EndsOnFile c told most P =
+    EndsOne told most c.faults c.faults_then c.ended.loaded.first c.ended.loaded.second (λ text other a. P text a)
+    c.ended.outcome
+
+-- it loads two files of at most so many bytes each, and P holds of their texts and the answer
+abbrev pub EndsOnFiles : Course → Told → ℕ → Told → ℕ → (List ℕ → List ℕ → Answer → Type 0) → Type 0
+EndsOnFiles c told most other limit P =
+    EndsTwo told other most limit c.faults c.faults_then c.ended.loaded.first c.ended.loaded.second P c.ended.outcome
+
+-- What a run handed to a sink: the bytes that the sink took, where it tells them, and the count of its faults, before
+-- the run and behind it.
+pub record Passage : Type 0 where
+  pub taken : Option (List ℕ)
+  pub taken_then : Option (List ℕ)
+  pub faults : ℕ
+  pub faults_then : ℕ
+
+abbrev pub passage : Option (List ℕ) → Option (List ℕ) → ℕ → ℕ → Passage
+passage taken taken_then faults faults_then =
+    record { taken = taken; taken_then = taken_then; faults = faults; faults_then = faults_then }
+
+-- what was due for this line was written to these sinks, with the status that the run ended with
+abbrev pub WritesDue : Option Line → Ended → Passage → Passage → Type 0
+WritesDue line end out err =
+    IsWritten (due_of line end.loaded.first end.loaded.second end.outcome) end.written end.status out.taken
+    out.taken_then err.taken err.taken_then out.faults out.faults_then err.faults err.faults_then
