@@ -4,7 +4,7 @@
 //! Of runs stand the verdict and the run that aborts or breaks a conjecture, part by part with what each takes and
 //! changes; of the set how many are kept, and each that is dropped with the execution that breaks it; of the reasons a
 //! line for each group, and the conjectures that carry no group but their own. Behind them stands which option to raise
-//! for what is left open.
+//! for what is left open, if one helps.
 #![tactic(auto)]
 
 mod drops;

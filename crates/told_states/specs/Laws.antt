@@ -8,7 +8,7 @@ use Rattle.rml_command.specs.Outcomes.{ended, follow_path}
 use Rattle.rml_command.specs.declared.havoc.Havoc.{Havoc}
 use Rattle.told_states.specs.Alike.{AreAlike}
 
--- The structure in which a path ends is like the one in which it begins.
+-- The structure in which a path ends is like the one in which it begins, where both are over the same symbols.
 abbrev pub EndsAreAlike : Type 0
 EndsAreAlike =
     (axioms : List FormTree) (path : List PrimitiveTree) (havocs : List Havoc) (sig : Symbols) (s t : Tables)

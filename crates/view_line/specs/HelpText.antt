@@ -32,7 +32,7 @@ abbrev pub status_text : List ℕ
 status_text =
     codes "The status is 0 where all is well, 1 where something fails, 2 for words that are no command line,\n"
     ++ codes "3 where something is left open, 4 for a faulty or too long file, 5 where a file or a stream fails,\n"
-    ++ codes "7 for want of memory.\n"
+    ++ codes "6 where a word is not UTF-8, 7 for want of memory.\n"
 
 -- what `--help` is answered with
 unfoldable pub help_text : List ℕ

@@ -30,7 +30,7 @@ const OPTIONS: &str = "A FILE may be -, for standard input. Options, anywhere am
 const STATUS: &str =
     "The status is 0 where all is well, 1 where something fails, 2 for words that are no command line,
 3 where something is left open, 4 for a faulty or too long file, 5 where a file or a stream fails,
-7 for want of memory.
+6 where a word is not UTF-8, 7 for want of memory.
 ";
 
 #[tactic(auto, using(std::proofs::Common::append_assoc), unfolding(crate::specs::HelpText::help_text))]
