@@ -1,10 +1,10 @@
 // Hints for those who come from other languages: what is written here in the place of what they wrote.
 //
-// A fault says that something is not in the language, and not what would be. Tables say it for what newcomers are seen
-// to write. At a bad byte one is looked up with the byte in front of it and then one with the bytes there; at an
-// unexpected token one with the word there and the two in front of it; at an unknown name one with the name; and what is
-// wrong with names, sorts and formulas has a hint by its code. Each was found by giving the program such texts. A further
-// hint is a row.
+// A fault says that something is not in the language, and not what would be. Tables say it for what newcomers are
+// seen to write. At a bad byte one is looked up with the byte in front of it and then one with the bytes there; at an
+// unexpected token one with the word there and the two in front of it; at an unknown name one with the name; and what
+// is wrong with names, sorts and formulas has a hint by its code. Each was found by giving the program such texts. A
+// further hint is a row.
 ghost use Rattle.std.specs.Prelude.{◌≡◌};
 ghost use Rattle.told_fault.specs.Hints.{words_of};
 

@@ -1,6 +1,7 @@
-//! A report as a person wants to read it. Elements have the names of their sorts with a number, those of a listed sort
-//! their own; of a counterexample stands what is true before it, which elements and branches it takes, what it changes,
-//! and what is false after it; at the end how much holds, and which option to raise for what is left open, if one helps.
+//! A report as a person wants to read it. Elements have the names of their sorts with a number, those of a listed
+//! sort their own; of a counterexample stands what is true before it, which elements and branches it takes, what it
+//! changes, and what is false after it; at the end how much holds, and which option to raise for what is left open,
+//! if one helps.
 #![tactic(auto)]
 
 mod causes;
