@@ -54,9 +54,11 @@ pub fn draft_model(alloc: Global, text: &[u8], tree: &Tree) -> Result<ModelDraft
     requires within { TreeWithin (length text.now) (file_tree tree.now) }
     requires shape { IsShaped (file_tree tree.now) }
     requires met { fault_of text.now (file_tree tree.now) ≡ None }
-    ensures { Answers draft_in result (items_sizes text.now empty_draft (file_tree tree.now).items)
+    ensures draft { Answers draft_in result (items_sizes text.now empty_draft (file_tree tree.now).items)
         (draft_of text.now empty_draft (file_tree tree.now).items) }
+    ensures place { IfErr result (Because (StandsBy (length text.now))) }
 {
+    size_fault_law();
     rml_items::met_law();
     let mut draft = ModelDraft::new(alloc);
     match build_items(alloc, text, tree.format, &mut draft, &tree.items) {
@@ -79,7 +81,6 @@ pub fn resolve(alloc: Global, text: &[u8], tree: &Tree) -> Result<Model, Refused
     ensures fault { IfErr result (Because (IsRefusal text.now (file_tree tree.now))) }
     ensures place { IfErr result (Because (StandsBy (length text.now))) }
 {
-    size_fault_law();
     rml_items::judge(alloc, text, tree)?;
     let draft = draft_model(alloc, text, tree)?;
     model_law();

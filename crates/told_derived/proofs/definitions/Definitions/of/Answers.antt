@@ -12,6 +12,6 @@ returns-in_ok-definitions-in-Ok-clause-fit c =
     let text = c.args.text.now in
     let tree = file_tree c.args.tree.now in
     subst (λ (d : Definitions). FitDefinitions (symbols (model_of text tree).signature) d)
-    (sym (c.in_ok-definitions-in-Ok.ensures ∙ ap drafted c.in-Ok.ensures.0))
+    (sym (c.in_ok-definitions-in-Ok.ensures ∙ ap drafted c.in-Ok.ensures.draft.0))
     (definitions_fit (draft_of text empty_draft tree.items)
     (c.draft_law.ensures text tree c.requires.shape c.requires.right))
