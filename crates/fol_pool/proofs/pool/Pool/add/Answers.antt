@@ -1,0 +1,51 @@
+use Rattle.std.proofs.Common.{◌≡◌, ◌<◌, ◌⊎◌, ◌++◌, ◌∷◌, [], ℕ, Some, refl, sym, subst, length, List, slice_get, get_or}
+use Rattle.std.specs.Prelude.{true}
+use Rattle.std.specs.List.{list_any}
+use Rattle.std.proofs.lemmas.Option.{slice_get_within, get_or_from_slice_get}
+use Rattle.indexmap.specs.IndexSet.{insert_key}
+use Rattle.fol_pool.specs.Trees.{Tree, IsAt}
+use Rattle.fol_pool.specs.Shapes.{tree_of, IsOver}
+use Rattle.fol_pool.specs.Pools.{grown, ArePooled}
+use Rattle.fol_pool.specs.declared.shape.Shape.{Shape}
+use Rattle.fol_pool.specs.declared.shape.Shape.TheVariants as shape
+use Rattle.fol_pool.proofs.Same.{equal}
+use Rattle.fol_pool.proofs.Grown.{Added, added, node_is}
+use Rattle.fol_pool.proofs.pool.Pool.add.Goals as goal
+
+module _ (ts : List Tree) (xs ys : List Shape) (s : Shape) (is : grown [] xs ≡ ts) (over : IsOver ts s)
+    (pooled : ArePooled xs) (keys : ys ≡ insert_key equal xs s) where
+  more : Added xs ys s
+  more =
+      subst (λ (ks : List Shape). Added xs ks s) (sym keys)
+      (added xs s pooled (subst (λ (l : List Tree). IsOver l s) (sym is) over) (list_any (equal s) xs) refl)
+
+  node : (i : ℕ) (k : Shape) → i < length ys → get_or ys i shape.True ≡ k → equal s k ≡ true
+      → IsAt (grown [] ys) i (tree_of ts s)
+  node i k lt at e =
+      subst (λ (l : List Tree). IsAt (grown [] ys) i (tree_of l s)) is (node_is xs ys s k i more lt at e)
+
+  grows : (grown [] ys ≡ ts) ⊎ (grown [] ys ≡ ts ++ tree_of ts s ∷ [])
+  grows =
+      subst (λ (l : List Tree). (grown [] ys ≡ l) ⊎ (grown [] ys ≡ l ++ tree_of l s ∷ [])) is more.grows
+
+-- what is read at a place stands there
+in_list : (ys : List Shape) (i : ℕ) (k : Shape) → slice_get ys i ≡ Some k
+    → (i < length ys) × (get_or ys i shape.True ≡ k)
+in_list ys i k e = (slice_get_within ys i k e, get_or_from_slice_get ys i k shape.True e)
+
+pub invariant_of-self-2 : goal.invariant_of-self-2
+invariant_of-self-2 c =
+    let a = more c.args.self.now c.self.inside.shapes.keys c.insert_full.new.self.keys c.args.shape c.self.view_is
+    c.requires c.self.invariant c.in_ok-place.ensures.keys in a.pooled
+
+pub returns-clause-node : goal.returns-clause-node
+returns-clause-node c =
+    let at = c.in_ok-place.ensures.stored in
+    let there = in_list c.insert_full.new.self.keys c.in_ok-place.place at.0 at.1 in
+    node c.args.self.now c.self.inside.shapes.keys c.insert_full.new.self.keys c.args.shape c.self.view_is c.requires
+    c.self.invariant c.in_ok-place.ensures.keys c.in_ok-place.place at.0 there.0 there.1 at.2
+
+pub returns-clause-grows : goal.returns-clause-grows
+returns-clause-grows c =
+    grows c.args.self.now c.self.inside.shapes.keys c.insert_full.new.self.keys c.args.shape c.self.view_is c.requires
+    c.self.invariant c.in_ok-place.ensures.keys

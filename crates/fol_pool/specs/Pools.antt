@@ -1,0 +1,20 @@
+-- The trees of a pool's nodes, by the shapes that it keeps.
+use Rattle.std.specs.Prelude.{List, [], ◌∷◌, ◌++◌}
+use Rattle.fol_pool.specs.Trees.{Tree, EachOnce}
+use Rattle.fol_pool.specs.Shapes.{tree_of, IsOver}
+use Rattle.fol_pool.specs.declared.shape.Shape.{Shape}
+
+-- the trees of some nodes, with those of further shapes behind them, each over what stands before it
+abbrev pub grown : List Tree → List Shape → List Tree
+grown ts [] = ts
+grown ts (s ∷ rest) = grown (ts ++ tree_of ts s ∷ []) rest
+
+-- each shape is over the nodes before it
+abbrev pub AreOver : List Tree → List Shape → Type 0
+AreOver ts [] = Unit {0}
+AreOver ts (s ∷ rest) = IsOver ts s × AreOver (ts ++ tree_of ts s ∷ []) rest
+
+-- what a pool keeps
+pub record ArePooled (shapes : List Shape) : Type 0 where
+  pub over : AreOver [] shapes
+  pub once : EachOnce (grown [] shapes)

@@ -1,0 +1,8 @@
+//! Formulas and terms of which equal parts are kept once: a node for each, whose parts are nodes.
+#![tactic(auto)]
+
+mod pool;
+mod shape;
+
+pub use pool::Pool;
+pub use shape::{Node, Shape};

@@ -1,0 +1,74 @@
+// The nodes, each found by its shape.
+ghost use Rattle.std.specs.Prelude.{◌≡◌, ◌<◌, ◌⊎◌, ◌++◌, ◌∷◌, [], length, take, OnOk, IfOk, OnErr};
+ghost use Rattle.fol_pool.specs.Trees.{IsAt, EachOnce, tree_at};
+ghost use Rattle.fol_pool.specs.Shapes.{tree_of, IsOver};
+
+use crate::shape::{Node, Shape};
+use base::{Mem, place_of};
+use indexmap::IndexSet;
+use std::alloc::Global;
+use std::marker::Model;
+
+/// Formulas and terms of which equal parts are kept once (hash-consing: Ershov, "On programming of arithmetic
+/// operations", CACM 1958; Filliatre and Conchon, "Type-safe modular hash-consing", ML 2006). A pool is seen as the list
+/// of the trees of its nodes, no two of which are the same.
+#[derive(Drop)]
+pub struct Pool {
+    shapes: IndexSet<Shape>,
+}
+
+impl Model for Pool {
+    ghost use Rattle.std.specs.Prelude.{List, []};
+    ghost use Rattle.std.specs.Coded.{coded_list};
+    ghost use Rattle.fol_pool.specs.Trees.{Tree, tree_code};
+
+    ghost Value = { List Tree };
+
+    ghost coded = { coded_list tree_code };
+
+    ghost use Rattle.fol_pool.specs.Pools.{grown, ArePooled};
+
+    ghost view = { λ p. grown [] p.shapes.keys };
+
+    ghost invariant = { λ p. ArePooled p.shapes.keys };
+}
+
+impl Pool {
+    /// A pool without nodes.
+    pub fn new(alloc: Global) -> Pool
+        ensures { result ≡ [] }
+    {
+        Pool {
+            shapes: IndexSet::new(alloc),
+        }
+    }
+
+    /// How many nodes there are.
+    pub fn len(&self) -> usize
+        ensures length { result ≡ length self.now }
+        ensures once { EachOnce self.now }
+    {
+        self.shapes.len()
+    }
+
+    /// What stands at a node. Its parts are nodes with smaller numbers.
+    pub fn shape(&self, node: Node) -> Shape
+        requires { node.0 < length self.now }
+        ensures tree { tree_of self.now result ≡ tree_at self.now node.0 }
+        ensures over { IsOver (take node.0 self.now) result }
+    {
+        self.shapes.as_slice()[node.0 as usize]
+    }
+
+    /// The node with this shape, which is added where there is none. Err: out of memory, and the pool is as before.
+    pub fn add(&mut self, shape: Shape) -> Mem<Node>
+        requires { IsOver self.old shape }
+        ensures node { IfOk result (λ node. IsAt self.new node.0 (tree_of self.old shape)) }
+        ensures grows { OnOk result ((self.new ≡ self.old) ⊎ (self.new ≡ self.old ++ tree_of self.old shape ∷ [])) }
+        ensures kept { OnErr result (self.new ≡ self.old) }
+    {
+        place_of(self.shapes.len())?;
+        let (place, _) = self.shapes.insert_full(shape)?;
+        Ok(Node(place as u32))
+    }
+}
