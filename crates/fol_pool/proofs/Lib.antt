@@ -1,3 +1,4 @@
 mod Same
 mod Nodes
 mod Grown
+mod Growing

@@ -3,6 +3,7 @@
 
 mod pool;
 mod shape;
+mod taking;
 
 pub use pool::Pool;
 pub use shape::{Node, Shape};

@@ -1,6 +1,6 @@
 // The nodes, each found by its shape.
 ghost use Rattle.std.specs.Prelude.{◌≡◌, ◌<◌, ◌⊎◌, ◌++◌, ◌∷◌, [], length, take, OnOk, IfOk, OnErr};
-ghost use Rattle.fol_pool.specs.Trees.{IsAt, EachOnce, tree_at};
+ghost use Rattle.fol_pool.specs.Trees.{IsAt, EachOnce, Grows, tree_at};
 ghost use Rattle.fol_pool.specs.Shapes.{tree_of, IsOver};
 
 use crate::shape::{Node, Shape};
@@ -66,6 +66,7 @@ impl Pool {
         ensures node { IfOk result (λ node. IsAt self.new node.0 (tree_of self.old shape)) }
         ensures grows { OnOk result ((self.new ≡ self.old) ⊎ (self.new ≡ self.old ++ tree_of self.old shape ∷ [])) }
         ensures kept { OnErr result (self.new ≡ self.old) }
+        ensures numbers { Grows self.old self.new }
     {
         place_of(self.shapes.len())?;
         let (place, _) = self.shapes.insert_full(shape)?;

@@ -1,9 +1,10 @@
 use Rattle.std.proofs.Common.{◌≡◌, ◌<◌, ◌⊎◌, ◌++◌, ◌∷◌, [], ℕ, Some, refl, sym, subst, length, List, slice_get, get_or}
+use Rattle.std.proofs.Common.{inl, inr, ◌∙◌, append-nil}
 use Rattle.std.specs.Prelude.{true}
 use Rattle.std.specs.List.{list_any}
 use Rattle.std.proofs.lemmas.Option.{slice_get_within, get_or_from_slice_get}
 use Rattle.indexmap.specs.IndexSet.{insert_key}
-use Rattle.fol_pool.specs.Trees.{Tree, IsAt}
+use Rattle.fol_pool.specs.Trees.{Tree, IsAt, Grows}
 use Rattle.fol_pool.specs.Shapes.{tree_of, IsOver}
 use Rattle.fol_pool.specs.Pools.{grown, ArePooled}
 use Rattle.fol_pool.specs.declared.shape.Shape.{Shape}
@@ -28,6 +29,9 @@ module _ (ts : List Tree) (xs ys : List Shape) (s : Shape) (is : grown [] xs ≡
   grows =
       subst (λ (l : List Tree). (grown [] ys ≡ l) ⊎ (grown [] ys ≡ l ++ tree_of l s ∷ [])) is more.grows
 
+  numbers : Grows ts (grown [] ys)
+  numbers = elim grows [ inl e ↦ ([], e ∙ sym (append-nil ts)) | inr e ↦ (tree_of ts s ∷ [], e) ]
+
 -- what is read at a place stands there
 in_list : (ys : List Shape) (i : ℕ) (k : Shape) → slice_get ys i ≡ Some k
     → (i < length ys) × (get_or ys i shape.True ≡ k)
@@ -48,4 +52,9 @@ returns-clause-node c =
 pub returns-clause-grows : goal.returns-clause-grows
 returns-clause-grows c =
     grows c.args.self.now c.self.inside.shapes.keys c.insert_full.new.self.keys c.args.shape c.self.view_is c.requires
+    c.self.invariant c.in_ok-place.ensures.keys
+
+pub returns-clause-numbers : goal.returns-clause-numbers
+returns-clause-numbers c =
+    numbers c.args.self.now c.self.inside.shapes.keys c.insert_full.new.self.keys c.args.shape c.self.view_is c.requires
     c.self.invariant c.in_ok-place.ensures.keys

@@ -1,0 +1,110 @@
+-- What stands at a node as a pool grows, by the tree that stands there.
+use Rattle.std.proofs.Common.{◌≡◌, ℕ, ◌+◌, ◌<◌, List, [], ◌∷◌, ◌++◌, length, get_or, take, map, refl, sym, ap, ◌∙◌, subst}
+use Rattle.std.proofs.Common.{append_assoc, append-nil, Result, IfOk}
+use Rattle.std.proofs.lemmas.List.{take_more}
+use Rattle.std.specs.declared.alloc.AllocError.{AllocError}
+use Rattle.fol_formula.specs.Syntax.{FormTree, FormTrees, TermTree, TermTrees, form_then, term_then, forms_then}
+use Rattle.fol_formula.specs.Syntax.{terms_then}
+use Rattle.fol_formula.specs.View.{form, term}
+use Rattle.fol_formula.specs.Lists.{FormLists, TermLists}
+use Rattle.fol_formula.specs.declared.Formula.{Formula}
+use Rattle.fol_formula.specs.declared.Term.{Term}
+use Rattle.fol_pool.specs.Trees.{Tree, IsAt, Grows, a_form, some_forms, a_term, some_terms, as_formula, as_formulas}
+use Rattle.fol_pool.specs.Trees.{as_term, as_terms, HasForms, HasTerms, form_at, forms_at, term_at, terms_at}
+use Rattle.fol_pool.specs.declared.shape.Node.{Node}
+use Rattle.fol_pool.proofs.Nodes.{at_grows}
+
+pub grows_on : (a b c : List Tree) → Grows a b → Grows b c → Grows a c
+grows_on a b c g h =
+    (g.0 ++ h.0, h.1 ∙ ap (λ (l : List Tree). l ++ h.0) g.1 ∙ append_assoc a g.0 h.0)
+
+pub stays_at : (a b : List Tree) → Grows a b → (n : ℕ) (t : Tree) → IsAt a n t → IsAt b n t
+stays_at a b g n t h = subst (λ (l : List Tree). IsAt l n t) (sym g.1) (at_grows a g.0 n t h)
+
+has_forms : (ts : List Tree) (n : ℕ) (ps : FormTrees) → IsAt ts n (some_forms ps) → HasForms ts n
+has_forms ts n ps h = (h.0, h.1 ∙ ap (λ (t : Tree). some_forms (as_formulas t)) (sym h.1))
+
+has_terms : (ts : List Tree) (n : ℕ) (us : TermTrees) → IsAt ts n (some_terms us) → HasTerms ts n
+has_terms ts n us h = (h.0, h.1 ∙ ap (λ (t : Tree). some_terms (as_terms t)) (sym h.1))
+
+-- a node of which both parts were taken in, the second behind the first
+module _ (one two new : List Tree) (a b : Node) (r : Result Node AllocError) (grows : Grows one two) where
+  pub two_forms : (F : FormTree → FormTree → FormTree) (p q whole : FormTree) → IsAt one a.0 (a_form p)
+      → IsAt two b.0 (a_form q) → whole ≡ F p q
+      → IfOk r (λ (node : Node). IsAt new node.0 (a_form (F (form_at two a.0) (form_at two b.0))))
+      → IfOk r (λ (node : Node). IsAt new node.0 (a_form whole))
+  two_forms F p q whole first second is made =
+      let there = stays_at one two grows a.0 (a_form p) first in
+      let tree : F (form_at two a.0) (form_at two b.0) ≡ whole =
+      (λ i. F (as_formula (there.1 i)) (as_formula (second.1 i))) ∙ sym is in
+      subst (λ (t : FormTree). IfOk r (λ (node : Node). IsAt new node.0 (a_form t))) tree made
+
+  pub two_terms : (F : TermTree → TermTree → FormTree) (t u : TermTree) (whole : FormTree) → IsAt one a.0 (a_term t)
+      → IsAt two b.0 (a_term u) → whole ≡ F t u
+      → IfOk r (λ (node : Node). IsAt new node.0 (a_form (F (term_at two a.0) (term_at two b.0))))
+      → IfOk r (λ (node : Node). IsAt new node.0 (a_form whole))
+  two_terms F t u whole first second is made =
+      let there = stays_at one two grows a.0 (a_term t) first in
+      let tree : F (term_at two a.0) (term_at two b.0) ≡ whole =
+      (λ i. F (as_term (there.1 i)) (as_term (second.1 i))) ∙ sym is in
+      subst (λ (t : FormTree). IfOk r (λ (node : Node). IsAt new node.0 (a_form t))) tree made
+
+-- a node of three parts
+pub three_parts : (one two three new : List Tree) (a b c : Node) (r : Result Node AllocError) → Grows one two
+    → Grows two three → (F : FormTree → TermTree → TermTree → TermTree) (p : FormTree) (t u whole : TermTree)
+    → IsAt one a.0 (a_form p) → IsAt two b.0 (a_term t) → IsAt three c.0 (a_term u) → whole ≡ F p t u
+    → IfOk r (λ (node : Node). IsAt new node.0
+    (a_term (F (form_at three a.0) (term_at three b.0) (term_at three c.0))))
+    → IfOk r (λ (node : Node). IsAt new node.0 (a_term whole))
+three_parts one two three new a b c r g h F p t u whole first second third is made =
+    let there = stays_at one three (grows_on one two three g h) a.0 (a_form p) first in
+    let here = stays_at two three h b.0 (a_term t) second in
+    let tree : F (form_at three a.0) (term_at three b.0) (term_at three c.0) ≡ whole =
+    (λ i. F (as_formula (there.1 i)) (as_term (here.1 i)) (as_term (third.1 i))) ∙ sym is in
+    subst (λ (t : TermTree). IfOk r (λ (node : Node). IsAt new node.0 (a_term t))) tree made
+
+-- a row with one more part in front of it
+module _ (start old taken new : List Tree) (row first next : Node) (before : Grows start old)
+    (grows : Grows old taken) (more : Grows taken new) where
+  pub row_grows : Grows start new
+  row_grows = grows_on start taken new (grows_on start old taken before grows) more
+
+  module _ (lists : FormLists) (ps : List Formula) (n k : ℕ) (p : Formula) (rest : HasForms old row.0)
+      (lt : k < length ps) (is : p ≡ get_or ps k p) (count : n ≡ k + 1)
+      (made : IsAt new next.0 (some_forms (form_then (form_at taken first.0) (forms_at taken row.0)))) where
+    pub forms_row : HasForms new next.0
+    forms_row = has_forms new next.0 (form_then (form_at taken first.0) (forms_at taken row.0)) made
+
+    pub forms_whole : (whole : FormTrees) → IsAt taken first.0 (a_form (form p))
+        → forms_then (map form (take n ps)) (forms_at old row.0) ≡ whole
+        → forms_then (map form (take k ps)) (forms_at new next.0) ≡ whole
+    forms_whole whole part so =
+        let r = forms_at old row.0 in
+        let there = stays_at old taken grows row.0 (some_forms r) rest in
+        let front : take n ps ≡ take k ps ++ p ∷ [] =
+        ap (λ (m : ℕ). take m ps) count ∙ take_more ps k p lt
+        ∙ ap (λ (q : Formula). take k ps ++ q ∷ []) (sym is) in
+        let head : forms_at new next.0 ≡ form_then (form p) r =
+        ap as_formulas made.1 ∙ (λ i. form_then (as_formula (part.1 i)) (as_formulas (there.1 i))) in
+        ap (forms_then (map form (take k ps))) head ∙ sym (lists.pushed (take k ps) p r)
+        ∙ ap (λ (l : List Formula). forms_then (map form l) r) (sym front) ∙ so
+
+  module _ (lists : TermLists) (us : List Term) (n k : ℕ) (u : Term) (rest : HasTerms old row.0)
+      (lt : k < length us) (is : u ≡ get_or us k u) (count : n ≡ k + 1)
+      (made : IsAt new next.0 (some_terms (term_then (term_at taken first.0) (terms_at taken row.0)))) where
+    pub terms_row : HasTerms new next.0
+    terms_row = has_terms new next.0 (term_then (term_at taken first.0) (terms_at taken row.0)) made
+
+    pub terms_whole : (whole : TermTrees) → IsAt taken first.0 (a_term (term u))
+        → terms_then (map term (take n us)) (terms_at old row.0) ≡ whole
+        → terms_then (map term (take k us)) (terms_at new next.0) ≡ whole
+    terms_whole whole part so =
+        let r = terms_at old row.0 in
+        let there = stays_at old taken grows row.0 (some_terms r) rest in
+        let front : take n us ≡ take k us ++ u ∷ [] =
+        ap (λ (m : ℕ). take m us) count ∙ take_more us k u lt
+        ∙ ap (λ (v : Term). take k us ++ v ∷ []) (sym is) in
+        let head : terms_at new next.0 ≡ term_then (term u) r =
+        ap as_terms made.1 ∙ (λ i. term_then (as_term (part.1 i)) (as_terms (there.1 i))) in
+        ap (terms_then (map term (take k us))) head ∙ sym (lists.pushed (take k us) u r)
+        ∙ ap (λ (l : List Term). terms_then (map term l) r) (sym front) ∙ so
