@@ -1,9 +1,8 @@
 -- What stands at a node as a pool grows, by the tree that stands there.
-use Rattle.std.proofs.Common.{◌≡◌, ℕ, ◌+◌, ◌<◌, List, [], ◌∷◌, ◌++◌, length, get_or, take, map, refl, sym, ap, ◌∙◌, subst}
-use Rattle.std.proofs.Common.{append_assoc, append-nil, Result, IfOk}
+use Rattle.std.proofs.Common.{◌≡◌, ℕ, ◌+◌, ◌<◌, List, [], ◌∷◌, ◌++◌, length, get_or, take, map, sym, ap, ◌∙◌, subst}
+use Rattle.std.proofs.Common.{append_assoc}
 use Rattle.std.proofs.lemmas.List.{take_more}
-use Rattle.std.specs.declared.alloc.AllocError.{AllocError}
-use Rattle.fol_formula.specs.Syntax.{FormTree, FormTrees, TermTree, TermTrees, form_then, term_then, forms_then}
+use Rattle.fol_formula.specs.Syntax.{FormTree, FormTrees, TermTree, TermTrees, form_then, term_then, ite, forms_then}
 use Rattle.fol_formula.specs.Syntax.{terms_then}
 use Rattle.fol_formula.specs.View.{form, term}
 use Rattle.fol_formula.specs.Lists.{FormLists, TermLists}
@@ -14,11 +13,11 @@ use Rattle.fol_pool.specs.Trees.{as_term, as_terms, HasForms, HasTerms, form_at,
 use Rattle.fol_pool.specs.declared.shape.Node.{Node}
 use Rattle.fol_pool.proofs.Nodes.{at_grows}
 
-pub grows_on : (a b c : List Tree) → Grows a b → Grows b c → Grows a c
+grows_on : (a b c : List Tree) → Grows a b → Grows b c → Grows a c
 grows_on a b c g h =
     (g.0 ++ h.0, h.1 ∙ ap (λ (l : List Tree). l ++ h.0) g.1 ∙ append_assoc a g.0 h.0)
 
-pub stays_at : (a b : List Tree) → Grows a b → (n : ℕ) (t : Tree) → IsAt a n t → IsAt b n t
+stays_at : (a b : List Tree) → Grows a b → (n : ℕ) (t : Tree) → IsAt a n t → IsAt b n t
 stays_at a b g n t h = subst (λ (l : List Tree). IsAt l n t) (sym g.1) (at_grows a g.0 n t h)
 
 has_forms : (ts : List Tree) (n : ℕ) (ps : FormTrees) → IsAt ts n (some_forms ps) → HasForms ts n
@@ -27,41 +26,14 @@ has_forms ts n ps h = (h.0, h.1 ∙ ap (λ (t : Tree). some_forms (as_formulas t
 has_terms : (ts : List Tree) (n : ℕ) (us : TermTrees) → IsAt ts n (some_terms us) → HasTerms ts n
 has_terms ts n us h = (h.0, h.1 ∙ ap (λ (t : Tree). some_terms (as_terms t)) (sym h.1))
 
--- a node of which both parts were taken in, the second behind the first
-module _ (one two new : List Tree) (a b : Node) (r : Result Node AllocError) (grows : Grows one two) where
-  pub two_forms : (F : FormTree → FormTree → FormTree) (p q whole : FormTree) → IsAt one a.0 (a_form p)
-      → IsAt two b.0 (a_form q) → whole ≡ F p q
-      → IfOk r (λ (node : Node). IsAt new node.0 (a_form (F (form_at two a.0) (form_at two b.0))))
-      → IfOk r (λ (node : Node). IsAt new node.0 (a_form whole))
-  two_forms F p q whole first second is made =
-      let there = stays_at one two grows a.0 (a_form p) first in
-      let tree : F (form_at two a.0) (form_at two b.0) ≡ whole =
-      (λ i. F (as_formula (there.1 i)) (as_formula (second.1 i))) ∙ sym is in
-      subst (λ (t : FormTree). IfOk r (λ (node : Node). IsAt new node.0 (a_form t))) tree made
-
-  pub two_terms : (F : TermTree → TermTree → FormTree) (t u : TermTree) (whole : FormTree) → IsAt one a.0 (a_term t)
-      → IsAt two b.0 (a_term u) → whole ≡ F t u
-      → IfOk r (λ (node : Node). IsAt new node.0 (a_form (F (term_at two a.0) (term_at two b.0))))
-      → IfOk r (λ (node : Node). IsAt new node.0 (a_form whole))
-  two_terms F t u whole first second is made =
-      let there = stays_at one two grows a.0 (a_term t) first in
-      let tree : F (term_at two a.0) (term_at two b.0) ≡ whole =
-      (λ i. F (as_term (there.1 i)) (as_term (second.1 i))) ∙ sym is in
-      subst (λ (t : FormTree). IfOk r (λ (node : Node). IsAt new node.0 (a_form t))) tree made
-
--- a node of three parts
-pub three_parts : (one two three new : List Tree) (a b c : Node) (r : Result Node AllocError) → Grows one two
-    → Grows two three → (F : FormTree → TermTree → TermTree → TermTree) (p : FormTree) (t u whole : TermTree)
-    → IsAt one a.0 (a_form p) → IsAt two b.0 (a_term t) → IsAt three c.0 (a_term u) → whole ≡ F p t u
-    → IfOk r (λ (node : Node). IsAt new node.0
-    (a_term (F (form_at three a.0) (term_at three b.0) (term_at three c.0))))
-    → IfOk r (λ (node : Node). IsAt new node.0 (a_term whole))
-three_parts one two three new a b c r g h F p t u whole first second third is made =
-    let there = stays_at one three (grows_on one two three g h) a.0 (a_form p) first in
-    let here = stays_at two three h b.0 (a_term t) second in
-    let tree : F (form_at three a.0) (term_at three b.0) (term_at three c.0) ≡ whole =
-    (λ i. F (as_formula (there.1 i)) (as_term (here.1 i)) (as_term (third.1 i))) ∙ sym is in
-    subst (λ (t : TermTree). IfOk r (λ (node : Node). IsAt new node.0 (a_term t))) tree made
+-- the parts of a choice that were taken in one after the other
+pub choice : (one two three : List Tree) (a b c : ℕ) (p : FormTree) (t u whole : TermTree) → Grows one two
+    → Grows two three → IsAt one a (a_form p) → IsAt two b (a_term t) → IsAt three c (a_term u) → whole ≡ ite p t u
+    → ite (form_at three a) (term_at three b) (term_at three c) ≡ whole
+choice one two three a b c p t u whole g h first second third is =
+    let there = stays_at one three (grows_on one two three g h) a (a_form p) first in
+    let here = stays_at two three h b (a_term t) second in
+    (λ i. ite (as_formula (there.1 i)) (as_term (here.1 i)) (as_term (third.1 i))) ∙ sym is
 
 -- a row with one more part in front of it
 module _ (start old taken new : List Tree) (row first next : Node) (before : Grows start old)

@@ -1,7 +1,8 @@
 // The nodes of formulas and terms that are given as trees.
-ghost use Rattle.std.specs.Prelude.{IfOk};
+ghost use Rattle.std.specs.Prelude.{◌≡◌, IfOk};
 ghost use Rattle.fol_formula.specs.View.{form, forms, term, terms};
 ghost use Rattle.fol_pool.specs.Trees.{IsAt, Grows, a_form, some_forms, a_term, some_terms};
+ghost use Rattle.fol_pool.specs.Shapes.{tree_of, IsOver};
 
 use crate::pool::Pool;
 use crate::shape::{Node, Shape};
@@ -16,48 +17,30 @@ impl Pool {
         ensures node { IfOk result (λ node. IsAt self.new node.0 (a_form (form formula.now))) }
         ensures grows { Grows self.old self.new }
     {
+        let shape = self.take_parts(formula)?;
+        let node = self.add(shape)?;
+        Ok(node)
+    }
+
+    // What stands at the node of a formula.
+    #[cycle(taking)]
+    fn take_parts(&mut self, formula: &Formula) -> Mem<Shape>
+        ensures over { IfOk result (λ shape. IsOver self.new shape) }
+        ensures tree { IfOk result (λ shape. tree_of self.new shape ≡ a_form (form formula.now)) }
+        ensures grows { Grows self.old self.new }
+    {
         match formula {
-            Formula::True => self.add(Shape::True),
-            Formula::False => self.add(Shape::False),
-            Formula::Rel(r, args) => {
-                let args = self.take_terms(args)?;
-                self.add(Shape::Rel(*r, args))
-            }
-            Formula::Eq(a, b) => {
-                let a = self.take_term(a)?;
-                let b = self.take_term(b)?;
-                self.add(Shape::Eq(a, b))
-            }
-            Formula::Not(p) => {
-                let p = self.take_in(p)?;
-                self.add(Shape::Not(p))
-            }
-            Formula::And(ps) => {
-                let ps = self.take_formulas(ps)?;
-                self.add(Shape::And(ps))
-            }
-            Formula::Or(ps) => {
-                let ps = self.take_formulas(ps)?;
-                self.add(Shape::Or(ps))
-            }
-            Formula::Implies(p, q) => {
-                let p = self.take_in(p)?;
-                let q = self.take_in(q)?;
-                self.add(Shape::Implies(p, q))
-            }
-            Formula::Iff(p, q) => {
-                let p = self.take_in(p)?;
-                let q = self.take_in(q)?;
-                self.add(Shape::Iff(p, q))
-            }
-            Formula::Forall(k, p) => {
-                let p = self.take_in(p)?;
-                self.add(Shape::Forall(*k, p))
-            }
-            Formula::Exists(k, p) => {
-                let p = self.take_in(p)?;
-                self.add(Shape::Exists(*k, p))
-            }
+            Formula::True => Ok(Shape::True),
+            Formula::False => Ok(Shape::False),
+            Formula::Rel(r, args) => Ok(Shape::Rel(*r, self.take_terms(args)?)),
+            Formula::Eq(a, b) => Ok(Shape::Eq(self.take_term(a)?, self.take_term(b)?)),
+            Formula::Not(p) => Ok(Shape::Not(self.take_in(p)?)),
+            Formula::And(ps) => Ok(Shape::And(self.take_formulas(ps)?)),
+            Formula::Or(ps) => Ok(Shape::Or(self.take_formulas(ps)?)),
+            Formula::Implies(p, q) => Ok(Shape::Implies(self.take_in(p)?, self.take_in(q)?)),
+            Formula::Iff(p, q) => Ok(Shape::Iff(self.take_in(p)?, self.take_in(q)?)),
+            Formula::Forall(k, p) => Ok(Shape::Forall(*k, self.take_in(p)?)),
+            Formula::Exists(k, p) => Ok(Shape::Exists(*k, self.take_in(p)?)),
         }
     }
 
@@ -66,18 +49,26 @@ impl Pool {
         ensures node { IfOk result (λ node. IsAt self.new node.0 (a_term (term t.now))) }
         ensures grows { Grows self.old self.new }
     {
+        let shape = self.take_term_parts(t)?;
+        let node = self.add(shape)?;
+        Ok(node)
+    }
+
+    // What stands at the node of a term.
+    #[cycle(taking)]
+    fn take_term_parts(&mut self, t: &Term) -> Mem<Shape>
+        ensures over { IfOk result (λ shape. IsOver self.new shape) }
+        ensures tree { IfOk result (λ shape. tree_of self.new shape ≡ a_term (term t.now)) }
+        ensures grows { Grows self.old self.new }
+    {
         match t {
-            Term::Bound(i) => self.add(Shape::Bound(*i)),
-            Term::App(f, args) => {
-                let args = self.take_terms(args)?;
-                self.add(Shape::App(*f, args))
-            }
-            Term::Ite(p, a, b) => {
-                let p = self.take_in(p)?;
-                let a = self.take_term(a)?;
-                let b = self.take_term(b)?;
-                self.add(Shape::Ite(p, a, b))
-            }
+            Term::Bound(i) => Ok(Shape::Bound(*i)),
+            Term::App(f, args) => Ok(Shape::App(*f, self.take_terms(args)?)),
+            Term::Ite(p, a, b) => Ok(Shape::Ite(
+                self.take_in(p)?,
+                self.take_term(a)?,
+                self.take_term(b)?,
+            )),
         }
     }
 

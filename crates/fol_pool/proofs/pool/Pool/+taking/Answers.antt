@@ -1,55 +1,16 @@
 use Rattle.std.proofs.Common.{◌≡◌, ◌+◌, ◌-◌, ◌<◌, length, sym, ap, ◌∙◌, arith}
-use Rattle.fol_formula.specs.declared.Formula.TheViews.{rolls-Eq, rolls-Implies, rolls-Iff, rolls-Ite}
-use Rattle.fol_formula.specs.declared.Formula.TheOpen.{Formula-F, Term-F}
-use Rattle.fol_formula.specs.declared.Formula.TheFolds.{fold-roll-Formula, fold-roll-Term}
-use Rattle.fol_formula.specs.Syntax.{FormTree, TermTree, equal, implication, equivalence, ite}
+use Rattle.fol_formula.specs.declared.Formula.TheViews.{rolls-Ite}
+use Rattle.fol_formula.specs.declared.Formula.TheOpen.{Term-F}
+use Rattle.fol_formula.specs.declared.Formula.TheFolds.{fold-roll-Term}
+use Rattle.fol_formula.specs.Syntax.{FormTree, TermTree, ite}
 use Rattle.fol_formula.specs.View.{form, forms, form_step, term, terms, term_step}
-use Rattle.fol_pool.proofs.Growing.{two_forms, two_terms, three_parts, row_grows, forms_row, forms_whole, terms_row}
-use Rattle.fol_pool.proofs.Growing.{terms_whole}
+use Rattle.fol_pool.specs.Trees.{a_term}
+use Rattle.fol_pool.proofs.Growing.{choice, row_grows, forms_row, forms_whole, terms_row, terms_whole}
 use Rattle.fol_pool.proofs.pool.Pool.+taking.Goals as goal
 
-pub take_in-returns-in_ok-b-in-Eq-clause-node : goal.take_in-returns-in_ok-b-in-Eq-clause-node
-take_in-returns-in_ok-b-in-Eq-clause-node t c =
-    let w = c.in-Eq in
-    let tree : form c.args.formula.now ≡ equal (term w.a) (term w.b) =
-    ap form (w.is ∙ sym (rolls-Eq w.a w.b))
-    ∙ fold-roll-Formula FormTree TermTree form_step term_step (Formula-F.Eq w.a w.b) in
-    two_terms c.take_term.new.self c.take_term-in-Eq.new.self c.add-in-Eq.new.self c.in_ok-a-in-Eq.a c.in_ok-b-in-Eq.b
-    c.add-in-Eq.result c.take_term-in-Eq.ensures.grows equal (term w.a) (term w.b) (form c.args.formula.now)
-    c.in_ok-a-in-Eq.ensures.node c.in_ok-b-in-Eq.ensures.node tree c.add-in-Eq.ensures.node
-
-pub take_in-returns-in_ok-q-in-Implies-clause-node : goal.take_in-returns-in_ok-q-in-Implies-clause-node
-take_in-returns-in_ok-q-in-Implies-clause-node t c =
-    let w = c.in-Implies in
-    let first = c.deref-in-Implies.result.now in
-    let second = c.deref-in-Implies-2.result.now in
-    let tree : form c.args.formula.now ≡ implication (form w.p.value) (form w.q.value) =
-    ap form (w.is ∙ sym (rolls-Implies w.p w.q))
-    ∙ fold-roll-Formula FormTree TermTree form_step term_step (Formula-F.Implies w.p w.q) in
-    two_forms c.take_in-in-Implies.new.self c.take_in-in-Implies-2.new.self c.add-in-Implies.new.self
-    c.in_ok-p-in-Implies.p c.in_ok-q-in-Implies.q c.add-in-Implies.result c.take_in-in-Implies-2.ensures.grows
-    implication (form first) (form second) (form c.args.formula.now)
-    c.in_ok-p-in-Implies.ensures.node c.in_ok-q-in-Implies.ensures.node
-    (tree ∙ (λ i. implication (form (sym c.deref-in-Implies.ensures i)) (form (sym c.deref-in-Implies-2.ensures i))))
-    c.add-in-Implies.ensures.node
-
-pub take_in-returns-in_ok-q-in-Iff-clause-node : goal.take_in-returns-in_ok-q-in-Iff-clause-node
-take_in-returns-in_ok-q-in-Iff-clause-node t c =
-    let w = c.in-Iff in
-    let first = c.deref-in-Iff.result.now in
-    let second = c.deref-in-Iff-2.result.now in
-    let tree : form c.args.formula.now ≡ equivalence (form w.p.value) (form w.q.value) =
-    ap form (w.is ∙ sym (rolls-Iff w.p w.q))
-    ∙ fold-roll-Formula FormTree TermTree form_step term_step (Formula-F.Iff w.p w.q) in
-    two_forms c.take_in-in-Iff.new.self c.take_in-in-Iff-2.new.self c.add-in-Iff.new.self
-    c.in_ok-p-in-Iff.p c.in_ok-q-in-Iff.q c.add-in-Iff.result c.take_in-in-Iff-2.ensures.grows
-    equivalence (form first) (form second) (form c.args.formula.now)
-    c.in_ok-p-in-Iff.ensures.node c.in_ok-q-in-Iff.ensures.node
-    (tree ∙ (λ i. equivalence (form (sym c.deref-in-Iff.ensures i)) (form (sym c.deref-in-Iff-2.ensures i))))
-    c.add-in-Iff.ensures.node
-
-pub take_term-returns-in_ok-b-in-Ite-clause-node : goal.take_term-returns-in_ok-b-in-Ite-clause-node
-take_term-returns-in_ok-b-in-Ite-clause-node t c =
+pub take_term_parts-returns-in_ok-take_term-in-Ite-2-clause-tree :
+    goal.take_term_parts-returns-in_ok-take_term-in-Ite-2-clause-tree
+take_term_parts-returns-in_ok-take_term-in-Ite-2-clause-tree t c =
     let w = c.in-Ite in
     let condition = c.deref-in-Ite.result.now in
     let first = c.deref-in-Ite-2.result.now in
@@ -57,13 +18,13 @@ take_term-returns-in_ok-b-in-Ite-clause-node t c =
     let tree : term c.args.t.now ≡ ite (form w.p.value) (term w.a.value) (term w.b.value) =
     ap term (w.is ∙ sym (rolls-Ite w.p w.a w.b))
     ∙ fold-roll-Term FormTree TermTree form_step term_step (Term-F.Ite w.p w.a w.b) in
-    three_parts c.take_in.new.self c.take_term.new.self c.take_term-in-Ite.new.self c.add-in-Ite.new.self
-    c.in_ok-p-in-Ite.p c.in_ok-a-in-Ite.a c.in_ok-b-in-Ite.b c.add-in-Ite.result c.take_term.ensures.grows
-    c.take_term-in-Ite.ensures.grows ite (form condition) (term first) (term second) (term c.args.t.now)
-    c.in_ok-p-in-Ite.ensures.node c.in_ok-a-in-Ite.ensures.node c.in_ok-b-in-Ite.ensures.node
+    ap a_term
+    (choice c.take_in.new.self c.take_term.new.self c.take_term-in-Ite.new.self c.in_ok-take_in-in-Ite.field-0.0
+    c.in_ok-take_term-in-Ite.field-0.0 c.in_ok-take_term-in-Ite-2.field-0.0 (form condition) (term first) (term second)
+    (term c.args.t.now) c.take_term.ensures.grows c.take_term-in-Ite.ensures.grows c.in_ok-take_in-in-Ite.ensures.node
+    c.in_ok-take_term-in-Ite.ensures.node c.in_ok-take_term-in-Ite-2.ensures.node
     (tree ∙ (λ i. ite (form (sym c.deref-in-Ite.ensures i)) (term (sym c.deref-in-Ite-2.ensures i))
-    (term (sym c.deref-in-Ite-3.ensures i))))
-    c.add-in-Ite.ensures.node
+    (term (sym c.deref-in-Ite-3.ensures i)))))
 
 pub take_formulas-loop-i-preserved : goal.take_formulas-loop-i-preserved
 take_formulas-loop-i-preserved t c =
