@@ -2,7 +2,7 @@
 use Rattle.std.proofs.Common.{◌≡◌, ℕ, ◌+◌, ◌<◌, List, [], ◌∷◌, ◌++◌, length, get_or, take, map, sym, ap, ◌∙◌, subst}
 use Rattle.std.proofs.Common.{append_assoc}
 use Rattle.std.proofs.lemmas.List.{take_more}
-use Rattle.fol_formula.specs.Syntax.{FormTree, FormTrees, TermTree, TermTrees, form_then, term_then, ite, forms_then}
+use Rattle.fol_formula.specs.Syntax.{FormTree, FormTrees, TermTree, TermTrees, equal, form_then, term_then, ite, forms_then}
 use Rattle.fol_formula.specs.Syntax.{terms_then}
 use Rattle.fol_formula.specs.View.{form, term}
 use Rattle.fol_formula.specs.Lists.{FormLists, TermLists}
@@ -25,6 +25,20 @@ has_forms ts n ps h = (h.0, h.1 ∙ ap (λ (t : Tree). some_forms (as_formulas t
 
 has_terms : (ts : List Tree) (n : ℕ) (us : TermTrees) → IsAt ts n (some_terms us) → HasTerms ts n
 has_terms ts n us h = (h.0, h.1 ∙ ap (λ (t : Tree). some_terms (as_terms t)) (sym h.1))
+
+-- two parts that were taken in one after the other
+module _ (one two : List Tree) (a b : ℕ) (grows : Grows one two) where
+  pub two_forms : (F : FormTree → FormTree → FormTree) (p q whole : FormTree) → IsAt one a (a_form p)
+      → IsAt two b (a_form q) → whole ≡ F p q → F (form_at two a) (form_at two b) ≡ whole
+  two_forms F p q whole first second is =
+      let there = stays_at one two grows a (a_form p) first in
+      (λ i. F (as_formula (there.1 i)) (as_formula (second.1 i))) ∙ sym is
+
+  pub two_terms : (t u : TermTree) (whole : FormTree) → IsAt one a (a_term t) → IsAt two b (a_term u)
+      → whole ≡ equal t u → equal (term_at two a) (term_at two b) ≡ whole
+  two_terms t u whole first second is =
+      let there = stays_at one two grows a (a_term t) first in
+      (λ i. equal (as_term (there.1 i)) (as_term (second.1 i))) ∙ sym is
 
 -- the parts of a choice that were taken in one after the other
 pub choice : (one two three : List Tree) (a b c : ℕ) (p : FormTree) (t u whole : TermTree) → Grows one two

@@ -9,11 +9,11 @@ use Rattle.std.proofs.Math.Seq.{take-append_seam}
 use Rattle.std.proofs.lemmas.Bool.{cases_lt}
 use Rattle.fol_pool.specs.Trees.{Tree, a_form, tree_at, IsAt, EachOnce}
 use Rattle.fol_formula.specs.Syntax.{top}
-use Rattle.fol_pool.specs.Shapes.{tree_of, IsOver}
+use Rattle.fol_pool.specs.Shapes.{tree_of, IsOver, PartsAreBelow}
 use Rattle.fol_pool.specs.Pools.{grown, AreOver, ArePooled}
 use Rattle.fol_pool.specs.declared.shape.Shape.{Shape}
 use Rattle.fol_pool.specs.declared.shape.Shape.TheVariants as shape
-use Rattle.fol_pool.proofs.Nodes.{over_grows, tree_stays, one_tree}
+use Rattle.fol_pool.proofs.Nodes.{over_grows, tree_stays, one_tree, parts_below}
 use Rattle.fol_pool.proofs.Same.{equal, equal_self, same}
 
 pub grown_push : (ts : List Tree) (xs : List Shape) (s : Shape)
@@ -192,3 +192,17 @@ shape_over xs n pooled lt =
     ap (λ (m : ℕ). take m (grown [] xs)) (sym p.count) ∙ ap (take (length p.before)) p.whole
     ∙ take-append_seam p.before p.behind in
     subst (λ (ts : List Tree). IsOver ts (get_or xs n shape.True)) (sym front) p.over
+
+-- and over all of them
+pub shape_parts : (xs : List Shape) (n : ℕ) → ArePooled xs → n < length (grown [] xs)
+    → IsOver (grown [] xs) (get_or xs n shape.True)
+shape_parts xs n pooled lt =
+    kept_over xs n (kept_at xs pooled.over n (subst (λ (m : ℕ). n < m) (length_grown xs) lt))
+
+-- and its parts have smaller numbers
+pub shape_below : (xs : List Shape) (n : ℕ) → ArePooled xs → n < length (grown [] xs)
+    → PartsAreBelow n (get_or xs n shape.True)
+shape_below xs n pooled lt =
+    let p = kept_at xs pooled.over n (subst (λ (m : ℕ). n < m) (length_grown xs) lt) in
+    let k = get_or xs n shape.True in
+    subst (λ (m : ℕ). PartsAreBelow m k) p.count (parts_below p.before k p.over)

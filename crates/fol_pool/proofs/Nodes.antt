@@ -8,7 +8,7 @@ use Rattle.fol_formula.specs.Syntax.{form_then, bound, app, ite, no_terms, term_
 use Rattle.fol_pool.specs.Trees.{Tree, a_form, some_forms, a_term, some_terms, tree_at, IsAt, EachOnce, as_formula}
 use Rattle.fol_pool.specs.Trees.{as_formulas, as_term, as_terms, form_at, forms_at, term_at, terms_at}
 use Rattle.fol_pool.specs.Trees.{HasForm, HasForms, HasTerm, HasTerms}
-use Rattle.fol_pool.specs.Shapes.{tree_of, IsOver}
+use Rattle.fol_pool.specs.Shapes.{tree_of, IsOver, PartsAreBelow}
 use Rattle.fol_pool.specs.declared.shape.Node.{Node}
 use Rattle.fol_pool.specs.declared.shape.Shape.{Shape}
 use Rattle.fol_pool.specs.declared.shape.Shape.TheVariants as shape
@@ -81,6 +81,27 @@ module _ (ts more : List Tree) where
   tree_stays (shape.Ite a b c) h = λ i. a_term (ite (as_formula (stays a.0 h.0.0 i)) (as_term (stays b.0 h.1.0 i)) (as_term (stays c.0 h.2.0 i)))
   tree_stays shape.NoTerms h = refl
   tree_stays (shape.TermThen a b) h = λ i. some_terms (term_then (as_term (stays a.0 h.0.0 i)) (as_terms (stays b.0 h.1.0 i)))
+
+-- the parts are nodes
+pub parts_below : (ts : List Tree) (s : Shape) → IsOver ts s → PartsAreBelow (length ts) s
+parts_below ts shape.True h = tt
+parts_below ts shape.False h = tt
+parts_below ts (shape.Rel a b) h = h.0
+parts_below ts (shape.Eq a b) h = (h.0.0, h.1.0)
+parts_below ts (shape.Not a) h = h.0
+parts_below ts (shape.And a) h = h.0
+parts_below ts (shape.Or a) h = h.0
+parts_below ts (shape.Implies a b) h = (h.0.0, h.1.0)
+parts_below ts (shape.Iff a b) h = (h.0.0, h.1.0)
+parts_below ts (shape.Forall a b) h = h.0
+parts_below ts (shape.Exists a b) h = h.0
+parts_below ts shape.NoForms h = tt
+parts_below ts (shape.FormThen a b) h = (h.0.0, h.1.0)
+parts_below ts (shape.Bound a) h = tt
+parts_below ts (shape.App a b) h = h.0
+parts_below ts (shape.Ite a b c) h = (h.0.0, h.1.0, h.2.0)
+parts_below ts shape.NoTerms h = tt
+parts_below ts (shape.TermThen a b) h = (h.0.0, h.1.0)
 
 -- how a shape stands for a tree, by the tree
 abbrev Stands : List Tree → Tree → Shape → Type 0

@@ -1,5 +1,5 @@
 -- The tree that a shape stands for, over the trees of a pool's nodes.
-use Rattle.std.specs.Prelude.{List}
+use Rattle.std.specs.Prelude.{ℕ, ◌<◌, List}
 use Rattle.fol_formula.specs.Syntax.{top, bottom, rel, equal, negation, conjunction, disjunction, implication}
 use Rattle.fol_formula.specs.Syntax.{equivalence, for_all, for_some, no_forms, form_then, bound, app, ite, no_terms}
 use Rattle.fol_formula.specs.Syntax.{term_then}
@@ -48,3 +48,24 @@ IsOver ts (shape.App f args) = HasTerms ts args.0
 IsOver ts (shape.Ite p a b) = HasForm ts p.0 × HasTerm ts a.0 × HasTerm ts b.0
 IsOver ts shape.NoTerms = Unit {0}
 IsOver ts (shape.TermThen t rest) = HasTerm ts t.0 × HasTerms ts rest.0
+
+-- each part has a smaller number
+abbrev pub PartsAreBelow : ℕ → Shape → Type 0
+PartsAreBelow n shape.True = Unit {0}
+PartsAreBelow n shape.False = Unit {0}
+PartsAreBelow n (shape.Rel r args) = args.0 < n
+PartsAreBelow n (shape.Eq a b) = (a.0 < n) × (b.0 < n)
+PartsAreBelow n (shape.Not p) = p.0 < n
+PartsAreBelow n (shape.And ps) = ps.0 < n
+PartsAreBelow n (shape.Or ps) = ps.0 < n
+PartsAreBelow n (shape.Implies p q) = (p.0 < n) × (q.0 < n)
+PartsAreBelow n (shape.Iff p q) = (p.0 < n) × (q.0 < n)
+PartsAreBelow n (shape.Forall k p) = p.0 < n
+PartsAreBelow n (shape.Exists k p) = p.0 < n
+PartsAreBelow n shape.NoForms = Unit {0}
+PartsAreBelow n (shape.FormThen p ps) = (p.0 < n) × (ps.0 < n)
+PartsAreBelow n (shape.Bound i) = Unit {0}
+PartsAreBelow n (shape.App f args) = args.0 < n
+PartsAreBelow n (shape.Ite p a b) = (p.0 < n) × (a.0 < n) × (b.0 < n)
+PartsAreBelow n shape.NoTerms = Unit {0}
+PartsAreBelow n (shape.TermThen t rest) = (t.0 < n) × (rest.0 < n)

@@ -4,6 +4,7 @@
 mod pool;
 mod shape;
 mod taking;
+mod unfolding;
 
 pub use pool::Pool;
 pub use shape::{Node, Shape};

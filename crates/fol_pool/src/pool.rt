@@ -1,7 +1,7 @@
 // The nodes, each found by its shape.
 ghost use Rattle.std.specs.Prelude.{◌≡◌, ◌<◌, ◌⊎◌, ◌++◌, ◌∷◌, [], length, take, OnOk, IfOk, OnErr};
 ghost use Rattle.fol_pool.specs.Trees.{IsAt, EachOnce, Grows, tree_at};
-ghost use Rattle.fol_pool.specs.Shapes.{tree_of, IsOver};
+ghost use Rattle.fol_pool.specs.Shapes.{tree_of, IsOver, PartsAreBelow};
 
 use crate::shape::{Node, Shape};
 use base::{Mem, place_of};
@@ -56,6 +56,8 @@ impl Pool {
         requires { node.0 < length self.now }
         ensures tree { tree_of self.now result ≡ tree_at self.now node.0 }
         ensures over { IsOver (take node.0 self.now) result }
+        ensures parts { IsOver self.now result }
+        ensures below { PartsAreBelow node.0 result }
     {
         self.shapes.as_slice()[node.0 as usize]
     }

@@ -1,12 +1,52 @@
 use Rattle.std.proofs.Common.{◌≡◌, ◌+◌, ◌-◌, ◌<◌, length, sym, ap, ◌∙◌, arith}
-use Rattle.fol_formula.specs.declared.Formula.TheViews.{rolls-Ite}
-use Rattle.fol_formula.specs.declared.Formula.TheOpen.{Term-F}
-use Rattle.fol_formula.specs.declared.Formula.TheFolds.{fold-roll-Term}
-use Rattle.fol_formula.specs.Syntax.{FormTree, TermTree, ite}
+use Rattle.fol_formula.specs.declared.Formula.TheViews.{rolls-Eq, rolls-Implies, rolls-Iff, rolls-Ite}
+use Rattle.fol_formula.specs.declared.Formula.TheOpen.{Formula-F, Term-F}
+use Rattle.fol_formula.specs.declared.Formula.TheFolds.{fold-roll-Formula, fold-roll-Term}
+use Rattle.fol_formula.specs.Syntax.{FormTree, TermTree, equal, implication, equivalence, ite}
 use Rattle.fol_formula.specs.View.{form, forms, form_step, term, terms, term_step}
-use Rattle.fol_pool.specs.Trees.{a_term}
-use Rattle.fol_pool.proofs.Growing.{choice, row_grows, forms_row, forms_whole, terms_row, terms_whole}
+use Rattle.fol_pool.specs.Trees.{a_form, a_term}
+use Rattle.fol_pool.proofs.Growing.{two_forms, two_terms, choice, row_grows, forms_row, forms_whole, terms_row, terms_whole}
 use Rattle.fol_pool.proofs.pool.Pool.+taking.Goals as goal
+
+pub take_parts-returns-in_ok-take_term-in-Eq-2-clause-tree :
+    goal.take_parts-returns-in_ok-take_term-in-Eq-2-clause-tree
+take_parts-returns-in_ok-take_term-in-Eq-2-clause-tree t c =
+    let w = c.in-Eq in
+    let tree : form c.args.formula.now ≡ equal (term w.a) (term w.b) =
+    ap form (w.is ∙ sym (rolls-Eq w.a w.b))
+    ∙ fold-roll-Formula FormTree TermTree form_step term_step (Formula-F.Eq w.a w.b) in
+    ap a_form
+    (two_terms c.take_term.new.self c.take_term-in-Eq.new.self c.in_ok-take_term-in-Eq.field-0.0
+    c.in_ok-take_term-in-Eq-2.field-0.0 c.take_term-in-Eq.ensures.grows (term w.a) (term w.b)
+    (form c.args.formula.now) c.in_ok-take_term-in-Eq.ensures.node c.in_ok-take_term-in-Eq-2.ensures.node tree)
+
+pub take_parts-returns-in_ok-take_in-in-Implies-2-clause-tree : goal.take_parts-returns-in_ok-take_in-in-Implies-2-clause-tree
+take_parts-returns-in_ok-take_in-in-Implies-2-clause-tree t c =
+    let w = c.in-Implies in
+    let first = c.deref-in-Implies.result.now in
+    let second = c.deref-in-Implies-2.result.now in
+    let tree : form c.args.formula.now ≡ implication (form w.p.value) (form w.q.value) =
+    ap form (w.is ∙ sym (rolls-Implies w.p w.q))
+    ∙ fold-roll-Formula FormTree TermTree form_step term_step (Formula-F.Implies w.p w.q) in
+    ap a_form
+    (two_forms c.take_in-in-Implies.new.self c.take_in-in-Implies-2.new.self c.in_ok-take_in-in-Implies.field-0.0
+    c.in_ok-take_in-in-Implies-2.field-0.0 c.take_in-in-Implies-2.ensures.grows implication (form first) (form second)
+    (form c.args.formula.now) c.in_ok-take_in-in-Implies.ensures.node c.in_ok-take_in-in-Implies-2.ensures.node
+    (tree ∙ (λ i. implication (form (sym c.deref-in-Implies.ensures i)) (form (sym c.deref-in-Implies-2.ensures i)))))
+
+pub take_parts-returns-in_ok-take_in-in-Iff-2-clause-tree : goal.take_parts-returns-in_ok-take_in-in-Iff-2-clause-tree
+take_parts-returns-in_ok-take_in-in-Iff-2-clause-tree t c =
+    let w = c.in-Iff in
+    let first = c.deref-in-Iff.result.now in
+    let second = c.deref-in-Iff-2.result.now in
+    let tree : form c.args.formula.now ≡ equivalence (form w.p.value) (form w.q.value) =
+    ap form (w.is ∙ sym (rolls-Iff w.p w.q))
+    ∙ fold-roll-Formula FormTree TermTree form_step term_step (Formula-F.Iff w.p w.q) in
+    ap a_form
+    (two_forms c.take_in-in-Iff.new.self c.take_in-in-Iff-2.new.self c.in_ok-take_in-in-Iff.field-0.0
+    c.in_ok-take_in-in-Iff-2.field-0.0 c.take_in-in-Iff-2.ensures.grows equivalence (form first) (form second)
+    (form c.args.formula.now) c.in_ok-take_in-in-Iff.ensures.node c.in_ok-take_in-in-Iff-2.ensures.node
+    (tree ∙ (λ i. equivalence (form (sym c.deref-in-Iff.ensures i)) (form (sym c.deref-in-Iff-2.ensures i)))))
 
 pub take_term_parts-returns-in_ok-take_term-in-Ite-2-clause-tree :
     goal.take_term_parts-returns-in_ok-take_term-in-Ite-2-clause-tree

@@ -1,10 +1,10 @@
 use Rattle.std.proofs.Common.{◌≡◌, ◌<◌, ℕ, sym, subst, length, take, get_or, List, []}
 use Rattle.fol_pool.specs.Trees.{Tree, tree_at}
-use Rattle.fol_pool.specs.Shapes.{tree_of, IsOver}
+use Rattle.fol_pool.specs.Shapes.{tree_of, IsOver, PartsAreBelow}
 use Rattle.fol_pool.specs.Pools.{grown, ArePooled}
 use Rattle.fol_pool.specs.declared.shape.Shape.{Shape}
 use Rattle.fol_pool.specs.declared.shape.Shape.TheVariants as shape
-use Rattle.fol_pool.proofs.Grown.{length_grown, shape_tree, shape_over}
+use Rattle.fol_pool.proofs.Grown.{length_grown, shape_tree, shape_over, shape_parts, shape_below}
 use Rattle.fol_pool.proofs.pool.Pool.shape.Goals as goal
 
 module _ (ts : List Tree) (keys : List Shape) (n : ℕ) (is : grown [] keys ≡ ts) (lt : n < length ts) where
@@ -23,6 +23,12 @@ module _ (ts : List Tree) (keys : List Shape) (n : ℕ) (is : grown [] keys ≡ 
   over pooled =
       subst (λ (l : List Tree). IsOver (take n l) (get_or keys n shape.True)) is (shape_over keys n pooled inside)
 
+  parts : ArePooled keys → IsOver ts (get_or keys n shape.True)
+  parts pooled = subst (λ (l : List Tree). IsOver l (get_or keys n shape.True)) is (shape_parts keys n pooled inside)
+
+  below : ArePooled keys → PartsAreBelow n (get_or keys n shape.True)
+  below pooled = shape_below keys n pooled inside
+
 pub bounds-as_slice-node : goal.bounds-as_slice-node
 bounds-as_slice-node c =
     rw c.as_slice.ensures.keys (within c.args.self.now c.self.inside.shapes.keys c.args.node.0 c.self.view_is c.requires)
@@ -36,3 +42,13 @@ pub returns-clause-over : goal.returns-clause-over
 returns-clause-over c =
     rw c.as_slice.ensures.keys
     (over c.args.self.now c.self.inside.shapes.keys c.args.node.0 c.self.view_is c.requires c.self.invariant)
+
+pub returns-clause-parts : goal.returns-clause-parts
+returns-clause-parts c =
+    rw c.as_slice.ensures.keys
+    (parts c.args.self.now c.self.inside.shapes.keys c.args.node.0 c.self.view_is c.requires c.self.invariant)
+
+pub returns-clause-below : goal.returns-clause-below
+returns-clause-below c =
+    rw c.as_slice.ensures.keys
+    (below c.args.self.now c.self.inside.shapes.keys c.args.node.0 c.self.view_is c.requires c.self.invariant)
