@@ -1,15 +1,19 @@
 -- What a pool keeps, as shapes are added.
 use Rattle.std.proofs.Common.{◌≡◌, ℕ, zero, suc, ◌+◌, ◌<◌, ◌≤◌, Bool, true, false, true≢false, List, [], ◌∷◌, ◌++◌}
 use Rattle.std.proofs.Common.{length, take, get_or, refl, sym, ap, subst, ◌∙◌, arith, append_assoc, append-nil, cond}
-use Rattle.std.proofs.Common.{inl, inr, ◌⊎◌}
+use Rattle.std.proofs.Common.{inl, inr, ◌⊎◌, map}
+use Rattle.std.specs.Prelude.{not}
 use Rattle.std.specs.List.{list_any}
-use Rattle.std.proofs.lemmas.List.{get_or_append_left, get_or-append-add, length-append}
+use Rattle.std.proofs.lemmas.List.{get_or_append_left, get_or-append-add, length-append, map-append}
 use Rattle.std.proofs.lemmas.List.Folds.{list_any_at}
 use Rattle.std.proofs.Math.Seq.{take-append_seam}
 use Rattle.std.proofs.lemmas.Bool.{cases_lt}
 use Rattle.fol_pool.specs.Trees.{Tree, a_form, tree_at, IsAt, EachOnce}
 use Rattle.fol_formula.specs.Syntax.{top}
+use Rattle.fol_formula.specs.Counts.{saturated}
 use Rattle.fol_pool.specs.Shapes.{tree_of, IsOver, PartsAreBelow}
+use Rattle.fol_pool.specs.Sizes.{tree_nodes, tree_depth, tree_size}
+use Rattle.fol_pool.specs.declared.size.TreeSize.{TreeSize}
 use Rattle.fol_pool.specs.Pools.{grown, AreOver, ArePooled}
 use Rattle.fol_pool.specs.declared.shape.Shape.{Shape}
 use Rattle.fol_pool.specs.declared.shape.Shape.TheVariants as shape
@@ -206,3 +210,17 @@ shape_below xs n pooled lt =
     let p = kept_at xs pooled.over n (subst (λ (m : ℕ). n < m) (length_grown xs) lt) in
     let k = get_or xs n shape.True in
     subst (λ (m : ℕ). PartsAreBelow m k) p.count (parts_below p.before k p.over)
+
+-- the sizes, with one where the shape is new
+pub sized_more : (xs : List Shape) (s : Shape) (zs : List TreeSize) (z : TreeSize) → zs ≡ map tree_size (grown [] xs)
+    → z.nodes ≡ saturated (tree_nodes (tree_of (grown [] xs) s))
+    → z.depth ≡ saturated (tree_depth (tree_of (grown [] xs) s)) → (b : Bool)
+    → cond (not b) (zs ++ z ∷ []) zs ≡ map tree_size (grown [] (cond b xs (xs ++ s ∷ [])))
+sized_more xs s zs z are nodes depth true = are
+sized_more xs s zs z are nodes depth false =
+    let ts = grown [] xs in
+    let one : z ≡ tree_size (tree_of ts s) = λ i. record { nodes = nodes i; depth = depth i } in
+    ap (λ (l : List TreeSize). l ++ z ∷ []) are
+    ∙ ap (λ (y : TreeSize). map tree_size ts ++ y ∷ []) one
+    ∙ sym (map-append tree_size ts (tree_of ts s ∷ []))
+    ∙ ap (map tree_size) (sym (grown_push [] xs s))

@@ -1,3 +1,4 @@
 pub mod Trees
 pub mod Shapes
+pub mod Sizes
 pub mod Pools

@@ -1,8 +1,10 @@
 -- The trees of a pool's nodes, by the shapes that it keeps.
-use Rattle.std.specs.Prelude.{List, [], ◌∷◌, ◌++◌}
+use Rattle.std.specs.Prelude.{◌≡◌, List, [], ◌∷◌, ◌++◌, map}
 use Rattle.fol_pool.specs.Trees.{Tree, EachOnce}
 use Rattle.fol_pool.specs.Shapes.{tree_of, IsOver}
+use Rattle.fol_pool.specs.Sizes.{tree_size}
 use Rattle.fol_pool.specs.declared.shape.Shape.{Shape}
+use Rattle.fol_pool.specs.declared.size.TreeSize.{TreeSize}
 
 -- the trees of some nodes, with those of further shapes behind them, each over what stands before it
 abbrev pub grown : List Tree → List Shape → List Tree
@@ -14,7 +16,12 @@ abbrev pub AreOver : List Tree → List Shape → Type 0
 AreOver ts [] = Unit {0}
 AreOver ts (s ∷ rest) = IsOver ts s × AreOver (ts ++ tree_of ts s ∷ []) rest
 
--- what a pool keeps
+-- each shape is over those before it, and no two have one tree
 pub record ArePooled (shapes : List Shape) : Type 0 where
   pub over : AreOver [] shapes
   pub once : EachOnce (grown [] shapes)
+
+-- what a pool keeps: its shapes, and beside each the size of its tree
+pub record IsKept (shapes : List Shape) (sizes : List TreeSize) : Type 0 where
+  pub pooled : ArePooled shapes
+  pub sized : sizes ≡ map tree_size (grown [] shapes)

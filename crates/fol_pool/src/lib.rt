@@ -1,8 +1,10 @@
 //! Formulas and terms of which equal parts are kept once: a node for each, whose parts are nodes.
 #![tactic(auto)]
 
+mod counts;
 mod pool;
 mod shape;
+mod size;
 mod taking;
 mod unfolding;
 

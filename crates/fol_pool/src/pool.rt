@@ -1,9 +1,12 @@
 // The nodes, each found by its shape.
 ghost use Rattle.std.specs.Prelude.{◌≡◌, ◌<◌, ◌⊎◌, ◌++◌, ◌∷◌, [], length, take, OnOk, IfOk, OnErr};
+ghost use Rattle.std.specs.Prelude.{if◌then◌else◌, vec_len, vec_capacity, IsOk};
 ghost use Rattle.fol_pool.specs.Trees.{IsAt, EachOnce, Grows, tree_at};
 ghost use Rattle.fol_pool.specs.Shapes.{tree_of, IsOver, PartsAreBelow};
+ghost use Rattle.fol_pool.specs.Sizes.{tree_size};
 
 use crate::shape::{Node, Shape};
+use crate::size::TreeSize;
 use base::{Mem, place_of};
 use indexmap::IndexSet;
 use std::alloc::Global;
@@ -15,6 +18,7 @@ use std::marker::Model;
 #[derive(Drop)]
 pub struct Pool {
     shapes: IndexSet<Shape>,
+    sizes: Vec<TreeSize>,
 }
 
 impl Model for Pool {
@@ -26,11 +30,11 @@ impl Model for Pool {
 
     ghost coded = { coded_list tree_code };
 
-    ghost use Rattle.fol_pool.specs.Pools.{grown, ArePooled};
+    ghost use Rattle.fol_pool.specs.Pools.{grown, IsKept};
 
     ghost view = { λ p. grown [] p.shapes.keys };
 
-    ghost invariant = { λ p. ArePooled p.shapes.keys };
+    ghost invariant = { λ p. IsKept p.shapes.keys p.sizes.items };
 }
 
 impl Pool {
@@ -40,6 +44,7 @@ impl Pool {
     {
         Pool {
             shapes: IndexSet::new(alloc),
+            sizes: Vec::new(alloc),
         }
     }
 
@@ -66,12 +71,34 @@ impl Pool {
     pub fn add(&mut self, shape: Shape) -> Mem<Node>
         requires { IsOver self.old shape }
         ensures node { IfOk result (λ node. IsAt self.new node.0 (tree_of self.old shape)) }
-        ensures grows { OnOk result ((self.new ≡ self.old) ⊎ (self.new ≡ self.old ++ tree_of self.old shape ∷ [])) }
+        ensures added { OnOk result ((self.new ≡ self.old) ⊎ (self.new ≡ self.old ++ tree_of self.old shape ∷ [])) }
         ensures kept { OnErr result (self.new ≡ self.old) }
-        ensures numbers { Grows self.old self.new }
+        ensures grows { Grows self.old self.new }
     {
+        let size = self.shape_size(shape);
         place_of(self.shapes.len())?;
-        let (place, _) = self.shapes.insert_full(shape)?;
+        self.sizes.reserve(1)?;
+        let (place, is_new) = self.shapes.insert_full(shape)?;
+        push_where(&mut self.sizes, is_new, size)?;
         Ok(Node(place as u32))
     }
+
+    // The size of the tree at a node.
+    pub(crate) fn size(&self, node: Node) -> TreeSize
+        requires { node.0 < length self.now }
+        ensures { result ≡ tree_size (tree_at self.now node.0) }
+    {
+        self.sizes[node.0 as usize]
+    }
+}
+
+// With room for it, it cannot fail.
+fn push_where(sizes: &mut Vec<TreeSize>, is_new: bool, size: TreeSize) -> Mem<()>
+    ensures items { OnOk result (sizes.new.items ≡ (if is_new then sizes.old.items ++ size ∷ [] else sizes.old.items)) }
+    ensures room { vec_len sizes.old < vec_capacity sizes.old → IsOk result }
+{
+    if is_new {
+        sizes.push(size)?;
+    }
+    Ok(())
 }

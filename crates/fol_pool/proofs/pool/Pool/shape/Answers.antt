@@ -36,19 +36,19 @@ bounds-as_slice-node c =
 pub returns-clause-tree : goal.returns-clause-tree
 returns-clause-tree c =
     rw c.as_slice.ensures.keys
-    (tree c.args.self.now c.self.inside.shapes.keys c.args.node.0 c.self.view_is c.requires c.self.invariant)
+    (tree c.args.self.now c.self.inside.shapes.keys c.args.node.0 c.self.view_is c.requires c.self.invariant.pooled)
 
 pub returns-clause-over : goal.returns-clause-over
 returns-clause-over c =
     rw c.as_slice.ensures.keys
-    (over c.args.self.now c.self.inside.shapes.keys c.args.node.0 c.self.view_is c.requires c.self.invariant)
+    (over c.args.self.now c.self.inside.shapes.keys c.args.node.0 c.self.view_is c.requires c.self.invariant.pooled)
 
 pub returns-clause-parts : goal.returns-clause-parts
 returns-clause-parts c =
     rw c.as_slice.ensures.keys
-    (parts c.args.self.now c.self.inside.shapes.keys c.args.node.0 c.self.view_is c.requires c.self.invariant)
+    (parts c.args.self.now c.self.inside.shapes.keys c.args.node.0 c.self.view_is c.requires c.self.invariant.pooled)
 
 pub returns-clause-below : goal.returns-clause-below
 returns-clause-below c =
     rw c.as_slice.ensures.keys
-    (below c.args.self.now c.self.inside.shapes.keys c.args.node.0 c.self.view_is c.requires c.self.invariant)
+    (below c.args.self.now c.self.inside.shapes.keys c.args.node.0 c.self.view_is c.requires c.self.invariant.pooled)
