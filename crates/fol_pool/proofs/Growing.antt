@@ -2,8 +2,8 @@
 use Rattle.std.proofs.Common.{◌≡◌, ℕ, ◌+◌, ◌<◌, List, [], ◌∷◌, ◌++◌, length, get_or, take, map, sym, ap, ◌∙◌, subst}
 use Rattle.std.proofs.Common.{append_assoc}
 use Rattle.std.proofs.lemmas.List.{take_more}
-use Rattle.fol_formula.specs.Syntax.{FormTree, FormTrees, TermTree, TermTrees, equal, form_then, term_then, ite, forms_then}
-use Rattle.fol_formula.specs.Syntax.{terms_then}
+use Rattle.fol_formula.specs.Syntax.{FormTree, FormTrees, TermTree, TermTrees, equal, form_then, term_then, ite}
+use Rattle.fol_formula.specs.Syntax.{forms_then, terms_then}
 use Rattle.fol_formula.specs.View.{form, term}
 use Rattle.fol_formula.specs.Lists.{FormLists, TermLists}
 use Rattle.fol_formula.specs.declared.Formula.{Formula}

@@ -70,17 +70,22 @@ module _ (ts more : List Tree) where
   tree_stays (shape.Not a) h = λ i. a_form (negation (as_formula (stays a.0 h.0 i)))
   tree_stays (shape.And a) h = λ i. a_form (conjunction (as_formulas (stays a.0 h.0 i)))
   tree_stays (shape.Or a) h = λ i. a_form (disjunction (as_formulas (stays a.0 h.0 i)))
-  tree_stays (shape.Implies a b) h = λ i. a_form (implication (as_formula (stays a.0 h.0.0 i)) (as_formula (stays b.0 h.1.0 i)))
-  tree_stays (shape.Iff a b) h = λ i. a_form (equivalence (as_formula (stays a.0 h.0.0 i)) (as_formula (stays b.0 h.1.0 i)))
+  tree_stays (shape.Implies a b) h =
+      λ i. a_form (implication (as_formula (stays a.0 h.0.0 i)) (as_formula (stays b.0 h.1.0 i)))
+  tree_stays (shape.Iff a b) h =
+      λ i. a_form (equivalence (as_formula (stays a.0 h.0.0 i)) (as_formula (stays b.0 h.1.0 i)))
   tree_stays (shape.Forall a b) h = λ i. a_form (for_all a.0 (as_formula (stays b.0 h.0 i)))
   tree_stays (shape.Exists a b) h = λ i. a_form (for_some a.0 (as_formula (stays b.0 h.0 i)))
   tree_stays shape.NoForms h = refl
-  tree_stays (shape.FormThen a b) h = λ i. some_forms (form_then (as_formula (stays a.0 h.0.0 i)) (as_formulas (stays b.0 h.1.0 i)))
+  tree_stays (shape.FormThen a b) h =
+      λ i. some_forms (form_then (as_formula (stays a.0 h.0.0 i)) (as_formulas (stays b.0 h.1.0 i)))
   tree_stays (shape.Bound a) h = refl
   tree_stays (shape.App a b) h = λ i. a_term (app a.0 (as_terms (stays b.0 h.0 i)))
-  tree_stays (shape.Ite a b c) h = λ i. a_term (ite (as_formula (stays a.0 h.0.0 i)) (as_term (stays b.0 h.1.0 i)) (as_term (stays c.0 h.2.0 i)))
+  tree_stays (shape.Ite a b c) h =
+      λ i. a_term (ite (as_formula (stays a.0 h.0.0 i)) (as_term (stays b.0 h.1.0 i)) (as_term (stays c.0 h.2.0 i)))
   tree_stays shape.NoTerms h = refl
-  tree_stays (shape.TermThen a b) h = λ i. some_terms (term_then (as_term (stays a.0 h.0.0 i)) (as_terms (stays b.0 h.1.0 i)))
+  tree_stays (shape.TermThen a b) h =
+      λ i. some_terms (term_then (as_term (stays a.0 h.0.0 i)) (as_terms (stays b.0 h.1.0 i)))
 
 -- the parts are nodes
 pub parts_below : (ts : List Tree) (s : Shape) → IsOver ts s → PartsAreBelow (length ts) s
@@ -108,21 +113,28 @@ abbrev Stands : List Tree → Tree → Shape → Type 0
 Stands ts (a_form top) s = s ≡ shape.True
 Stands ts (a_form bottom) s = s ≡ shape.False
 Stands ts (a_form (rel a b)) s = (y : Node) × (s ≡ shape.Rel (record { 0 = a }) y) × IsAt ts y.0 (some_terms b)
-Stands ts (a_form (equal a b)) s = (x : Node) × (y : Node) × (s ≡ shape.Eq x y) × IsAt ts x.0 (a_term a) × IsAt ts y.0 (a_term b)
+Stands ts (a_form (equal a b)) s =
+    (x : Node) × (y : Node) × (s ≡ shape.Eq x y) × IsAt ts x.0 (a_term a) × IsAt ts y.0 (a_term b)
 Stands ts (a_form (negation a)) s = (x : Node) × (s ≡ shape.Not x) × IsAt ts x.0 (a_form a)
 Stands ts (a_form (conjunction a)) s = (x : Node) × (s ≡ shape.And x) × IsAt ts x.0 (some_forms a)
 Stands ts (a_form (disjunction a)) s = (x : Node) × (s ≡ shape.Or x) × IsAt ts x.0 (some_forms a)
-Stands ts (a_form (implication a b)) s = (x : Node) × (y : Node) × (s ≡ shape.Implies x y) × IsAt ts x.0 (a_form a) × IsAt ts y.0 (a_form b)
-Stands ts (a_form (equivalence a b)) s = (x : Node) × (y : Node) × (s ≡ shape.Iff x y) × IsAt ts x.0 (a_form a) × IsAt ts y.0 (a_form b)
+Stands ts (a_form (implication a b)) s =
+    (x : Node) × (y : Node) × (s ≡ shape.Implies x y) × IsAt ts x.0 (a_form a) × IsAt ts y.0 (a_form b)
+Stands ts (a_form (equivalence a b)) s =
+    (x : Node) × (y : Node) × (s ≡ shape.Iff x y) × IsAt ts x.0 (a_form a) × IsAt ts y.0 (a_form b)
 Stands ts (a_form (for_all a b)) s = (y : Node) × (s ≡ shape.Forall (record { 0 = a }) y) × IsAt ts y.0 (a_form b)
 Stands ts (a_form (for_some a b)) s = (y : Node) × (s ≡ shape.Exists (record { 0 = a }) y) × IsAt ts y.0 (a_form b)
 Stands ts (some_forms no_forms) s = s ≡ shape.NoForms
-Stands ts (some_forms (form_then a b)) s = (x : Node) × (y : Node) × (s ≡ shape.FormThen x y) × IsAt ts x.0 (a_form a) × IsAt ts y.0 (some_forms b)
+Stands ts (some_forms (form_then a b)) s =
+    (x : Node) × (y : Node) × (s ≡ shape.FormThen x y) × IsAt ts x.0 (a_form a) × IsAt ts y.0 (some_forms b)
 Stands ts (a_term (bound a)) s = s ≡ shape.Bound a
 Stands ts (a_term (app a b)) s = (y : Node) × (s ≡ shape.App (record { 0 = a }) y) × IsAt ts y.0 (some_terms b)
-Stands ts (a_term (ite a b c)) s = (x : Node) × (y : Node) × (z : Node) × (s ≡ shape.Ite x y z) × IsAt ts x.0 (a_form a) × IsAt ts y.0 (a_term b) × IsAt ts z.0 (a_term c)
+Stands ts (a_term (ite a b c)) s =
+    (x : Node) × (y : Node) × (z : Node) × (s ≡ shape.Ite x y z) × IsAt ts x.0 (a_form a) × IsAt ts y.0 (a_term b)
+    × IsAt ts z.0 (a_term c)
 Stands ts (some_terms no_terms) s = s ≡ shape.NoTerms
-Stands ts (some_terms (term_then a b)) s = (x : Node) × (y : Node) × (s ≡ shape.TermThen x y) × IsAt ts x.0 (a_term a) × IsAt ts y.0 (some_terms b)
+Stands ts (some_terms (term_then a b)) s =
+    (x : Node) × (y : Node) × (s ≡ shape.TermThen x y) × IsAt ts x.0 (a_term a) × IsAt ts y.0 (some_terms b)
 
 -- a shape stands for its tree
 stands : (ts : List Tree) (s : Shape) → IsOver ts s → Stands ts (tree_of ts s) s
@@ -158,7 +170,8 @@ module _ (ts : List Tree) (once : EachOnce ts) where
   one_shape (shape.Rel a b) k over h =
       h.1 ∙ (λ i. shape.Rel a (one_node h.0 b (some_terms (terms_at ts b.0)) h.2 over i))
   one_shape (shape.Eq a b) k over h =
-      h.2 ∙ (λ i. shape.Eq (one_node h.0 a (a_term (term_at ts a.0)) h.3 over.0 i) (one_node h.1 b (a_term (term_at ts b.0)) h.4 over.1 i))
+      h.2 ∙ (λ i. shape.Eq (one_node h.0 a (a_term (term_at ts a.0)) h.3 over.0 i)
+      (one_node h.1 b (a_term (term_at ts b.0)) h.4 over.1 i))
   one_shape (shape.Not a) k over h =
       h.1 ∙ (λ i. shape.Not (one_node h.0 a (a_form (form_at ts a.0)) h.2 over i))
   one_shape (shape.And a) k over h =
@@ -166,24 +179,29 @@ module _ (ts : List Tree) (once : EachOnce ts) where
   one_shape (shape.Or a) k over h =
       h.1 ∙ (λ i. shape.Or (one_node h.0 a (some_forms (forms_at ts a.0)) h.2 over i))
   one_shape (shape.Implies a b) k over h =
-      h.2 ∙ (λ i. shape.Implies (one_node h.0 a (a_form (form_at ts a.0)) h.3 over.0 i) (one_node h.1 b (a_form (form_at ts b.0)) h.4 over.1 i))
+      h.2 ∙ (λ i. shape.Implies (one_node h.0 a (a_form (form_at ts a.0)) h.3 over.0 i)
+      (one_node h.1 b (a_form (form_at ts b.0)) h.4 over.1 i))
   one_shape (shape.Iff a b) k over h =
-      h.2 ∙ (λ i. shape.Iff (one_node h.0 a (a_form (form_at ts a.0)) h.3 over.0 i) (one_node h.1 b (a_form (form_at ts b.0)) h.4 over.1 i))
+      h.2 ∙ (λ i. shape.Iff (one_node h.0 a (a_form (form_at ts a.0)) h.3 over.0 i)
+      (one_node h.1 b (a_form (form_at ts b.0)) h.4 over.1 i))
   one_shape (shape.Forall a b) k over h =
       h.1 ∙ (λ i. shape.Forall a (one_node h.0 b (a_form (form_at ts b.0)) h.2 over i))
   one_shape (shape.Exists a b) k over h =
       h.1 ∙ (λ i. shape.Exists a (one_node h.0 b (a_form (form_at ts b.0)) h.2 over i))
   one_shape shape.NoForms k over h = h
   one_shape (shape.FormThen a b) k over h =
-      h.2 ∙ (λ i. shape.FormThen (one_node h.0 a (a_form (form_at ts a.0)) h.3 over.0 i) (one_node h.1 b (some_forms (forms_at ts b.0)) h.4 over.1 i))
+      h.2 ∙ (λ i. shape.FormThen (one_node h.0 a (a_form (form_at ts a.0)) h.3 over.0 i)
+      (one_node h.1 b (some_forms (forms_at ts b.0)) h.4 over.1 i))
   one_shape (shape.Bound a) k over h = h
   one_shape (shape.App a b) k over h =
       h.1 ∙ (λ i. shape.App a (one_node h.0 b (some_terms (terms_at ts b.0)) h.2 over i))
   one_shape (shape.Ite a b c) k over h =
-      h.3 ∙ (λ i. shape.Ite (one_node h.0 a (a_form (form_at ts a.0)) h.4 over.0 i) (one_node h.1 b (a_term (term_at ts b.0)) h.5 over.1 i) (one_node h.2 c (a_term (term_at ts c.0)) h.6 over.2 i))
+      h.3 ∙ (λ i. shape.Ite (one_node h.0 a (a_form (form_at ts a.0)) h.4 over.0 i)
+      (one_node h.1 b (a_term (term_at ts b.0)) h.5 over.1 i) (one_node h.2 c (a_term (term_at ts c.0)) h.6 over.2 i))
   one_shape shape.NoTerms k over h = h
   one_shape (shape.TermThen a b) k over h =
-      h.2 ∙ (λ i. shape.TermThen (one_node h.0 a (a_term (term_at ts a.0)) h.3 over.0 i) (one_node h.1 b (some_terms (terms_at ts b.0)) h.4 over.1 i))
+      h.2 ∙ (λ i. shape.TermThen (one_node h.0 a (a_term (term_at ts a.0)) h.3 over.0 i)
+      (one_node h.1 b (some_terms (terms_at ts b.0)) h.4 over.1 i))
 
   -- no two shapes have one tree
   pub one_tree : (s k : Shape) → IsOver ts s → IsOver ts k → tree_of ts s ≡ tree_of ts k → k ≡ s

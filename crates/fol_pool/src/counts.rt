@@ -1,5 +1,5 @@
 // How many nodes the formula of a node has, and how deep it is: what the parts have is kept, so nothing is walked.
-ghost use Rattle.std.specs.Prelude.{◌≡◌, IfOk};
+ghost use Rattle.std.specs.Prelude.{◌≡◌};
 ghost use Rattle.fol_formula.specs.Counts.{form_nodes, forms_nodes, term_nodes, terms_nodes, form_depth, forms_depth};
 ghost use Rattle.fol_formula.specs.Counts.{term_depth, terms_depth, saturated};
 ghost use Rattle.fol_pool.specs.Trees.{HasForm, HasForms, HasTerm, HasTerms, form_at, forms_at, term_at, terms_at};

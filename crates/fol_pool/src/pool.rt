@@ -13,11 +13,12 @@ use std::alloc::Global;
 use std::marker::Model;
 
 /// Formulas and terms of which equal parts are kept once (hash-consing: Ershov, "On programming of arithmetic
-/// operations", CACM 1958; Filliatre and Conchon, "Type-safe modular hash-consing", ML 2006). A pool is seen as the list
-/// of the trees of its nodes, no two of which are the same.
+/// operations", CACM 1958; Filliatre and Conchon, "Type-safe modular hash-consing", ML 2006). A pool is seen as the
+/// list of the trees of its nodes, no two of which are the same.
 #[derive(Drop)]
 pub struct Pool {
     shapes: IndexSet<Shape>,
+    // Of the tree of each, in the same order.
     sizes: Vec<TreeSize>,
 }
 
@@ -92,7 +93,7 @@ impl Pool {
     }
 }
 
-// With room for it, it cannot fail.
+// The size of a new tree is pushed. With room for it, this cannot fail.
 fn push_where(sizes: &mut Vec<TreeSize>, is_new: bool, size: TreeSize) -> Mem<()>
     ensures items { OnOk result (sizes.new.items ≡ (if is_new then sizes.old.items ++ size ∷ [] else sizes.old.items)) }
     ensures room { vec_len sizes.old < vec_capacity sizes.old → IsOk result }

@@ -10,8 +10,8 @@ use base::Mem;
 use fol_formula::{Formula, Term};
 
 impl Pool {
-    /// The node of a formula, whose parts are added where they are not there. Err: out of memory, and each node is as
-    /// before.
+    /// The node of a formula, which is added with its parts where they are not there. Err: out of memory; some parts
+    /// may have been added, and each node that was there is as before.
     #[cycle(taking)]
     pub fn take_in(&mut self, formula: &Formula) -> Mem<Node>
         ensures node { IfOk result (λ node. IsAt self.new node.0 (a_form (form formula.now))) }

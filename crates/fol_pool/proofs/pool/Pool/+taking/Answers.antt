@@ -5,7 +5,8 @@ use Rattle.fol_formula.specs.declared.Formula.TheFolds.{fold-roll-Formula, fold-
 use Rattle.fol_formula.specs.Syntax.{FormTree, TermTree, equal, implication, equivalence, ite}
 use Rattle.fol_formula.specs.View.{form, forms, form_step, term, terms, term_step}
 use Rattle.fol_pool.specs.Trees.{a_form, a_term}
-use Rattle.fol_pool.proofs.Growing.{two_forms, two_terms, choice, row_grows, forms_row, forms_whole, terms_row, terms_whole}
+use Rattle.fol_pool.proofs.Growing.{two_forms, two_terms, choice, row_grows, forms_row, forms_whole, terms_row}
+use Rattle.fol_pool.proofs.Growing.{terms_whole}
 use Rattle.fol_pool.proofs.pool.Pool.+taking.Goals as goal
 
 pub take_parts-returns-in_ok-take_term-in-Eq-2-clause-tree :
@@ -20,7 +21,8 @@ take_parts-returns-in_ok-take_term-in-Eq-2-clause-tree t c =
     c.in_ok-take_term-in-Eq-2.field-0.0 c.take_term-in-Eq.ensures.grows (term w.a) (term w.b)
     (form c.args.formula.now) c.in_ok-take_term-in-Eq.ensures.node c.in_ok-take_term-in-Eq-2.ensures.node tree)
 
-pub take_parts-returns-in_ok-take_in-in-Implies-2-clause-tree : goal.take_parts-returns-in_ok-take_in-in-Implies-2-clause-tree
+pub take_parts-returns-in_ok-take_in-in-Implies-2-clause-tree :
+    goal.take_parts-returns-in_ok-take_in-in-Implies-2-clause-tree
 take_parts-returns-in_ok-take_in-in-Implies-2-clause-tree t c =
     let w = c.in-Implies in
     let first = c.deref-in-Implies.result.now in
@@ -88,9 +90,10 @@ take_formulas-loop-i-preserved t c =
     let made = c.in_ok-row-2.ensures.node in
     record {
       grows = row_grows start old taken new row first next h.grows grows more;
-      row = forms_row start old taken new row first next h.grows grows more lists ps c.loop-i.i k p h.row lt is count made;
-      whole = forms_whole start old taken new row first next h.grows grows more lists ps c.loop-i.i k p h.row lt is count
-          made (forms ps) c.in_ok-first.ensures.node h.whole;
+      row = forms_row start old taken new row first next h.grows grows more lists ps c.loop-i.i k p h.row lt is count
+          made;
+      whole = forms_whole start old taken new row first next h.grows grows more lists ps c.loop-i.i k p h.row lt is
+          count made (forms ps) c.in_ok-first.ensures.node h.whole;
     }
 
 pub take_terms-loop-i-preserved : goal.take_terms-loop-i-preserved
@@ -115,7 +118,8 @@ take_terms-loop-i-preserved t c =
     let made = c.in_ok-row-2.ensures.node in
     record {
       grows = row_grows start old taken new row first next h.grows grows more;
-      row = terms_row start old taken new row first next h.grows grows more lists us c.loop-i.i k u h.row lt is count made;
-      whole = terms_whole start old taken new row first next h.grows grows more lists us c.loop-i.i k u h.row lt is count
-          made (terms us) c.in_ok-first.ensures.node h.whole;
+      row = terms_row start old taken new row first next h.grows grows more lists us c.loop-i.i k u h.row lt is count
+          made;
+      whole = terms_whole start old taken new row first next h.grows grows more lists us c.loop-i.i k u h.row lt is
+          count made (terms us) c.in_ok-first.ensures.node h.whole;
     }

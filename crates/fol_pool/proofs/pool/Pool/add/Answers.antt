@@ -77,8 +77,8 @@ returns-clause-node c =
 
 pub returns-clause-added : goal.returns-clause-added
 returns-clause-added c =
-    added_one c.args.self.now c.self.inside.shapes.keys c.insert_full.new.self.keys c.args.shape c.self.view_is c.requires
-    c.self.invariant.pooled c.in_ok-place.ensures.keys
+    added_one c.args.self.now c.self.inside.shapes.keys c.insert_full.new.self.keys c.args.shape c.self.view_is
+    c.requires c.self.invariant.pooled c.in_ok-place.ensures.keys
 
 pub returns-clause-grows : goal.returns-clause-grows
 returns-clause-grows c =

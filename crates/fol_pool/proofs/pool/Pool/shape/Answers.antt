@@ -31,7 +31,8 @@ module _ (ts : List Tree) (keys : List Shape) (n : ℕ) (is : grown [] keys ≡ 
 
 pub bounds-as_slice-node : goal.bounds-as_slice-node
 bounds-as_slice-node c =
-    rw c.as_slice.ensures.keys (within c.args.self.now c.self.inside.shapes.keys c.args.node.0 c.self.view_is c.requires)
+    rw c.as_slice.ensures.keys
+    (within c.args.self.now c.self.inside.shapes.keys c.args.node.0 c.self.view_is c.requires)
 
 pub returns-clause-tree : goal.returns-clause-tree
 returns-clause-tree c =
