@@ -1,0 +1,5 @@
+pub mod Memos
+pub mod Walks
+pub mod Nodes
+pub mod Staying
+pub mod Replacements
