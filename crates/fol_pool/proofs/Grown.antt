@@ -1,12 +1,11 @@
 -- What a pool keeps, as shapes are added.
 use Rattle.std.proofs.Common.{◌≡◌, ℕ, zero, suc, ◌+◌, ◌<◌, ◌≤◌, Bool, true, false, true≢false, List, [], ◌∷◌, ◌++◌}
-use Rattle.std.proofs.Common.{length, take, get_or, refl, sym, ap, subst, ◌∙◌, arith, append_assoc, append-nil, cond}
+use Rattle.std.proofs.Common.{length, get_or, refl, sym, ap, subst, ◌∙◌, arith, append_assoc, append-nil, cond}
 use Rattle.std.proofs.Common.{inl, inr, ◌⊎◌, map}
 use Rattle.std.specs.Prelude.{not}
 use Rattle.std.specs.List.{list_any}
 use Rattle.std.proofs.lemmas.List.{get_or_append_left, get_or-append-add, length-append, map-append}
 use Rattle.std.proofs.lemmas.List.Folds.{list_any_at}
-use Rattle.std.proofs.Math.Seq.{take-append_seam}
 use Rattle.std.proofs.lemmas.Bool.{cases_lt}
 use Rattle.fol_pool.specs.Trees.{Tree, a_form, tree_at, IsAt, EachOnce}
 use Rattle.fol_formula.specs.Syntax.{top}
@@ -187,17 +186,7 @@ shape_tree xs n pooled lt =
     let p = kept_at xs pooled.over n (subst (λ (m : ℕ). n < m) (length_grown xs) lt) in
     sym p.tree
 
--- and is over the nodes before it
-pub shape_over : (xs : List Shape) (n : ℕ) → ArePooled xs → n < length (grown [] xs)
-    → IsOver (take n (grown [] xs)) (get_or xs n shape.True)
-shape_over xs n pooled lt =
-    let p = kept_at xs pooled.over n (subst (λ (m : ℕ). n < m) (length_grown xs) lt) in
-    let front : take n (grown [] xs) ≡ p.before =
-    ap (λ (m : ℕ). take m (grown [] xs)) (sym p.count) ∙ ap (take (length p.before)) p.whole
-    ∙ take-append_seam p.before p.behind in
-    subst (λ (ts : List Tree). IsOver ts (get_or xs n shape.True)) (sym front) p.over
-
--- and over all of them
+-- and is over the nodes
 pub shape_parts : (xs : List Shape) (n : ℕ) → ArePooled xs → n < length (grown [] xs)
     → IsOver (grown [] xs) (get_or xs n shape.True)
 shape_parts xs n pooled lt =

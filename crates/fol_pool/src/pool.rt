@@ -1,5 +1,5 @@
 // The nodes, each found by its shape.
-ghost use Rattle.std.specs.Prelude.{◌≡◌, ◌<◌, ◌⊎◌, ◌++◌, ◌∷◌, [], length, take, OnOk, IfOk, OnErr};
+ghost use Rattle.std.specs.Prelude.{◌≡◌, ◌<◌, ◌⊎◌, ◌++◌, ◌∷◌, [], length, OnOk, IfOk, OnErr};
 ghost use Rattle.std.specs.Prelude.{if◌then◌else◌, vec_len, vec_capacity, IsOk};
 ghost use Rattle.fol_pool.specs.Trees.{IsAt, EachOnce, Grows, tree_at};
 ghost use Rattle.fol_pool.specs.Shapes.{tree_of, IsOver, PartsAreBelow};
@@ -61,7 +61,6 @@ impl Pool {
     pub fn shape(&self, node: Node) -> Shape
         requires { node.0 < length self.now }
         ensures tree { tree_of self.now result ≡ tree_at self.now node.0 }
-        ensures over { IsOver (take node.0 self.now) result }
         ensures parts { IsOver self.now result }
         ensures below { PartsAreBelow node.0 result }
     {

@@ -2,13 +2,13 @@
 use fol_sig::{FunId, RelId, Sort};
 
 /// A node of a pool: a formula, a term, or a row of these, by its number. The first that was added has the number 0.
-#[derive(Clone, Copy, PartialEq, Eq, Hash, Debug)]
+#[derive(Clone, Copy, PartialEq, Eq, Hash)]
 pub struct Node(pub u32);
 
 /// A formula, a term, or a row of these, whose parts are nodes. The variants are those of `Formula` and `Term`; a list
 /// of parts is a node too, an empty row or a part and the row behind it, so that ends that are the same are kept once,
 /// and a shape takes sixteen bytes.
-#[derive(Clone, Copy, PartialEq, Eq, Hash, Debug)]
+#[derive(Clone, Copy, PartialEq, Eq, Hash)]
 pub enum Shape {
     True,
     False,

@@ -1,10 +1,10 @@
-use Rattle.std.proofs.Common.{◌≡◌, ◌<◌, ℕ, sym, subst, length, take, get_or, List, []}
+use Rattle.std.proofs.Common.{◌≡◌, ◌<◌, ℕ, sym, subst, length, get_or, List, []}
 use Rattle.fol_pool.specs.Trees.{Tree, tree_at}
 use Rattle.fol_pool.specs.Shapes.{tree_of, IsOver, PartsAreBelow}
 use Rattle.fol_pool.specs.Pools.{grown, ArePooled}
 use Rattle.fol_pool.specs.declared.shape.Shape.{Shape}
 use Rattle.fol_pool.specs.declared.shape.Shape.TheVariants as shape
-use Rattle.fol_pool.proofs.Grown.{length_grown, shape_tree, shape_over, shape_parts, shape_below}
+use Rattle.fol_pool.proofs.Grown.{length_grown, shape_tree, shape_parts, shape_below}
 use Rattle.fol_pool.proofs.pool.Pool.shape.Goals as goal
 
 module _ (ts : List Tree) (keys : List Shape) (n : ℕ) (is : grown [] keys ≡ ts) (lt : n < length ts) where
@@ -18,10 +18,6 @@ module _ (ts : List Tree) (keys : List Shape) (n : ℕ) (is : grown [] keys ≡ 
   tree pooled =
       subst (λ (l : List Tree). tree_of l (get_or keys n shape.True) ≡ tree_at l n) is
       (shape_tree keys n pooled inside)
-
-  over : ArePooled keys → IsOver (take n ts) (get_or keys n shape.True)
-  over pooled =
-      subst (λ (l : List Tree). IsOver (take n l) (get_or keys n shape.True)) is (shape_over keys n pooled inside)
 
   parts : ArePooled keys → IsOver ts (get_or keys n shape.True)
   parts pooled = subst (λ (l : List Tree). IsOver l (get_or keys n shape.True)) is (shape_parts keys n pooled inside)
@@ -38,11 +34,6 @@ pub returns-clause-tree : goal.returns-clause-tree
 returns-clause-tree c =
     rw c.as_slice.ensures.keys
     (tree c.args.self.now c.self.inside.shapes.keys c.args.node.0 c.self.view_is c.requires c.self.invariant.pooled)
-
-pub returns-clause-over : goal.returns-clause-over
-returns-clause-over c =
-    rw c.as_slice.ensures.keys
-    (over c.args.self.now c.self.inside.shapes.keys c.args.node.0 c.self.view_is c.requires c.self.invariant.pooled)
 
 pub returns-clause-parts : goal.returns-clause-parts
 returns-clause-parts c =

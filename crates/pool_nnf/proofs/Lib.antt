@@ -1,0 +1,6 @@
+mod Growing
+mod Entries
+mod Rows
+mod Joining
+mod Walking
+mod PlainAtoms

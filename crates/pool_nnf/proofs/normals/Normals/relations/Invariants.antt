@@ -1,0 +1,12 @@
+use Rattle.std.proofs.Common.{map, take}
+use Rattle.fol_nnf.specs.Normal.{made, relation_literal}
+use Rattle.fol_pool.specs.Trees.{Grows, a_form}
+use Rattle.pool_nnf.specs.Leaves.{AreLeaves, terms_leaf}
+use Rattle.pool_nnf.proofs.normals.Normals.relations.Given as goal
+
+abbrev pub invariant-loop-args : goal.invariant-loop-args
+invariant-loop-args l = record {
+  grows : Grows l.fn.self l.self;
+  made : AreLeaves a_form l.self l.all.items
+      (map (made (relation_literal l.positive l.rel.0)) (map (terms_leaf l.fn.self) (take l.args-index l.leaves)));
+}
