@@ -122,7 +122,7 @@ due_of line first second (Err why) = stop_due why
 -- ---- the words of `run`
 
 -- the command line that these words are, if they are one
-abbrev pub asked : List String → Option Line
+abbrev pub asked : {A : Type 0} → List (String A) → Option Line
 asked words = line_of (map (λ w. string_bytes w) words)
 
 -- What a run did with the files: the count of their faults before it and behind it, the bytes that it was handed, and
