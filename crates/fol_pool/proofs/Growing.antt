@@ -1,6 +1,5 @@
 -- What stands at a node as a pool grows, by the tree that stands there.
-use Rattle.std.proofs.Common.{◌≡◌, ℕ, ◌+◌, ◌<◌, List, [], ◌∷◌, ◌++◌, length, get_or, take, map, sym, ap, ◌∙◌, subst}
-use Rattle.std.proofs.Common.{append_assoc}
+use Rattle.std.proofs.Common.{◌≡◌, ℕ, ◌+◌, ◌<◌, List, [], ◌∷◌, ◌++◌, length, get_or, take, map, sym, ap, ◌∙◌}
 use Rattle.std.proofs.lemmas.List.{take_more}
 use Rattle.fol_formula.specs.Syntax.{FormTree, FormTrees, TermTree, TermTrees, equal, form_then, term_then, ite}
 use Rattle.fol_formula.specs.Syntax.{forms_then, terms_then}
@@ -11,20 +10,7 @@ use Rattle.fol_formula.specs.declared.Term.{Term}
 use Rattle.fol_pool.specs.Trees.{Tree, IsAt, Grows, a_form, some_forms, a_term, some_terms, as_formula, as_formulas}
 use Rattle.fol_pool.specs.Trees.{as_term, as_terms, HasForms, HasTerms, form_at, forms_at, term_at, terms_at}
 use Rattle.fol_pool.specs.declared.shape.Node.{Node}
-use Rattle.fol_pool.proofs.Nodes.{at_grows}
-
-grows_on : (a b c : List Tree) → Grows a b → Grows b c → Grows a c
-grows_on a b c g h =
-    (g.0 ++ h.0, h.1 ∙ ap (λ (l : List Tree). l ++ h.0) g.1 ∙ append_assoc a g.0 h.0)
-
-stays_at : (a b : List Tree) → Grows a b → (n : ℕ) (t : Tree) → IsAt a n t → IsAt b n t
-stays_at a b g n t h = subst (λ (l : List Tree). IsAt l n t) (sym g.1) (at_grows a g.0 n t h)
-
-has_forms : (ts : List Tree) (n : ℕ) (ps : FormTrees) → IsAt ts n (some_forms ps) → HasForms ts n
-has_forms ts n ps h = (h.0, h.1 ∙ ap (λ (t : Tree). some_forms (as_formulas t)) (sym h.1))
-
-has_terms : (ts : List Tree) (n : ℕ) (us : TermTrees) → IsAt ts n (some_terms us) → HasTerms ts n
-has_terms ts n us h = (h.0, h.1 ∙ ap (λ (t : Tree). some_terms (as_terms t)) (sym h.1))
+use Rattle.fol_pool.specs.Growing.{stays_at, grows_on, is_forms, is_terms}
 
 -- two parts that were taken in one after the other
 module _ (one two : List Tree) (a b : ℕ) (grows : Grows one two) where
@@ -59,7 +45,7 @@ module _ (start old taken new : List Tree) (row first next : Node) (before : Gro
       (lt : k < length ps) (is : p ≡ get_or ps k p) (count : n ≡ k + 1)
       (made : IsAt new next.0 (some_forms (form_then (form_at taken first.0) (forms_at taken row.0)))) where
     pub forms_row : HasForms new next.0
-    forms_row = has_forms new next.0 (form_then (form_at taken first.0) (forms_at taken row.0)) made
+    forms_row = is_forms new next.0 (form_then (form_at taken first.0) (forms_at taken row.0)) made
 
     pub forms_whole : (whole : FormTrees) → IsAt taken first.0 (a_form (form p))
         → forms_then (map form (take n ps)) (forms_at old row.0) ≡ whole
@@ -79,7 +65,7 @@ module _ (start old taken new : List Tree) (row first next : Node) (before : Gro
       (lt : k < length us) (is : u ≡ get_or us k u) (count : n ≡ k + 1)
       (made : IsAt new next.0 (some_terms (term_then (term_at taken first.0) (terms_at taken row.0)))) where
     pub terms_row : HasTerms new next.0
-    terms_row = has_terms new next.0 (term_then (term_at taken first.0) (terms_at taken row.0)) made
+    terms_row = is_terms new next.0 (term_then (term_at taken first.0) (terms_at taken row.0)) made
 
     pub terms_whole : (whole : TermTrees) → IsAt taken first.0 (a_term (term u))
         → terms_then (map term (take n us)) (terms_at old row.0) ≡ whole

@@ -11,8 +11,8 @@ use Rattle.fol_pool.specs.Trees.{Tree, a_form, tree_at, IsAt, EachOnce}
 use Rattle.fol_formula.specs.Syntax.{top}
 use Rattle.fol_formula.specs.Counts.{saturated}
 use Rattle.fol_pool.specs.Shapes.{tree_of, IsOver, PartsAreBelow}
-use Rattle.fol_pool.specs.Sizes.{tree_nodes, tree_depth, tree_size}
-use Rattle.fol_pool.specs.declared.size.TreeSize.{TreeSize}
+use Rattle.fol_pool.specs.Facts.{tree_nodes, tree_depth, tree_existential, tree_facts}
+use Rattle.fol_pool.specs.declared.facts.TreeFacts.{TreeFacts}
 use Rattle.fol_pool.specs.Pools.{grown, AreOver, ArePooled}
 use Rattle.fol_pool.specs.declared.shape.Shape.{Shape}
 use Rattle.fol_pool.specs.declared.shape.Shape.TheVariants as shape
@@ -200,16 +200,18 @@ shape_below xs n pooled lt =
     let k = get_or xs n shape.True in
     subst (λ (m : ℕ). PartsAreBelow m k) p.count (parts_below p.before k p.over)
 
--- the sizes, with one where the shape is new
-pub sized_more : (xs : List Shape) (s : Shape) (zs : List TreeSize) (z : TreeSize) → zs ≡ map tree_size (grown [] xs)
-    → z.nodes ≡ saturated (tree_nodes (tree_of (grown [] xs) s))
-    → z.depth ≡ saturated (tree_depth (tree_of (grown [] xs) s)) → (b : Bool)
-    → cond (not b) (zs ++ z ∷ []) zs ≡ map tree_size (grown [] (cond b xs (xs ++ s ∷ [])))
-sized_more xs s zs z are nodes depth true = are
-sized_more xs s zs z are nodes depth false =
+-- what is known of the trees, with one more where the shape is new
+pub known_more : (xs : List Shape) (s : Shape) (zs : List TreeFacts) (z : TreeFacts)
+    → zs ≡ map tree_facts (grown [] xs) → z.nodes ≡ saturated (tree_nodes (tree_of (grown [] xs) s))
+    → z.depth ≡ saturated (tree_depth (tree_of (grown [] xs) s))
+    → z.existential ≡ tree_existential (tree_of (grown [] xs) s) → (b : Bool)
+    → cond (not b) (zs ++ z ∷ []) zs ≡ map tree_facts (grown [] (cond b xs (xs ++ s ∷ [])))
+known_more xs s zs z are nodes depth existential true = are
+known_more xs s zs z are nodes depth existential false =
     let ts = grown [] xs in
-    let one : z ≡ tree_size (tree_of ts s) = λ i. record { nodes = nodes i; depth = depth i } in
-    ap (λ (l : List TreeSize). l ++ z ∷ []) are
-    ∙ ap (λ (y : TreeSize). map tree_size ts ++ y ∷ []) one
-    ∙ sym (map-append tree_size ts (tree_of ts s ∷ []))
-    ∙ ap (map tree_size) (sym (grown_push [] xs s))
+    let one : z ≡ tree_facts (tree_of ts s) =
+    λ i. record { nodes = nodes i; depth = depth i; existential = existential i } in
+    ap (λ (l : List TreeFacts). l ++ z ∷ []) are
+    ∙ ap (λ (y : TreeFacts). map tree_facts ts ++ y ∷ []) one
+    ∙ sym (map-append tree_facts ts (tree_of ts s ∷ []))
+    ∙ ap (map tree_facts) (sym (grown_push [] xs s))

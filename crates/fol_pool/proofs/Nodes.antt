@@ -1,44 +1,36 @@
 -- Trees and shapes as a pool grows: what stands at a node stays there, and no two shapes have one tree.
-use Rattle.std.proofs.Common.{◌≡◌, ℕ, ◌<◌, List, ◌++◌, length, refl, sym, ap}
-use Rattle.std.proofs.Common.{subst, ◌∙◌, arith}
-use Rattle.std.proofs.lemmas.List.{get_or_append_left, length-append}
+use Rattle.std.proofs.Common.{◌≡◌, ℕ, ◌<◌, List, ◌++◌, length, refl, sym, ap, subst, ◌∙◌}
 use Rattle.fol_formula.specs.Syntax.{top, bottom, rel, equal, negation}
 use Rattle.fol_formula.specs.Syntax.{conjunction, disjunction, implication, equivalence, for_all, for_some, no_forms}
 use Rattle.fol_formula.specs.Syntax.{form_then, bound, app, ite, no_terms, term_then}
-use Rattle.fol_pool.specs.Trees.{Tree, a_form, some_forms, a_term, some_terms, tree_at, IsAt, EachOnce, as_formula}
-use Rattle.fol_pool.specs.Trees.{as_formulas, as_term, as_terms, form_at, forms_at, term_at, terms_at}
+use Rattle.fol_pool.specs.Trees.{Tree, a_form, some_forms, a_term, some_terms, tree_at, IsAt, Grows, EachOnce}
+use Rattle.fol_pool.specs.Trees.{as_formula, as_formulas, as_term, as_terms, form_at, forms_at, term_at, terms_at}
 use Rattle.fol_pool.specs.Trees.{HasForm, HasForms, HasTerm, HasTerms}
+use Rattle.fol_pool.specs.Growing.{has_form as form_grows, has_forms as forms_grow, has_term as term_grows}
+use Rattle.fol_pool.specs.Growing.{has_terms as terms_grow, tree_stays as node_stays}
 use Rattle.fol_pool.specs.Shapes.{tree_of, IsOver, PartsAreBelow}
 use Rattle.fol_pool.specs.declared.shape.Node.{Node}
 use Rattle.fol_pool.specs.declared.shape.Shape.{Shape}
 use Rattle.fol_pool.specs.declared.shape.Shape.TheVariants as shape
 
 module _ (ts more : List Tree) where
-  -- below the number of nodes the trees are the same
+  grows : Grows ts (ts ++ more)
+  grows = (more, refl)
+
   stays : (n : ℕ) → n < length ts → tree_at (ts ++ more) n ≡ tree_at ts n
-  stays n lt = get_or_append_left ts more (a_form top) n lt
-
-  below : (n : ℕ) → n < length ts → n < length (ts ++ more)
-  below n lt = omega (arith, lt, length-append ts more)
-
-  pub at_grows : (n : ℕ) (t : Tree) → IsAt ts n t → IsAt (ts ++ more) n t
-  at_grows n t h = (below n h.0, stays n h.0 ∙ h.1)
+  stays = node_stays ts (ts ++ more) grows
 
   has_form : (n : ℕ) → HasForm ts n → HasForm (ts ++ more) n
-  has_form n h =
-      (below n h.0, subst (λ (t : Tree). t ≡ a_form (as_formula t)) (sym (stays n h.0)) h.1)
+  has_form = form_grows ts (ts ++ more) grows
 
   has_forms : (n : ℕ) → HasForms ts n → HasForms (ts ++ more) n
-  has_forms n h =
-      (below n h.0, subst (λ (t : Tree). t ≡ some_forms (as_formulas t)) (sym (stays n h.0)) h.1)
+  has_forms = forms_grow ts (ts ++ more) grows
 
   has_term : (n : ℕ) → HasTerm ts n → HasTerm (ts ++ more) n
-  has_term n h =
-      (below n h.0, subst (λ (t : Tree). t ≡ a_term (as_term t)) (sym (stays n h.0)) h.1)
+  has_term = term_grows ts (ts ++ more) grows
 
   has_terms : (n : ℕ) → HasTerms ts n → HasTerms (ts ++ more) n
-  has_terms n h =
-      (below n h.0, subst (λ (t : Tree). t ≡ some_terms (as_terms t)) (sym (stays n h.0)) h.1)
+  has_terms = terms_grow ts (ts ++ more) grows
 
   -- a shape over some nodes is over more
   pub over_grows : (s : Shape) → IsOver ts s → IsOver (ts ++ more) s

@@ -1,4 +1,6 @@
 pub mod Trees
+pub mod Growing
+pub mod Rows
 pub mod Shapes
-pub mod Sizes
+pub mod Facts
 pub mod Pools

@@ -2,9 +2,9 @@
 use Rattle.std.specs.Prelude.{◌≡◌, List, [], ◌∷◌, ◌++◌, map}
 use Rattle.fol_pool.specs.Trees.{Tree, EachOnce}
 use Rattle.fol_pool.specs.Shapes.{tree_of, IsOver}
-use Rattle.fol_pool.specs.Sizes.{tree_size}
+use Rattle.fol_pool.specs.Facts.{tree_facts}
 use Rattle.fol_pool.specs.declared.shape.Shape.{Shape}
-use Rattle.fol_pool.specs.declared.size.TreeSize.{TreeSize}
+use Rattle.fol_pool.specs.declared.facts.TreeFacts.{TreeFacts}
 
 -- the trees of some nodes, with those of further shapes behind them, each over what stands before it
 abbrev pub grown : List Tree → List Shape → List Tree
@@ -21,7 +21,7 @@ pub record ArePooled (shapes : List Shape) : Type 0 where
   pub over : AreOver [] shapes
   pub once : EachOnce (grown [] shapes)
 
--- what a pool keeps: its shapes, and beside each the size of its tree
-pub record IsKept (shapes : List Shape) (sizes : List TreeSize) : Type 0 where
+-- what a pool keeps: its shapes, and beside each what is known of its tree
+pub record IsKept (shapes : List Shape) (facts : List TreeFacts) : Type 0 where
   pub pooled : ArePooled shapes
-  pub sized : sizes ≡ map tree_size (grown [] shapes)
+  pub known : facts ≡ map tree_facts (grown [] shapes)

@@ -2,9 +2,10 @@
 #![tactic(auto)]
 
 mod counts;
+mod facts;
 mod pool;
+mod rows;
 mod shape;
-mod size;
 mod taking;
 mod unfolding;
 

@@ -3,10 +3,10 @@ ghost use Rattle.std.specs.Prelude.{◌≡◌, ◌<◌, ◌⊎◌, ◌++◌, ◌
 ghost use Rattle.std.specs.Prelude.{if◌then◌else◌, vec_len, vec_capacity, IsOk};
 ghost use Rattle.fol_pool.specs.Trees.{IsAt, EachOnce, Grows, tree_at};
 ghost use Rattle.fol_pool.specs.Shapes.{tree_of, IsOver, PartsAreBelow};
-ghost use Rattle.fol_pool.specs.Sizes.{tree_size};
+ghost use Rattle.fol_pool.specs.Facts.{tree_facts};
 
+use crate::facts::TreeFacts;
 use crate::shape::{Node, Shape};
-use crate::size::TreeSize;
 use base::{Mem, place_of};
 use indexmap::IndexSet;
 use std::alloc::Global;
@@ -19,7 +19,7 @@ use std::marker::Model;
 pub struct Pool {
     shapes: IndexSet<Shape>,
     // Of the tree of each, in the same order.
-    sizes: Vec<TreeSize>,
+    facts: Vec<TreeFacts>,
 }
 
 impl Model for Pool {
@@ -35,7 +35,7 @@ impl Model for Pool {
 
     ghost view = { λ p. grown [] p.shapes.keys };
 
-    ghost invariant = { λ p. IsKept p.shapes.keys p.sizes.items };
+    ghost invariant = { λ p. IsKept p.shapes.keys p.facts.items };
 }
 
 impl Pool {
@@ -45,7 +45,7 @@ impl Pool {
     {
         Pool {
             shapes: IndexSet::new(alloc),
-            sizes: Vec::new(alloc),
+            facts: Vec::new(alloc),
         }
     }
 
@@ -75,30 +75,30 @@ impl Pool {
         ensures kept { OnErr result (self.new ≡ self.old) }
         ensures grows { Grows self.old self.new }
     {
-        let size = self.shape_size(shape);
+        let known = self.shape_facts(shape);
         place_of(self.shapes.len())?;
-        self.sizes.reserve(1)?;
+        self.facts.reserve(1)?;
         let (place, is_new) = self.shapes.insert_full(shape)?;
-        push_where(&mut self.sizes, is_new, size)?;
+        push_where(&mut self.facts, is_new, known)?;
         Ok(Node(place as u32))
     }
 
-    // The size of the tree at a node.
-    pub(crate) fn size(&self, node: Node) -> TreeSize
+    // What is known of the tree at a node.
+    pub(crate) fn facts(&self, node: Node) -> TreeFacts
         requires { node.0 < length self.now }
-        ensures { result ≡ tree_size (tree_at self.now node.0) }
+        ensures { result ≡ tree_facts (tree_at self.now node.0) }
     {
-        self.sizes[node.0 as usize]
+        self.facts[node.0 as usize]
     }
 }
 
-// The size of a new tree is pushed. With room for it, this cannot fail.
-fn push_where(sizes: &mut Vec<TreeSize>, is_new: bool, size: TreeSize) -> Mem<()>
-    ensures items { OnOk result (sizes.new.items ≡ (if is_new then sizes.old.items ++ size ∷ [] else sizes.old.items)) }
-    ensures room { vec_len sizes.old < vec_capacity sizes.old → IsOk result }
+// What is known of a new tree is pushed. With room for it, this cannot fail.
+fn push_where(facts: &mut Vec<TreeFacts>, is_new: bool, known: TreeFacts) -> Mem<()>
+    ensures items { OnOk result (facts.new.items ≡ (if is_new then facts.old.items ++ known ∷ [] else facts.old.items)) }
+    ensures room { vec_len facts.old < vec_capacity facts.old → IsOk result }
 {
     if is_new {
-        sizes.push(size)?;
+        facts.push(known)?;
     }
     Ok(())
 }

@@ -8,13 +8,13 @@ use Rattle.std.proofs.lemmas.Option.{slice_get_within, get_or_from_slice_get}
 use Rattle.indexmap.specs.IndexSet.{insert_key}
 use Rattle.fol_pool.specs.Trees.{Tree, IsAt, Grows}
 use Rattle.fol_pool.specs.Shapes.{tree_of, IsOver}
-use Rattle.fol_pool.specs.Sizes.{tree_nodes, tree_depth, tree_size}
-use Rattle.fol_pool.specs.declared.size.TreeSize.{TreeSize}
+use Rattle.fol_pool.specs.Facts.{tree_nodes, tree_depth, tree_existential, tree_facts}
+use Rattle.fol_pool.specs.declared.facts.TreeFacts.{TreeFacts}
 use Rattle.fol_pool.specs.Pools.{grown, ArePooled}
 use Rattle.fol_pool.specs.declared.shape.Shape.{Shape}
 use Rattle.fol_pool.specs.declared.shape.Shape.TheVariants as shape
 use Rattle.fol_pool.proofs.Same.{equal}
-use Rattle.fol_pool.proofs.Grown.{Added, added, node_is, sized_more}
+use Rattle.fol_pool.proofs.Grown.{Added, added, node_is, known_more}
 use Rattle.fol_pool.proofs.pool.Pool.add.Goals as goal
 
 module _ (ts : List Tree) (xs ys : List Shape) (s : Shape) (is : grown [] xs ≡ ts) (over : IsOver ts s)
@@ -36,16 +36,18 @@ module _ (ts : List Tree) (xs ys : List Shape) (s : Shape) (is : grown [] xs ≡
   grows : Grows ts (grown [] ys)
   grows = elim added_one [ inl e ↦ ([], e ∙ sym (append-nil ts)) | inr e ↦ (tree_of ts s ∷ [], e) ]
 
-  sizes : (old new : List TreeSize) (z : TreeSize) (b : Bool) → old ≡ map tree_size (grown [] xs)
+  facts : (old new : List TreeFacts) (z : TreeFacts) (b : Bool) → old ≡ map tree_facts (grown [] xs)
       → z.nodes ≡ saturated (tree_nodes (tree_of ts s)) → z.depth ≡ saturated (tree_depth (tree_of ts s))
-      → b ≡ not (list_any (equal s) xs) → new ≡ cond b (old ++ z ∷ []) old → new ≡ map tree_size (grown [] ys)
-  sizes old new z b are nodes depth is_new made =
+      → z.existential ≡ tree_existential (tree_of ts s)
+      → b ≡ not (list_any (equal s) xs) → new ≡ cond b (old ++ z ∷ []) old → new ≡ map tree_facts (grown [] ys)
+  facts old new z b are nodes depth existential is_new made =
       made ∙ ap (λ (b : Bool). cond b (old ++ z ∷ []) old) is_new
-      ∙ sized_more xs s old z are
+      ∙ known_more xs s old z are
       (subst (λ (l : List Tree). z.nodes ≡ saturated (tree_nodes (tree_of l s))) (sym is) nodes)
       (subst (λ (l : List Tree). z.depth ≡ saturated (tree_depth (tree_of l s))) (sym is) depth)
+      (subst (λ (l : List Tree). z.existential ≡ tree_existential (tree_of l s)) (sym is) existential)
       (list_any (equal s) xs)
-      ∙ ap (λ (ks : List Shape). map tree_size (grown [] ks)) (sym keys)
+      ∙ ap (λ (ks : List Shape). map tree_facts (grown [] ks)) (sym keys)
 
 -- what is read at a place stands there
 in_list : (ys : List Shape) (i : ℕ) (k : Shape) → slice_get ys i ≡ Some k
@@ -62,10 +64,10 @@ invariant_of-self-2 c =
     let a = more ts xs ys c.args.shape c.self.view_is c.requires kept.pooled keys in
     record {
       pooled = a.pooled;
-      sized = sizes ts xs ys c.args.shape c.self.view_is c.requires kept.pooled keys c.reserve.new.self.items
-          c.push_where.new.sizes.items c.shape_size-size.result c.in_ok-place.is_new
-          (c.reserve.ensures.items ∙ kept.sized) c.shape_size-size.ensures.nodes c.shape_size-size.ensures.depth
-          c.in_ok-place.ensures.added c.in_ok-push_where.ensures.items;
+      known = facts ts xs ys c.args.shape c.self.view_is c.requires kept.pooled keys c.reserve.new.self.items
+          c.push_where.new.facts.items c.shape_facts-known.result c.in_ok-place.is_new
+          (c.reserve.ensures.items ∙ kept.known) c.shape_facts-known.ensures.nodes c.shape_facts-known.ensures.depth
+          c.shape_facts-known.ensures.existential c.in_ok-place.ensures.added c.in_ok-push_where.ensures.items;
     }
 
 pub returns-clause-node : goal.returns-clause-node
