@@ -1,6 +1,6 @@
 -- What a walk knows of its nodes stays so as the pool grows.
-use Rattle.std.proofs.Common.{◌≡◌, ℕ, ◌-◌, ◌<◌, ◌≤◌, ◌==◌, ◌&&◌, if◌then◌else◌, Bool, true, false, List, ◌++◌, length}
-use Rattle.std.proofs.Common.{get_or, max, Some, refl, sym, ap, subst, ◌∙◌, arith, T, eqb→eq, append_assoc}
+use Rattle.std.proofs.Common.{◌≡◌, ℕ, ◌-◌, ◌<◌, ◌≤◌, ◌==◌, ◌&&◌, if◌then◌else◌, Bool, true, false, List, length}
+use Rattle.std.proofs.Common.{get_or, max, Some, refl, sym, ap, subst, ◌∙◌, arith, T, eqb→eq}
 use Rattle.std.specs.List.{All}
 use Rattle.std.proofs.Math.Nat.{max-le}
 use Rattle.fol_formula.specs.Syntax.{top, bottom, rel, equal, negation, conjunction, disjunction}
@@ -8,19 +8,10 @@ use Rattle.fol_formula.specs.Syntax.{implication, equivalence, for_all, for_some
 use Rattle.fol_subst.specs.Rules.{Rules, form_by, term_by}
 use Rattle.fol_pool.specs.Trees.{Tree, IsAt, Grows, a_form, some_forms, a_term, some_terms, tree_at, form_at, term_at}
 use Rattle.fol_pool.specs.Trees.{HasForm, HasTerm, as_formula, as_term}
+use Rattle.fol_pool.specs.Growing.{stays_below, tree_stays, stays_at}
 use Rattle.fol_pool.specs.declared.shape.Node.{Node}
 use Rattle.pool_subst.specs.Memos.{Entries, kept, AreRight}
-use Rattle.pool_subst.specs.Staying.{stays_below, tree_stays}
 use Rattle.pool_subst.specs.Walks.{tree_by, parts_by, top_by}
-
--- ---- a pool that grows
-
-pub stays_at : (old new : List Tree) → Grows old new → (n : ℕ) (t : Tree) → IsAt old n t → IsAt new n t
-stays_at old new g n t h = (stays_below old new g n h.0, tree_stays old new g n h.0 ∙ h.1)
-
-pub grows_on : (a b c : List Tree) → Grows a b → Grows b c → Grows a c
-grows_on a b c g h =
-    (g.0 ++ h.0, h.1 ∙ ap (λ (l : List Tree). l ++ h.0) g.1 ∙ append_assoc a g.0 h.0)
 
 -- two parts stand below a node where each does
 pub both_below : (a b n : ℕ) → a < n → b < n → max a b < n
@@ -54,13 +45,6 @@ whole r d (a_term (ite p a b)) = refl
 whole r d (some_terms ts) = refl
 
 -- ---- what was made before
-
-pub right_grows : (r : Rules) (old new : List Tree) (es : Entries) → Grows old new → AreRight r old es
-    → AreRight r new es
-right_grows r old new es g right n d made e =
-    let h = right n d made e in
-    let there = stays_at old new g made.0 (tree_by r d (tree_at old n)) h.1 in
-    (stays_below old new g n h.0, (there.0, there.1 ∙ ap (tree_by r d) (sym (tree_stays old new g n h.0))))
 
 -- the rules say the same
 pub right_along : (q r : Rules) (ts : List Tree) (es : Entries) → q ≡ r → AreRight q ts es → AreRight r ts es

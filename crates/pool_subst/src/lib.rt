@@ -1,6 +1,6 @@
 //! Symbols of formulas in a pool are replaced, and their indices shifted, node by node: what becomes of a node under so
 //! many binders is made once, however often the node is a part of others. What a replacement and a shift are is said by
-//! `fol_subst`, of trees.
+//! `fol_subst`, of trees. Both are cases of one walk by rules, which others may take with rules of their own.
 #![tactic(auto)]
 
 mod indices;
@@ -17,10 +17,11 @@ ghost use Rattle.pool_subst.specs.Replacements.{HasReplacement, change_in};
 use base::Mem;
 use fol_pool::{Node, Pool};
 use indices::Shift;
+pub use memo::Memo;
 pub use replacement::Replacement;
 use replacement::Replacing;
 use std::alloc::Global;
-use walk::changed;
+pub use walk::{NodeRules, change, changed};
 
 /// The node of a formula with a symbol replaced. The walk nests as deep as the formula. Err: out of memory, or an index
 /// that four bytes do not hold, and each node is as before.

@@ -9,7 +9,7 @@ use indexmap::IndexMap;
 use std::alloc::Global;
 use std::marker::Model;
 
-// What was made of a node under so many binders. It is seen as its entries.
+/// What a walk made of nodes by the same rules, each under so many binders. It is seen as its entries.
 #[derive(Drop)]
 pub struct Memo {
     alloc: Global,
@@ -25,6 +25,7 @@ impl Model for Memo {
 }
 
 impl Memo {
+    /// Nothing is made yet.
     pub fn new(alloc: Global) -> Memo
         ensures { result ≡ [] }
     {
@@ -35,14 +36,14 @@ impl Memo {
     }
 
     // What was made of this node, if it was met under so many binders.
-    pub fn find(&self, node: Node, depth: u32) -> Option<Node>
+    pub(crate) fn find(&self, node: Node, depth: u32) -> Option<Node>
         ensures { result ≡ kept self.now node.0 depth }
     {
         self.entries.get(&(node.0, depth)).copied()
     }
 
     // Keeps what was made of a node under so many binders.
-    pub fn note(&mut self, node: Node, depth: u32, made: Node) -> Mem<()>
+    pub(crate) fn note(&mut self, node: Node, depth: u32, made: Node) -> Mem<()>
         ensures noted { OnOk result ((n d : ℕ)
             → kept self.new n d ≡ (if (node.0 == n) && (depth == d) then Some made else kept self.old n d)) }
         ensures same { OnErr result (self.new ≡ self.old) }
@@ -52,7 +53,7 @@ impl Memo {
     }
 
     // The ends of a row of formulas of which nothing was made yet under so many binders, the whole row first.
-    pub fn unmade(&self, pool: &Pool, row: Node, depth: u32) -> Mem<Vec<Node>>
+    pub(crate) fn unmade(&self, pool: &Pool, row: Node, depth: u32) -> Mem<Vec<Node>>
         requires { row.0 < length pool.now }
         ensures { IfOk result (λ ends. All (λ end. end.0 ≤ row.0) ends.items) }
     {

@@ -13,8 +13,9 @@ use fol_pool::{Node, Pool, Shape};
 use fol_sig::{FunId, RelId};
 use std::alloc::{AllocError, Global};
 
-// What an index, a relation and a function become in a pool, the last two before arguments that are changed already.
-// Rules may have nodes of their own, which stand in the pool; so what they say stays as it is where the pool grows.
+/// What an index, a relation and a function become in a pool, the last two before arguments that are changed already.
+/// Rules may have nodes of their own, which stand in the pool; so what they say stays as it is where the pool grows. An
+/// error is want of memory, or an index that four bytes do not hold.
 pub trait NodeRules {
     ghost becomes: { Self → List Tree → Rules };
 
@@ -47,7 +48,8 @@ pub trait NodeRules {
         → stands rules new × (becomes rules new ≡ becomes rules old) };
 }
 
-// What becomes of a node that stands under so many binders.
+/// What becomes of a node that stands under so many binders. The walk nests as deep as the formula. Err: as of the
+/// rules, or out of memory, and each node is as before.
 pub fn changed<R: NodeRules>(
     alloc: Global,
     pool: &mut Pool,
@@ -66,9 +68,9 @@ pub fn changed<R: NodeRules>(
     Ok(node)
 }
 
-// The same, where some of its parts may be made already.
+/// The same, where the node and some of its parts may be made already. What is made is kept, also before an error.
 #[cycle(walk)]
-fn change<R: NodeRules>(
+pub fn change<R: NodeRules>(
     pool: &mut Pool,
     rules: &R,
     depth: u32,

@@ -2,9 +2,10 @@ use Rattle.std.proofs.Common.{◌<◌, ◌-◌, length, sym, subst, ◌∙◌, a
 use Rattle.pool_subst.specs.Memos.{AreRight}
 use Rattle.fol_pool.specs.Trees.{tree_at}
 use Rattle.fol_pool.specs.Shapes.{tree_of}
-use Rattle.pool_subst.specs.Staying.{stays_below}
-use Rattle.pool_subst.proofs.Walking.{right_grows, right_along, made_along, made_whole, noted_right}
-use Rattle.pool_subst.proofs.Walking.{grows_on, both_below, end_below, choice}
+use Rattle.fol_pool.specs.Growing.{stays_below, grows_on}
+use Rattle.pool_subst.specs.Memos.{right_grows}
+use Rattle.pool_subst.proofs.Walking.{right_along, made_along, made_whole, noted_right}
+use Rattle.pool_subst.proofs.Walking.{both_below, end_below, choice}
 use Rattle.std.proofs.Math.Nat.{le-max_right}
 use Rattle.pool_subst.proofs.walk.+walk.Goals as goal
 
