@@ -13,7 +13,7 @@ use Rattle.fol_pool.specs.declared.shape.Node.{Node}
 use Rattle.pool_nnf.specs.Normals.{normal_tree, IsNormalOf, AreRight, ArePlain}
 use Rattle.pool_nnf.specs.declared.signed.Signed.{Signed}
 use Rattle.pool_nnf.specs.contracts.signed.SignedPartialEq.TheImpl as signed_eq
-use Rattle.pool_nnf.proofs.Growing.{below, stays, stays_at, read_stays}
+use Rattle.fol_pool.specs.Growing.{stays_below as below, tree_stays as stays, stays_at, read_stays}
 
 abbrev pub equal : Signed → Signed → Bool
 equal = (signed_eq.ghosts).eq

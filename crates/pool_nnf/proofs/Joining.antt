@@ -10,7 +10,7 @@ use Rattle.fol_pool.specs.Trees.{Tree, IsAt, Grows, a_form, some_forms, as_formu
 use Rattle.fol_pool.specs.Trees.{tree_at}
 use Rattle.pool_nnf.specs.Leaves.{leaf_at, IsLeaf, AreLeaves, atom_leaf, AreAtomLeaves}
 use Rattle.pool_nnf.specs.declared.leaf.Leaf.{Leaf}
-use Rattle.pool_nnf.proofs.Growing.{stays_at}
+use Rattle.fol_pool.specs.Growing.{stays_at}
 
 listed_forms : (ps : List FormTree) → list_of_forms (forms_of ps) ≡ ps
 listed_forms [] = refl

@@ -1,4 +1,3 @@
-mod Growing
 mod Entries
 mod Rows
 mod Joining

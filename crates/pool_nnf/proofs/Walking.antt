@@ -4,7 +4,7 @@ use Rattle.std.proofs.Common.{◌∙◌, arith}
 use Rattle.std.specs.Prelude.{not}
 use Rattle.fol_formula.specs.NormalForms.{both}
 use Rattle.fol_formula.specs.Syntax.{FormTree, FormTrees, TermTree, TermTrees, ite, term_then, equal, form_then}
-use Rattle.fol_formula.specs.Syntax.{forms_then, forms_of, no_forms, disjunction, equivalence}
+use Rattle.fol_formula.specs.Syntax.{forms_then, forms_of, disjunction, equivalence}
 use Rattle.fol_nnf.specs.Normal.{Leaf as LeafOf, given, made, joined, normal, normals, leaves, leaves_of_terms}
 use Rattle.fol_nnf.specs.Normal.{one_of, equal_literal, two}
 use Rattle.fol_pool.specs.Trees.{Tree, IsAt, Grows, a_form, some_forms, tree_at, as_formula, as_formulas, as_term}
@@ -13,9 +13,9 @@ use Rattle.fol_pool.specs.Shapes.{tree_of}
 use Rattle.fol_pool.specs.declared.shape.Node.{Node}
 use Rattle.fol_pool.specs.declared.shape.Shape.{Shape}
 use Rattle.fol_pool.specs.declared.shape.Shape.TheVariants as shape
-use Rattle.pool_nnf.specs.Leaves.{AreForms, formulas}
-use Rattle.pool_nnf.proofs.Growing.{stays, stays_at, read_stays, grows_on}
-use Rattle.pool_nnf.proofs.Rows.{forms_stay, forms_push, forms_are, then_push, no_more}
+use Rattle.fol_pool.specs.Growing.{tree_stays as stays, stays_at, read_stays, grows_on}
+use Rattle.fol_pool.specs.Rows.{AreForms, formulas, forms_stay, forms_push, then_push, row_front, row_end}
+use Rattle.fol_pool.specs.Rows.{lent_formulas}
 
 -- the leaves of a choice
 module _ (t0 t1 t2 t3 t4 : List Tree) (g1 : Grows t0 t1) (g2 : Grows t1 t2) (g3 : Grows t2 t3) (g4 : Grows t3 t4)
@@ -59,32 +59,16 @@ module _ (t0 t1 : List Tree) (grows : Grows t0 t1) where
 module _ (start old : List Tree) (grows : Grows start old) (positive : Bool) (parts : List Node) (rest : Node)
     (row : HasForms start rest.0) (whole : FormTrees) (ps : List FormTree) (are : AreForms old parts ps)
     (so : forms_then ps (normals positive (forms_at start rest.0)) ≡ whole) where
-  -- the row that is left, in the pool as it is now
-  left : tree_at old rest.0 ≡ some_forms (forms_at start rest.0)
-  left = stays start old grows rest.0 row.0 ∙ row.1
-
   module _ (first after : Node) (is : tree_of old (shape.FormThen first after) ≡ tree_at old rest.0)
-      (lt : after.0 < rest.0)
-      (there : HasForms old after.0) where
-    within : after.0 < length start
-    within = omega (arith, lt, row.0)
-
-    pub row_behind : HasForms start after.0
-    row_behind =
-        (within, subst (λ (t : Tree). t ≡ some_forms (as_formulas t)) (stays start old grows after.0 within) there.1)
-
-    front : forms_at start rest.0 ≡ form_then (form_at old first.0) (forms_at start after.0)
-    front =
-        ap as_formulas (sym (is ∙ left))
-        ∙ ap (form_then (form_at old first.0)) (read_stays start old grows as_formulas after.0 within)
-
+      (lt : after.0 < rest.0) (there : HasForms old after.0) where
     pub more_parts : (new : List Tree) (part : Node) (pushed : List Node) → Grows old new
         → IsAt new part.0 (a_form (normal positive (form_at old first.0))) → pushed ≡ parts ++ part ∷ []
         → (qs : List FormTree) × AreForms new pushed qs
         × (forms_then qs (normals positive (forms_at start after.0)) ≡ whole)
     more_parts new part pushed more made e =
         let p = normal positive (form_at old first.0) in
-        let stay = forms_stay old new more parts ps are in (
+        let stay = forms_stay old new more parts ps are in
+        let front = row_front start old grows rest row first after is lt there in (
           ps ++ p ∷ [],
           subst (λ (ns : List Node). AreForms new ns (ps ++ p ∷ [])) (sym e) (forms_push new parts ps part p stay made),
           then_push ps p (normals positive (forms_at start after.0))
@@ -92,20 +76,12 @@ module _ (start old : List Tree) (grows : Grows start old) (positive : Bool) (pa
         )
 
   -- where none is left
-  module _ (s : Shape) (is : tree_of old s ≡ tree_at old rest.0) (none : (a b : Node) → s ≡ shape.FormThen a b → ⊥)
-      (lent : List Node) (e : lent ≡ parts) where
-    lent_forms : AreForms old lent ps
-    lent_forms = subst (λ (ns : List Node). AreForms old ns ps) (sym e) are
-
-    pub parts_read : AreForms old lent (formulas old lent)
-    parts_read =
-        subst (λ (qs : List FormTree). AreForms old lent qs) (sym (forms_are old lent ps lent_forms)) lent_forms
-
-    pub whole_row : forms_of (formulas old lent) ≡ whole
-    whole_row =
-        let end : forms_at start rest.0 ≡ no_forms = no_more old s (forms_at start rest.0) (is ∙ left) none in
-        ap forms_of (forms_are old lent ps lent_forms)
-        ∙ ap (λ (qs : FormTrees). forms_then ps (normals positive qs)) (sym end) ∙ so
+  pub whole_row : (s : Shape) → tree_of old s ≡ tree_at old rest.0 → ((a b : Node) → s ≡ shape.FormThen a b → ⊥)
+      → (lent : List Node) → lent ≡ parts → forms_of (formulas old lent) ≡ whole
+  whole_row s is none lent e =
+      let end = row_end start old grows rest row s is none in
+      ap forms_of (lent_formulas old parts lent ps are e)
+      ∙ ap (λ (qs : FormTrees). forms_then ps (normals positive qs)) (sym end) ∙ so
 
 -- the two ways in which an equivalence or its negation holds
 module _ (t0 t1 t2 t3 t4 : List Tree) (g1 : Grows t0 t1) (g2 : Grows t1 t2) (g3 : Grows t2 t3) (g4 : Grows t3 t4)

@@ -5,7 +5,6 @@ use Rattle.fol_formula.specs.Syntax.{FormTree, TermTree, TermTrees, forms_of, li
 use Rattle.fol_nnf.specs.Normal.{Leaf as LeafOf}
 use Rattle.fol_pool.specs.Trees.{Tree, a_form, some_forms, a_term, some_terms, IsAt, tree_at, form_at, forms_at}
 use Rattle.fol_pool.specs.Trees.{as_formula, as_term, as_terms}
-use Rattle.fol_pool.specs.declared.shape.Node.{Node}
 use Rattle.pool_nnf.specs.declared.leaf.Leaf.{Leaf}
 
 -- the leaf as trees, where `read` reads what stands at its node
@@ -49,11 +48,3 @@ AreTermsLeaves ts ls = AreLeaves some_terms ts ls (map (terms_leaf ts) ls)
 
 abbrev pub AreAtomLeaves : List Tree → List Leaf → Type 0
 AreAtomLeaves ts ls = AreLeaves a_form ts ls (map (atom_leaf ts) ls)
-
--- these formulas stand at these nodes, one by one
-abbrev pub AreForms : List Tree → List Node → List FormTree → Type 0
-AreForms ts ns ps = AllZip (λ n p. IsAt ts n.0 (a_form p)) ns ps
-
--- the formulas at some nodes
-abbrev pub formulas : List Tree → List Node → List FormTree
-formulas ts ns = map (λ n. form_at ts n.0) ns

@@ -6,7 +6,7 @@ ghost use Rattle.fol_formula.specs.NormalForms.{both};
 ghost use Rattle.fol_nnf.specs.Normal.{constant, gathered, quantified, literal, relation_literal, equal_literal, two};
 ghost use Rattle.fol_pool.specs.Trees.{IsAt, Grows, HasForm, HasForms, HasTerm, HasTerms, a_form, some_forms, form_at};
 ghost use Rattle.fol_pool.specs.Trees.{forms_at, term_at, terms_at};
-ghost use Rattle.pool_nnf.specs.Leaves.{AreForms, formulas};
+ghost use Rattle.fol_pool.specs.Rows.{AreForms, formulas};
 
 use crate::normals::Normals;
 use base::Mem;

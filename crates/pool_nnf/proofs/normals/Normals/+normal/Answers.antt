@@ -5,10 +5,11 @@ use Rattle.fol_nnf.specs.Normal.{leaves_of_terms}
 use Rattle.fol_pool.specs.Trees.{Tree, a_form, as_formula, a_term, as_term, some_terms, as_terms, some_forms}
 use Rattle.fol_pool.specs.Trees.{tree_at, forms_at}
 use Rattle.pool_nnf.specs.Leaves.{AreLeaves}
-use Rattle.pool_nnf.proofs.Growing.{grows_on}
+use Rattle.fol_pool.specs.Growing.{grows_on}
+use Rattle.fol_pool.specs.Rows.{row_behind, lent_forms}
 use Rattle.pool_nnf.proofs.Joining.{lent_read, lent_are, leaves_stay, bare_leaves}
-use Rattle.pool_nnf.proofs.Walking.{choice_leaves, row_leaves, equation_leaves, row_behind, more_parts}
-use Rattle.pool_nnf.proofs.Walking.{parts_read, whole_row, equivalence_made}
+use Rattle.pool_nnf.proofs.Walking.{choice_leaves, row_leaves, equation_leaves, more_parts, whole_row}
+use Rattle.pool_nnf.proofs.Walking.{equivalence_made}
 use Rattle.pool_nnf.proofs.normals.Normals.+normal.Goals as goal
 
 pub lifted_leaves-applications-requires : goal.lifted_leaves-applications-requires
@@ -180,10 +181,7 @@ lifted_atom-returns-in_ok-equation_of-in-Eq-clause-node t c =
 pub normal_row-row_of-requires : goal.normal_row-row_of-requires
 normal_row-row_of-requires t c =
     let h = c.loop-first.invariant in
-    parts_read c.args.self.now c.loop-first.self h.grows c.args.positive c.loop-first.parts.items c.loop-first.rest
-    h.row
-    (normals c.args.positive (forms_at c.args.self.now c.args.row.0)) h.made.0 h.made.1 h.made.2 c.shape.result
-    c.shape.ensures.tree c.in_default.not-FormThen c.deref.result.now c.deref.ensures.value
+    lent_forms c.loop-first.self c.loop-first.parts.items c.deref.result.now h.made.0 h.made.1 c.deref.ensures.value
 
 pub normal_row-returns : goal.normal_row-returns
 normal_row-returns t c =
@@ -209,9 +207,7 @@ normal_row-loop-first-preserved t c =
     let below = w.ensures.below in
     let parts = w.ensures.parts in
     let whole = normals c.args.positive (forms_at start c.args.row.0) in
-    let behind =
-    row_behind start old h.grows c.args.positive c.loop-first.parts.items rest h.row whole h.made.0 h.made.1 h.made.2
-    w.first w.after w.ensures.tree below.1 parts.1 in
+    let behind = row_behind start old h.grows rest h.row w.first w.after w.ensures.tree below.1 parts.1 in
     let made =
     more_parts start old h.grows c.args.positive c.loop-first.parts.items rest h.row whole h.made.0 h.made.1 h.made.2
     w.first w.after w.ensures.tree below.1 parts.1 new c.in_ok-part.part c.push.new.self.items

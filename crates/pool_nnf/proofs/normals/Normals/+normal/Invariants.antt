@@ -2,7 +2,7 @@ use Rattle.std.proofs.Common.{◌≡◌, ◌+◌, ◌*◌, ◌≤◌, List}
 use Rattle.fol_formula.specs.Syntax.{FormTree, forms_then}
 use Rattle.fol_nnf.specs.Normal.{normals}
 use Rattle.fol_pool.specs.Trees.{Grows, HasForms, forms_at}
-use Rattle.pool_nnf.specs.Leaves.{AreForms}
+use Rattle.fol_pool.specs.Rows.{AreForms}
 use Rattle.pool_nnf.proofs.normals.Normals.+normal.Given as goal
 
 -- A part has a smaller number. At one node what looks a formula up stands above what makes it, that above an atom, and

@@ -1,7 +1,7 @@
 use Rattle.std.proofs.Common.{refl}
 use Rattle.fol_pool.specs.Trees.{a_form, as_formula}
 use Rattle.pool_nnf.specs.declared.leaf.Leaf.{Leaf}
-use Rattle.pool_nnf.proofs.Growing.{grows_on}
+use Rattle.fol_pool.specs.Growing.{grows_on}
 use Rattle.pool_nnf.proofs.Joining.{turn_leaf}
 use Rattle.pool_nnf.proofs.normals.Normals.any_of.Goals as goal
 use Rattle.std.proofs.Common.{◌≡◌, ◌+◌, ◌-◌, ◌<◌, length, arith}

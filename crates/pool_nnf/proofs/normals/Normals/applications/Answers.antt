@@ -3,7 +3,7 @@ use Rattle.fol_formula.specs.Syntax.{TermTree, TermTrees, app}
 use Rattle.fol_nnf.specs.Normal.{Leaf as LeafOf, made}
 use Rattle.fol_pool.specs.Trees.{a_term, some_terms, as_terms}
 use Rattle.pool_nnf.specs.declared.leaf.Leaf.{Leaf}
-use Rattle.pool_nnf.proofs.Growing.{grows_on}
+use Rattle.fol_pool.specs.Growing.{grows_on}
 use Rattle.pool_nnf.proofs.Joining.{turn_leaf, turned}
 use Rattle.pool_nnf.proofs.normals.Normals.applications.Goals as goal
 

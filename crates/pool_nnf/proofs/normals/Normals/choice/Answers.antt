@@ -4,7 +4,7 @@ use Rattle.fol_nnf.specs.Normal.{Leaf as LeafOf, given}
 use Rattle.fol_pool.specs.Trees.{a_term, as_term, as_formula, form_at}
 use Rattle.pool_nnf.specs.Leaves.{AreLeaves, term_leaf}
 use Rattle.pool_nnf.specs.declared.leaf.Leaf.{Leaf}
-use Rattle.pool_nnf.proofs.Growing.{read_stays}
+use Rattle.fol_pool.specs.Growing.{read_stays}
 use Rattle.pool_nnf.proofs.Joining.{leaves_here, leaves_same, leaves_stay, leaves_append}
 use Rattle.pool_nnf.proofs.normals.Normals.choice.Goals as goal
 

@@ -4,7 +4,7 @@ use Rattle.fol_nnf.specs.Normal.{Leaf as LeafOf, behind, equal_literal}
 use Rattle.fol_pool.specs.Trees.{a_form, a_term, as_term}
 use Rattle.pool_nnf.specs.Leaves.{term_leaf}
 use Rattle.pool_nnf.specs.declared.leaf.Leaf.{Leaf}
-use Rattle.pool_nnf.proofs.Growing.{grows_on}
+use Rattle.fol_pool.specs.Growing.{grows_on}
 use Rattle.pool_nnf.proofs.Joining.{leaf_same, turn_leaf, turned}
 use Rattle.pool_nnf.proofs.normals.Normals.each_equation.Goals as goal
 

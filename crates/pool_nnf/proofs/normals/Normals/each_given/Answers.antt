@@ -3,7 +3,7 @@ use Rattle.fol_formula.specs.Syntax.{TermTree}
 use Rattle.fol_nnf.specs.Normal.{Leaf as LeafOf, given}
 use Rattle.fol_pool.specs.Trees.{as_formula, a_term, as_term, form_at}
 use Rattle.pool_nnf.specs.declared.leaf.Leaf.{Leaf}
-use Rattle.pool_nnf.proofs.Growing.{grows_on, read_stays}
+use Rattle.fol_pool.specs.Growing.{grows_on, read_stays}
 use Rattle.pool_nnf.proofs.Joining.{turn_leaf, turned}
 use Rattle.pool_nnf.proofs.normals.Normals.each_given.Goals as goal
 

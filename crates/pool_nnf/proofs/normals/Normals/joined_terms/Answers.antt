@@ -4,7 +4,7 @@ use Rattle.fol_nnf.specs.Normal.{Leaf as LeafOf, behind}
 use Rattle.fol_pool.specs.Trees.{a_term, as_term, some_terms, as_terms}
 use Rattle.pool_nnf.specs.Leaves.{terms_leaf}
 use Rattle.pool_nnf.specs.declared.leaf.Leaf.{Leaf}
-use Rattle.pool_nnf.proofs.Growing.{grows_on}
+use Rattle.fol_pool.specs.Growing.{grows_on}
 use Rattle.pool_nnf.proofs.Joining.{leaves_here, leaves_same, turn_leaf, appended}
 use Rattle.pool_nnf.proofs.normals.Normals.joined_terms.Goals as goal
 

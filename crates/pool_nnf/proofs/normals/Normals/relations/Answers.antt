@@ -3,7 +3,7 @@ use Rattle.fol_formula.specs.Syntax.{FormTree, TermTrees}
 use Rattle.fol_nnf.specs.Normal.{Leaf as LeafOf, made, relation_literal}
 use Rattle.fol_pool.specs.Trees.{a_form, some_terms, as_terms}
 use Rattle.pool_nnf.specs.declared.leaf.Leaf.{Leaf}
-use Rattle.pool_nnf.proofs.Growing.{grows_on}
+use Rattle.fol_pool.specs.Growing.{grows_on}
 use Rattle.pool_nnf.proofs.Joining.{turn_leaf, turned}
 use Rattle.pool_nnf.proofs.normals.Normals.relations.Goals as goal
 

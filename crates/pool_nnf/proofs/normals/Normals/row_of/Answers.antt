@@ -1,9 +1,8 @@
 use Rattle.std.proofs.Common.{◌≡◌, ◌+◌, ◌-◌, ◌<◌, length, get_or, drop, arith}
 use Rattle.fol_formula.specs.Syntax.{forms_of}
 use Rattle.fol_pool.specs.declared.shape.Node.{Node}
-use Rattle.pool_nnf.specs.Leaves.{formulas}
-use Rattle.pool_nnf.proofs.Growing.{grows_on, has_form, is_forms}
-use Rattle.pool_nnf.proofs.Rows.{form_there, row_step}
+use Rattle.fol_pool.specs.Growing.{grows_on, has_form, is_forms}
+use Rattle.fol_pool.specs.Rows.{formulas, form_there, row_step}
 use Rattle.pool_nnf.proofs.normals.Normals.row_of.Goals as goal
 
 pub add-requires-in-loop-i : goal.add-requires-in-loop-i

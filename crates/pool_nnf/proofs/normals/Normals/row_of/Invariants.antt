@@ -1,7 +1,7 @@
 use Rattle.std.proofs.Common.{drop}
 use Rattle.fol_formula.specs.Syntax.{forms_of}
 use Rattle.fol_pool.specs.Trees.{IsAt, Grows, some_forms}
-use Rattle.pool_nnf.specs.Leaves.{formulas}
+use Rattle.fol_pool.specs.Rows.{formulas}
 use Rattle.pool_nnf.proofs.normals.Normals.row_of.Given as goal
 
 abbrev pub invariant-loop-i : goal.invariant-loop-i
