@@ -1,0 +1,3 @@
+mod Indices
+mod Unnamed
+mod Walking
