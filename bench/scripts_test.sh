@@ -369,6 +369,21 @@ expect 'room: the function of the largest steps stands first' \
 bench room.py --root "$room/proved" none
 expect 'room: where nothing was proved it says so' ended 1
 
+touch -d '2026-01-01 00:00:01' "$room/proved/crates/low/out/incremental/of/Rattle-low-proofs.main.g.Lts.oantt"
+touch -d '2026-01-01 00:00:02' "$room/proved/crates/low/out/incremental/of/Rattle-low-proofs.main.g.Kinds.oantt"
+touch -d '2026-01-01 00:00:05' "$room/proved/crates/low/out/incremental/of/Rattle-low-proofs.main.Large.f.Lts.oantt"
+bench times.py --root "$room/proved" low
+expect 'times: the slowest function stands first' \
+    grep -qxF '   3.0  main.Large.f:  Lts 3.0' <(sed -n 2p "$room/out")
+bench times.py --root "$room/proved" none
+expect 'times: where nothing was proved it says so' ended 1
+mkdir -p "$room/no_tree"
+bench lay.py "$room/no_tree"
+expect 'lay: a folder that is no tree' ended 2
+echo 'rt: low proved' >"$room/no_log"
+bench plant.py "$room/no_log"
+expect 'plant: a log without a proof of the crate' said 'has no proof of'
+
 # --- formulas and models
 
 bench cnf.py pigeons 2
