@@ -19,8 +19,8 @@ unfoldable pub true_text : Labels → Tables → Symbol → List ℕ → List �
 true_text l s q xs = codes ", " ++ atom_text l s q xs
 
 -- a comma, and next(node0) = node1
-unfoldable pub value_text : Labels → Tables → Symbol → List ℕ → ℕ → ℕ → List ℕ
-value_text l s q xs k x = codes ", " ++ atom_text l s q xs ++ codes " = " ++ label_text l k x
+abbrev pub value_text : Labels → Tables → Symbol → List ℕ → ℕ → ℕ → List ℕ
+value_text l s q xs k x = true_text l s q xs ++ codes " = " ++ label_text l k x
 
 -- a tuple of which a relation is true; a tuple of a function with the value there
 abbrev pub cell_text : Labels → Tables → Symbol → List ℕ → List ℕ

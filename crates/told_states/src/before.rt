@@ -1,89 +1,23 @@
 // The structure in which an execution begins.
-ghost use Rattle.std.specs.Prelude.{◌≡◌, ◌++◌, length, OnOk};
-ghost use Rattle.std.specs.List.{flat_map};
+ghost use Rattle.std.specs.Prelude.{◌≡◌, length};
 ghost use Rattle.fol_sig.specs.Tables.{IsStructure, size_at};
 ghost use Rattle.fol_sig.specs.Symbols.{FitsStructure, symbols};
 ghost use Rattle.fol_sig.specs.Tuples.{join_below};
-ghost use Rattle.fol_sig.specs.SymbolTables.{HasSymbol, IsCell};
-ghost use Rattle.told_states.specs.SymbolText.{symbols_of};
+ghost use Rattle.fol_sig.specs.SymbolTables.{HasSymbol};
+ghost use Rattle.told_text.specs.Written.{Wrote};
 ghost use Rattle.told_states.specs.Labels.{labels_of};
-ghost use Rattle.told_states.specs.BeforeText.{true_text, value_text, cell_text, facts_text, symbol_line};
-ghost use Rattle.told_states.specs.BeforeText.{variable_text, structure_text, separator, sort_text, before_text};
+ghost use Rattle.told_states.specs.BeforeText.{cell_text, symbol_line, variable_text, structure_text, separator};
+ghost use Rattle.told_states.specs.BeforeText.{sort_text, before_text};
 
 use crate::cells::{OfCells, push_cells};
 use crate::elements::{push_atom, push_label, push_line};
 use crate::labels::Labels;
+use crate::names::push_name;
 use crate::symbols::{all_symbols, is_variable, sizes};
-use base::{Mem, push_number, push_text};
 use fol_sig::{Sort, Structure, Symbol};
 use rml_command::{Model, Names};
-use rml_report::push_name;
 use std::alloc::Global;
-
-// A comma, and a symbol with its arguments.
-#[tactic(auto, using(std::proofs::Common::append_assoc), unfolding(crate::specs::BeforeText::true_text))]
-fn push_true(
-    out: &mut Vec<u8>,
-    labels: &Labels,
-    structure: &Structure,
-    symbol: Symbol,
-    tuple: &[u32],
-) -> Mem<()>
-    requires { HasSymbol structure.now symbol }
-    ensures { OnOk result (out.new.items ≡ out.old.items ++ true_text labels.now structure.now symbol tuple.now) }
-{
-    push_text(out, ", ")?;
-    push_atom(out, labels, structure, symbol, tuple)?;
-    Ok(())
-}
-
-// The same with the value there.
-#[tactic(auto, using(std::proofs::Common::append_assoc), unfolding(crate::specs::BeforeText::value_text))]
-fn push_value(
-    out: &mut Vec<u8>,
-    labels: &Labels,
-    structure: &Structure,
-    symbol: Symbol,
-    tuple: &[u32],
-    sort: Sort,
-    value: u32,
-) -> Mem<()>
-    requires { HasSymbol structure.now symbol }
-    ensures { OnOk result (out.new.items ≡ out.old.items
-        ++ value_text labels.now structure.now symbol tuple.now sort.0 value) }
-{
-    push_text(out, ", ")?;
-    push_atom(out, labels, structure, symbol, tuple)?;
-    push_text(out, " = ")?;
-    push_label(out, labels, sort, value)?;
-    Ok(())
-}
-
-fn push_cell(
-    out: &mut Vec<u8>,
-    labels: &Labels,
-    structure: &Structure,
-    symbol: Symbol,
-    tuple: &[u32],
-) -> Mem<()>
-    requires { IsCell structure.now symbol tuple.now }
-    ensures { OnOk result (out.new.items ≡ out.old.items ++ cell_text labels.now structure.now symbol tuple.now) }
-{
-    match symbol {
-        Symbol::Relation(rel) => {
-            if structure.rel(rel, tuple) {
-                push_true(out, labels, structure, symbol, tuple)
-            } else {
-                Ok(())
-            }
-        }
-        Symbol::Function(fun) => {
-            let value = structure.fun(fun, tuple);
-            let sort = structure.function_into(fun);
-            push_value(out, labels, structure, symbol, tuple, sort, value)
-        }
-    }
-}
+use told_text::Text;
 
 #[derive(Clone, Copy)]
 struct Facts<'a> {
@@ -93,16 +27,32 @@ struct Facts<'a> {
 impl<'a> OfCells for Facts<'a> {
     ghost text = { λ f s t q xs. cell_text f.labels.now s q xs };
 
+    // A comma, and a symbol with its arguments: a relation where it is true, a function with its value.
+    #[tactic(auto, using(std::proofs::Common::append_assoc), unfolding(crate::specs::BeforeText::true_text))]
     fn push(
         &self,
         _alloc: Global,
-        out: &mut Vec<u8>,
+        out: &mut Text,
         here: &Structure,
         _there: &Structure,
         symbol: Symbol,
         tuple: &[u32],
-    ) -> Mem<()> {
-        push_cell(out, self.labels, here, symbol, tuple)
+    ) {
+        let labels = self.labels;
+        match symbol {
+            Symbol::Relation(rel) => {
+                if here.rel(rel, tuple) {
+                    out.push_str(", ");
+                    push_atom(out, labels, here, symbol, tuple);
+                }
+            }
+            Symbol::Function(fun) => {
+                out.push_str(", ");
+                push_atom(out, labels, here, symbol, tuple);
+                out.push_str(" = ");
+                push_label(out, labels, here.function_into(fun), here.fun(fun, tuple));
+            }
+        }
     }
 }
 
@@ -110,22 +60,21 @@ impl<'a> OfCells for Facts<'a> {
 #[tactic(auto, unfolding(crate::specs::BeforeText::symbol_line, crate::specs::BeforeText::variable_text))]
 fn push_symbol(
     alloc: Global,
-    out: &mut Vec<u8>,
-    variables: &mut Vec<u8>,
+    out: &mut Text,
+    variables: &mut Text,
     labels: &Labels,
     structure: &Structure,
     sizes: &[u32],
     symbol: Symbol,
-) -> Mem<()>
+)
     requires whole { IsStructure structure.now }
     requires sizes { sizes.now ≡ structure.now.sizes }
     requires known { HasSymbol structure.now symbol }
-    ensures line { OnOk result (out.new.items ≡ out.old.items ++ symbol_line labels.now structure.now symbol) }
-    ensures variable { OnOk result (variables.new.items ≡ variables.old.items
-        ++ variable_text labels.now structure.now symbol) }
+    ensures line { Wrote out.old out.new (symbol_line labels.now structure.now symbol) }
+    ensures variable { Wrote variables.old variables.new (variable_text labels.now structure.now symbol) }
 {
     let told = Facts { labels };
-    let mut pieces = Vec::new(alloc);
+    let mut pieces = Text::new(alloc);
     push_cells(
         alloc,
         &mut pieces,
@@ -134,100 +83,92 @@ fn push_symbol(
         structure,
         sizes,
         symbol,
-    )?;
+    );
     if !is_variable(structure, symbol) {
-        push_line(out, "    ", &pieces)?;
+        out.needs(&pieces);
+        push_line(out, "    ", pieces.as_bytes());
     } else if !labels.is_called(symbol) {
-        variables.extend_from_slice(&pieces)?;
+        variables.needs(&pieces);
+        variables.push_bytes(pieces.as_bytes());
     }
-    Ok(())
 }
 
-#[tactic(auto, using(std::proofs::Common::append_assoc))]
-fn push_symbols(
-    alloc: Global,
-    out: &mut Vec<u8>,
-    variables: &mut Vec<u8>,
-    model: &Model,
-    structure: &Structure,
-) -> Mem<()>
+// A line for each symbol with arguments and each relation, and one for the variables.
+#[tactic(auto, using(std::proofs::Common::append_assoc), unfolding(crate::specs::BeforeText::structure_text))]
+fn push_structure(alloc: Global, out: &mut Text, model: &Model, structure: &Structure)
     requires { FitsStructure (symbols model.now.signature) structure.now }
-    ensures lines { OnOk result (out.new.items ≡ out.old.items
-        ++ flat_map (symbol_line (labels_of model.now structure.now) structure.now) (symbols_of structure.now)) }
-    ensures variables { OnOk result (variables.new.items ≡ variables.old.items
-        ++ flat_map (variable_text (labels_of model.now structure.now) structure.now) (symbols_of structure.now)) }
+    ensures { Wrote out.old out.new (structure_text (labels_of model.now structure.now) structure.now) }
 {
-    let labels = Labels::of(alloc, model, structure)?;
-    let sizes = sizes(alloc, model, structure)?;
-    let symbols = all_symbols(alloc, model, structure)?;
+    let Ok(labels) = Labels::of(alloc, model, structure) else {
+        out.want();
+        return;
+    };
+    let Ok(sizes) = sizes(alloc, model, structure) else {
+        out.want();
+        return;
+    };
+    let Ok(symbols) = all_symbols(alloc, model, structure) else {
+        out.want();
+        return;
+    };
+    let mut variables = Text::new(alloc);
     let mut rest = symbols.as_slice();
     while let [symbol, after @ ..] = rest {
-        push_symbol(alloc, out, variables, &labels, structure, &sizes, *symbol)?;
+        push_symbol(
+            alloc,
+            out,
+            &mut variables,
+            &labels,
+            structure,
+            &sizes,
+            *symbol,
+        );
         rest = after;
     }
-    Ok(())
+    out.needs(&variables);
+    push_line(out, "    ", variables.as_bytes());
 }
 
-#[tactic(auto, using(std::proofs::Common::append_assoc), unfolding(crate::specs::BeforeText::structure_text))]
-fn push_structure(alloc: Global, out: &mut Vec<u8>, model: &Model, structure: &Structure) -> Mem<()>
-    requires { FitsStructure (symbols model.now.signature) structure.now }
-    ensures { OnOk result
-        (out.new.items ≡ out.old.items ++ structure_text (labels_of model.now structure.now) structure.now) }
-{
-    let mut variables = Vec::new(alloc);
-    push_symbols(alloc, out, &mut variables, model, structure)?;
-    push_line(out, "    ", &variables)?;
-    Ok(())
-}
-
-fn push_separator(out: &mut Vec<u8>, place: u32) -> Mem<()>
-    ensures { OnOk result (out.new.items ≡ out.old.items ++ separator place) }
+fn push_separator(out: &mut Text, place: u32)
+    ensures { Wrote out.old out.new (separator place) }
 {
     if place == 0 {
-        push_text(out, ": ")
+        out.push_str(": ");
     } else {
-        push_text(out, ", ")
+        out.push_str(", ");
     }
 }
 
 #[tactic(auto, using(std::proofs::Common::append_assoc), unfolding(crate::specs::BeforeText::sort_text))]
-fn push_sort(out: &mut Vec<u8>, names: &Names, sort: u32, size: u32) -> Mem<()>
-    ensures { OnOk result (out.new.items ≡ out.old.items ++ sort_text names.now sort size) }
+fn push_sort(out: &mut Text, names: &Names, sort: u32, size: u32)
+    ensures { Wrote out.old out.new (sort_text names.now sort size) }
 {
-    push_separator(out, sort)?;
-    push_number(out, size as u64)?;
-    push_text(out, " ")?;
-    push_name(out, names.sorts.as_slice(), sort)?;
-    Ok(())
+    push_separator(out, sort);
+    out.push_number(size as u64);
+    out.push_str(" ");
+    push_name(out, names.sorts.as_slice(), sort);
 }
 
-#[tactic(auto, using(std::proofs::Common::append_assoc))]
-fn push_sorts(out: &mut Vec<u8>, model: &Model, structure: &Structure) -> Mem<()>
+// How many elements each sort has.
+fn push_sorts(out: &mut Text, model: &Model, structure: &Structure)
     requires { FitsStructure (symbols model.now.signature) structure.now }
-    ensures { OnOk result (out.new.items ≡ out.old.items
-        ++ join_below (length structure.now.sizes) (λ k. sort_text model.now.names k (size_at structure.now k))) }
+    ensures { Wrote out.old out.new
+        (join_below (length structure.now.sizes) (λ k. sort_text model.now.names k (size_at structure.now k))) }
 {
     let names = model.names();
     for sort in 0..model.signature().sorts() {
-        push_sort(out, names, sort, structure.size(Sort(sort)))?;
+        push_sort(out, names, sort, structure.size(Sort(sort)));
     }
-    Ok(())
 }
 
 /// Adds the line of the sorts, and a line for what is true.
 #[tactic(auto, using(std::proofs::Common::append_assoc), unfolding(crate::specs::BeforeText::before_text))]
-pub fn push_before(
-    alloc: Global,
-    out: &mut Vec<u8>,
-    model: &Model,
-    structure: &Structure,
-) -> Mem<()>
+pub fn push_before(alloc: Global, out: &mut Text, model: &Model, structure: &Structure)
     requires { FitsStructure (symbols model.now.signature) structure.now }
-    ensures { OnOk result (out.new.items ≡ out.old.items ++ before_text model.now structure.now) }
+    ensures { Wrote out.old out.new (before_text model.now structure.now) }
 {
-    push_text(out, "  before")?;
-    push_sorts(out, model, structure)?;
-    push_text(out, "\n")?;
-    push_structure(alloc, out, model, structure)?;
-    Ok(())
+    out.push_str("  before");
+    push_sorts(out, model, structure);
+    out.push_str("\n");
+    push_structure(alloc, out, model, structure);
 }

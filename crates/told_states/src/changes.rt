@@ -1,64 +1,40 @@
 // What differs between two structures of the same sizes.
-ghost use Rattle.std.specs.Prelude.{◌≡◌, ◌++◌, OnOk};
 ghost use Rattle.fol_sig.specs.Symbols.{FitsStructure, symbols};
+ghost use Rattle.fol_sig.specs.SymbolTables.{HasSymbol};
+ghost use Rattle.told_text.specs.Written.{Wrote};
 ghost use Rattle.told_states.specs.Alike.{AreAlike};
-ghost use Rattle.fol_sig.specs.SymbolTables.{HasSymbol, IsCell};
-ghost use Rattle.told_states.specs.ChangeText.{signed_text, flip_text, moved_text, move_text, change_text};
-ghost use Rattle.told_states.specs.ChangeText.{below_changes, changes_text};
+ghost use Rattle.told_states.specs.ChangeText.{signed_text, moved_text, change_text, below_changes, changes_text};
 
 use crate::cells::{OfCells, push_all_cells};
 use crate::elements::{push_atom, push_label};
 use crate::labels::Labels;
-use base::{Mem, push_text};
 use fol_sig::{Sort, Structure, Symbol};
 use rml_command::Model;
 use std::alloc::Global;
+use told_text::Text;
 
 // A sign, and a symbol with its arguments.
 #[tactic(auto, using(std::proofs::Common::append_assoc), unfolding(crate::specs::ChangeText::signed_text))]
 fn push_signed(
-    out: &mut Vec<u8>,
+    out: &mut Text,
     labels: &Labels,
     structure: &Structure,
     sign: &str,
     symbol: Symbol,
     tuple: &[u32],
-) -> Mem<()>
+)
     requires { HasSymbol structure.now symbol }
-    ensures { OnOk result (out.new.items ≡ out.old.items
-        ++ signed_text labels.now structure.now sign.now symbol tuple.now) }
+    ensures { Wrote out.old out.new (signed_text labels.now structure.now sign.now symbol tuple.now) }
 {
-    push_text(out, sign)?;
-    push_atom(out, labels, structure, symbol, tuple)?;
-    push_text(out, "\n")?;
-    Ok(())
-}
-
-// What a relation was at a tuple, and what it is.
-fn push_flip(
-    out: &mut Vec<u8>,
-    labels: &Labels,
-    structure: &Structure,
-    symbol: Symbol,
-    tuple: &[u32],
-    old: bool,
-    new: bool,
-) -> Mem<()>
-    requires { HasSymbol structure.now symbol }
-    ensures { OnOk result (out.new.items ≡ out.old.items
-        ++ flip_text labels.now structure.now symbol tuple.now old new) }
-{
-    match (old, new) {
-        (false, true) => push_signed(out, labels, structure, "    + ", symbol, tuple),
-        (true, false) => push_signed(out, labels, structure, "    - ", symbol, tuple),
-        _ => Ok(()),
-    }
+    out.push_str(sign);
+    push_atom(out, labels, structure, symbol, tuple);
+    out.push_str("\n");
 }
 
 // An old and a new value.
 #[tactic(auto, using(std::proofs::Common::append_assoc), unfolding(crate::specs::ChangeText::moved_text))]
 fn push_moved(
-    out: &mut Vec<u8>,
+    out: &mut Text,
     labels: &Labels,
     structure: &Structure,
     symbol: Symbol,
@@ -66,69 +42,17 @@ fn push_moved(
     sort: Sort,
     old: u32,
     new: u32,
-) -> Mem<()>
+)
     requires { HasSymbol structure.now symbol }
-    ensures { OnOk result (out.new.items ≡ out.old.items
-        ++ moved_text labels.now structure.now symbol tuple.now sort.0 old new) }
+    ensures { Wrote out.old out.new (moved_text labels.now structure.now symbol tuple.now sort.0 old new) }
 {
-    push_text(out, "    ")?;
-    push_atom(out, labels, structure, symbol, tuple)?;
-    push_text(out, ": ")?;
-    push_label(out, labels, sort, old)?;
-    push_text(out, " -> ")?;
-    push_label(out, labels, sort, new)?;
-    push_text(out, "\n")?;
-    Ok(())
-}
-
-// The value that a function had at a tuple, and the value that it has.
-fn push_move(
-    out: &mut Vec<u8>,
-    labels: &Labels,
-    structure: &Structure,
-    symbol: Symbol,
-    tuple: &[u32],
-    sort: Sort,
-    old: u32,
-    new: u32,
-) -> Mem<()>
-    requires { HasSymbol structure.now symbol }
-    ensures { OnOk result (out.new.items ≡ out.old.items
-        ++ move_text labels.now structure.now symbol tuple.now sort.0 old new) }
-{
-    if old == new {
-        Ok(())
-    } else {
-        push_moved(out, labels, structure, symbol, tuple, sort, old, new)
-    }
-}
-
-fn push_change(
-    out: &mut Vec<u8>,
-    labels: &Labels,
-    before: &Structure,
-    after: &Structure,
-    symbol: Symbol,
-    tuple: &[u32],
-) -> Mem<()>
-    requires before { IsCell before.now symbol tuple.now }
-    requires after { IsCell after.now symbol tuple.now }
-    ensures { OnOk result (out.new.items ≡ out.old.items
-        ++ change_text labels.now before.now after.now symbol tuple.now) }
-{
-    match symbol {
-        Symbol::Relation(rel) => {
-            let old = before.rel(rel, tuple);
-            let new = after.rel(rel, tuple);
-            push_flip(out, labels, before, symbol, tuple, old, new)
-        }
-        Symbol::Function(fun) => {
-            let sort = before.function_into(fun);
-            let old = before.fun(fun, tuple);
-            let new = after.fun(fun, tuple);
-            push_move(out, labels, before, symbol, tuple, sort, old, new)
-        }
-    }
+    out.push_str("    ");
+    push_atom(out, labels, structure, symbol, tuple);
+    out.push_str(": ");
+    push_label(out, labels, sort, old);
+    out.push_str(" -> ");
+    push_label(out, labels, sort, new);
+    out.push_str("\n");
 }
 
 #[derive(Clone, Copy)]
@@ -139,49 +63,67 @@ struct Changes<'a> {
 impl<'a> OfCells for Changes<'a> {
     ghost text = { λ c s t q xs. change_text c.labels.now s t q xs };
 
+    // What a relation was, and what it is; or the value that a function had, and the one that it has.
     fn push(
         &self,
         _alloc: Global,
-        out: &mut Vec<u8>,
+        out: &mut Text,
         here: &Structure,
         there: &Structure,
         symbol: Symbol,
         tuple: &[u32],
-    ) -> Mem<()> {
-        push_change(out, self.labels, here, there, symbol, tuple)
+    ) {
+        let labels = self.labels;
+        match symbol {
+            Symbol::Relation(rel) => match (here.rel(rel, tuple), there.rel(rel, tuple)) {
+                (false, true) => push_signed(out, labels, here, "    + ", symbol, tuple),
+                (true, false) => push_signed(out, labels, here, "    - ", symbol, tuple),
+                _ => {}
+            },
+            Symbol::Function(fun) => {
+                let old = here.fun(fun, tuple);
+                let new = there.fun(fun, tuple);
+                if old != new {
+                    let sort = here.function_into(fun);
+                    push_moved(out, labels, here, symbol, tuple, sort, old, new);
+                }
+            }
+        }
     }
 }
 
 // A head over the lines, or that there are none.
 #[tactic(auto, using(std::proofs::Common::append_assoc))]
-fn push_below(out: &mut Vec<u8>, lines: &[u8]) -> Mem<()>
-    ensures { OnOk result (out.new.items ≡ out.old.items ++ below_changes lines.now) }
+fn push_below(out: &mut Text, lines: &[u8])
+    ensures { Wrote out.old out.new (below_changes lines.now) }
 {
     if lines.is_empty() {
-        push_text(out, "  changes nothing\n")?;
+        out.push_str("  changes nothing\n");
     } else {
-        push_text(out, "  changes\n")?;
-        out.extend_from_slice(lines)?;
+        out.push_str("  changes\n");
+        out.push_bytes(lines);
     }
-    Ok(())
 }
 
 /// Adds what has changed between two structures of the model.
 pub fn push_changes(
     alloc: Global,
-    out: &mut Vec<u8>,
+    out: &mut Text,
     model: &Model,
     before: &Structure,
     after: &Structure,
-) -> Mem<()>
+)
     requires structure { FitsStructure (symbols model.now.signature) before.now }
     requires alike { AreAlike before.now after.now }
-    ensures { OnOk result (out.new.items ≡ out.old.items ++ changes_text model.now before.now after.now) }
+    ensures { Wrote out.old out.new (changes_text model.now before.now after.now) }
 {
-    let labels = Labels::of(alloc, model, before)?;
+    let Ok(labels) = Labels::of(alloc, model, before) else {
+        out.want();
+        return;
+    };
     let told = Changes { labels: &labels };
-    let mut lines = Vec::new(alloc);
-    push_all_cells(alloc, &mut lines, &told, model, before, after)?;
-    push_below(out, &lines)?;
-    Ok(())
+    let mut lines = Text::new(alloc);
+    push_all_cells(alloc, &mut lines, &told, model, before, after);
+    out.needs(&lines);
+    push_below(out, lines.as_bytes());
 }

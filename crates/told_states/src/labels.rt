@@ -94,9 +94,10 @@ impl<'a> Labels<'a> {
     pub fn name_of(&self, sort: Sort, element: u32) -> Option<FunId>
         ensures { result ≡ name_of self.now.labels sort.0 element }
     {
-        self.labels
+        let label = self
+            .labels
             .iter()
-            .find(|label| label.sort.0 == sort.0 && label.element == element)
-            .map(|label| label.name)
+            .find(|label| label.sort.0 == sort.0 && label.element == element)?;
+        Some(label.name)
     }
 }

@@ -10,6 +10,7 @@ mod elements;
 mod label;
 mod labels;
 mod laws;
+mod names;
 mod steps;
 mod symbols;
 mod tables;
@@ -21,6 +22,7 @@ pub use elements::{push_arguments, push_element, push_label, push_line, push_val
 pub use label::Label;
 pub use labels::Labels;
 pub use laws::end_law;
+pub use names::{push_head, push_labelled, push_name, push_stage};
 pub use steps::{behind, path_at};
 pub use symbols::{all_symbols, is_variable, push_symbol, sizes};
 pub use tables::{has_tuple, push_table};

@@ -1,5 +1,6 @@
 // Relations and functions, and their tuples.
 ghost use Rattle.std.specs.Prelude.{◌≡◌, [], ◌∷◌, ◌++◌, OnOk, IfOk};
+ghost use Rattle.told_text.specs.Written.{Wrote};
 ghost use Rattle.fol_sig.specs.Symbols.{FitsStructure, symbols};
 ghost use Rattle.std.specs.List.{AllByRecursion};
 ghost use Rattle.fol_sig.specs.Tuples.{join_below};
@@ -7,11 +8,12 @@ ghost use Rattle.fol_sig.specs.SymbolTables.{arguments_of, HasSymbol};
 ghost use Rattle.told_states.specs.SymbolText.{symbol_name, is_variable};
 ghost use Rattle.told_states.specs.SymbolText.{relation_symbol, function_symbol, symbols_of};
 
+use crate::names::push_name;
 use base::Mem;
 use fol_sig::{FunId, RelId, Sort, Structure, Symbol};
 use rml_command::{Model, Names};
-use rml_report::push_name;
 use std::alloc::Global;
+use told_text::Text;
 
 /// Whether it is a function without arguments.
 pub fn is_variable(structure: &Structure, symbol: Symbol) -> bool
@@ -25,8 +27,8 @@ pub fn is_variable(structure: &Structure, symbol: Symbol) -> bool
 }
 
 /// Adds the symbol's name.
-pub fn push_symbol(out: &mut Vec<u8>, names: &Names, symbol: Symbol) -> Mem<()>
-    ensures { OnOk result (out.new.items ≡ out.old.items ++ symbol_name names.now symbol) }
+pub fn push_symbol(out: &mut Text, names: &Names, symbol: Symbol)
+    ensures { Wrote out.old out.new (symbol_name names.now symbol) }
 {
     match symbol {
         Symbol::Relation(rel) => push_name(out, names.relations.as_slice(), rel.0),
