@@ -26,11 +26,11 @@ use Rattle.told_states.specs.ChangeText.{changes_text}
 use Rattle.told_report.specs.InText.{TextTold}
 
 -- a comma, and m := node1
-unfoldable pub element_havoc : Labels → ℕ → ℕ → ℕ → List ℕ
+abbrev pub element_havoc : Labels → ℕ → ℕ → ℕ → List ℕ
 element_havoc l v k x = labelled (codes ", ") (name_at l.names.functions v) (codes " := ") ++ label_text l k x
 
 -- a comma, and r := {(node0, node1), (node1, node1)}
-unfoldable pub table_havoc : Labels → Tables → ℕ → List (List ℕ) → List ℕ
+abbrev pub table_havoc : Labels → Tables → ℕ → List (List ℕ) → List ℕ
 table_havoc l s r xss = labelled (codes ", ") (name_at l.names.relations r) (codes " := ") ++ table_text l s r xss
 
 -- What is told of a step of a path, where these entries of the trace are left: of a havoc what its entry gives to its

@@ -33,7 +33,7 @@ fault_text names about.Abort = codes " aborts"
 fault_text names (about.Conjecture k) = codes " breaks " ++ name_at names.conjectures k
 
 -- action connect breaks linked_down
-unfoldable pub broken_text : Names → Stage → About → List ℕ
+abbrev pub broken_text : Names → Stage → About → List ℕ
 broken_text names s a = codes "\n" ++ stage_text names s ++ fault_text names a
 
 -- (path 1 of 2)
