@@ -10,7 +10,7 @@ use Rattle.told_states.specs.ElementText.{arguments_text, line_text}
 use Rattle.told_derived.specs.Definitions.{Derived, Definitions, definition_at, is_true_of}
 
 -- reaches(node0, node1)
-unfoldable pub atom_text : Labels → Derived → List ℕ → List ℕ
+abbrev pub atom_text : Labels → Derived → List ℕ → List ℕ
 atom_text l r xs = r.name ++ arguments_text l r.sorts xs
 
 -- a comma, and reaches(node0, node1)

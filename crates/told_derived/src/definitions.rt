@@ -1,11 +1,12 @@
 // The derived relations of a text, and what is told of all of them.
-ghost use Rattle.std.specs.Prelude.{◌≡◌, ◌<◌, ◌++◌, length, None, OnOk, IfOk};
+ghost use Rattle.std.specs.Prelude.{◌≡◌, ◌<◌, length, None, IfOk};
 ghost use Rattle.fol_sig.specs.Symbols.{FitsStructure, symbols};
 ghost use Rattle.rml_syntax.specs.Tree.{file_tree};
 ghost use Rattle.rml_syntax.specs.Within.{TreeWithin};
 ghost use Rattle.rml_syntax.specs.Shape.{IsShaped};
 ghost use Rattle.rml_items.specs.Items.{fault_of};
 ghost use Rattle.rml_sorts.specs.Items.{model_of, size_fault_of};
+ghost use Rattle.told_text.specs.Written.{Wrote};
 ghost use Rattle.told_states.specs.Alike.{AreAlike};
 ghost use Rattle.rml_names.specs.Drafts.{draft_in};
 ghost use Rattle.told_derived.specs.Definitions.{definition_at, definitions_of, drafted, no_definitions};
@@ -24,6 +25,7 @@ use rml_syntax::Tree;
 use std::alloc::{AllocError, Global};
 use std::marker;
 use told_states::{Labels, sizes};
+use told_text::Text;
 
 /// The derived relations of a text, in the order of their definitions.
 #[derive(Drop)]
@@ -141,50 +143,51 @@ impl Definitions {
     }
 
     /// Adds a line for each that is true of a tuple in a structure of the model.
-    #[tactic(auto, using(std::proofs::Common::append_assoc))]
-    pub fn push_facts(
-        &self,
-        alloc: Global,
-        out: &mut Vec<u8>,
-        model: &Model,
-        structure: &Structure,
-    ) -> Mem<()>
+    pub fn push_facts(&self, alloc: Global, out: &mut Text, model: &Model, structure: &Structure)
         requires fit { FitDefinitions (symbols model.now.signature) self.now }
         requires structure { FitsStructure (symbols model.now.signature) structure.now }
-        ensures { OnOk result (out.new.items ≡ out.old.items ++ facts_text self.now model.now structure.now) }
+        ensures { Wrote out.old out.new (facts_text self.now model.now structure.now) }
     {
-        let labels = Labels::of(alloc, model, structure)?;
-        let sizes = sizes(alloc, model, structure)?;
+        let Ok(labels) = Labels::of(alloc, model, structure) else {
+            out.want();
+            return;
+        };
+        let Ok(sizes) = sizes(alloc, model, structure) else {
+            out.want();
+            return;
+        };
         for number in 0..self.sorts.len() {
             let derived = self.at(number);
-            push_facts_line(alloc, out, &labels, structure, &sizes, &derived)?;
+            push_facts_line(alloc, out, &labels, structure, &sizes, &derived);
         }
-        Ok(())
     }
 
     /// Adds a line for each tuple of which one of them comes to be true or false between two structures of the model.
-    #[tactic(auto, using(std::proofs::Common::append_assoc))]
     pub fn push_changes(
         &self,
         alloc: Global,
-        out: &mut Vec<u8>,
+        out: &mut Text,
         model: &Model,
         before: &Structure,
         after: &Structure,
-    ) -> Mem<()>
+    )
         requires fit { FitDefinitions (symbols model.now.signature) self.now }
         requires before { FitsStructure (symbols model.now.signature) before.now }
         requires after { FitsStructure (symbols model.now.signature) after.now }
         requires alike { AreAlike before.now after.now }
-        ensures { OnOk result (out.new.items ≡ out.old.items
-            ++ changes_text self.now model.now before.now after.now) }
+        ensures { Wrote out.old out.new (changes_text self.now model.now before.now after.now) }
     {
-        let labels = Labels::of(alloc, model, before)?;
-        let sizes = sizes(alloc, model, before)?;
+        let Ok(labels) = Labels::of(alloc, model, before) else {
+            out.want();
+            return;
+        };
+        let Ok(sizes) = sizes(alloc, model, before) else {
+            out.want();
+            return;
+        };
         for number in 0..self.sorts.len() {
             let derived = self.at(number);
-            push_change_lines(alloc, out, &labels, before, after, &sizes, &derived)?;
+            push_change_lines(alloc, out, &labels, before, after, &sizes, &derived);
         }
-        Ok(())
     }
 }
