@@ -35,7 +35,7 @@ unfoldable pub actions_text : List ℕ → ℕ → List ℕ → List ℕ
 actions_text before n behind = before ++ decimal n ++ unit_text n ++ behind
 
 -- action connect (path 1 of 2)
-unfoldable pub part_head : ModelTree → Part → List ℕ
+abbrev pub part_head : ModelTree → Part → List ℕ
 part_head m part =
     stage_text m.names part.stage ++ path_text part.trace.path (length (stage_paths m part.stage))
 

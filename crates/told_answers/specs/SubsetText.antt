@@ -25,7 +25,7 @@ verdict_line kept all (Some first) =
     two_numbered (codes "undecided: keeps ") kept (codes " of ") all (codes " conjectures\n")
 
 -- drops linked_down: action connect breaks it (path 1 of 2)
-unfoldable pub drop_head : ModelTree → Dropped → List ℕ
+abbrev pub drop_head : ModelTree → Dropped → List ℕ
 drop_head m d =
     labelled (codes "\ndrops ") (name_at m.names.conjectures d.conjecture) (codes ": ")
     ++ stage_text m.names d.shown.goal.stage ++ codes " breaks it"

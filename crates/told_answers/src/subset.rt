@@ -1,67 +1,59 @@
 // What is found, as it is told.
-ghost use Rattle.std.specs.Prelude.{◌≡◌, ◌++◌, OnOk, IfOk};
+ghost use Rattle.std.specs.Prelude.{◌≡◌, IfOk};
 ghost use Rattle.std.specs.List.{AllByRecursion, flat_map};
 ghost use Rattle.fol_sig.specs.Symbols.{symbols};
 ghost use Rattle.rml_houdini.specs.HoudiniText.{CanRender};
+ghost use Rattle.told_text.specs.Written.{Wrote};
 ghost use Rattle.told_answers.specs.SubsetText.{verdict_line, keep_line, open_line, subset_text};
 
 use crate::drops::push_drops;
-use base::{Mem, push_text};
+use base::Mem;
 use rml_command::{Checked, Goal, Names};
 use rml_houdini::Houdini;
-use rml_report::{Cause, push_labelled};
+use rml_report::Cause;
 use std::alloc::Global;
 use told_report::{InText, push_two_numbered, push_undecided};
+use told_states::push_labelled;
+use told_text::Text;
 
-fn push_verdict(out: &mut Vec<u8>, kept: u64, all: u64, unsettled: Option<(Goal, Cause)>) -> Mem<()>
-    ensures { OnOk result (out.new.items ≡ out.old.items ++ verdict_line kept all unsettled) }
+fn push_verdict(out: &mut Text, kept: u64, all: u64, unsettled: Option<(Goal, Cause)>)
+    ensures { Wrote out.old out.new (verdict_line kept all unsettled) }
 {
     match unsettled {
-        None => push_two_numbered(
-            out,
-            "keeps ",
-            kept,
-            " of ",
-            all,
-            " conjectures, the greatest inductive set of them\n",
-        ),
-        Some(_) => push_two_numbered(
-            out,
-            "undecided: keeps ",
-            kept,
-            " of ",
-            all,
-            " conjectures\n",
-        ),
+        None => {
+            let behind = " conjectures, the greatest inductive set of them\n";
+            push_two_numbered(out, "keeps ", kept, " of ", all, behind)
+        }
+        Some(_) => {
+            push_two_numbered(
+                out,
+                "undecided: keeps ",
+                kept,
+                " of ",
+                all,
+                " conjectures\n",
+            )
+        }
     }
 }
 
 #[tactic(auto, using(std::proofs::Common::append_assoc))]
-fn push_kept(out: &mut Vec<u8>, names: &Names, kept: &[u32]) -> Mem<()>
-    ensures { OnOk result (out.new.items ≡ out.old.items ++ flat_map (keep_line names.now) kept.now) }
+fn push_kept(out: &mut Text, names: &Names, kept: &[u32])
+    ensures { Wrote out.old out.new (flat_map (keep_line names.now) kept.now) }
 {
+    let conjectures = names.conjectures.as_slice();
     let mut rest = kept;
     while let [conjecture, after @ ..] = rest {
-        push_labelled(
-            out,
-            "keeps ",
-            names.conjectures.as_slice(),
-            *conjecture,
-            "\n",
-        )?;
+        push_labelled(out, "keeps ", conjectures, *conjecture, "\n");
         rest = after;
     }
-    Ok(())
 }
 
-fn push_open(out: &mut Vec<u8>, names: &Names, unsettled: Option<(Goal, Cause)>) -> Mem<()>
-    ensures { OnOk result (out.new.items ≡ out.old.items ++ open_line names.now unsettled) }
+fn push_open(out: &mut Text, names: &Names, unsettled: Option<(Goal, Cause)>)
+    ensures { Wrote out.old out.new (open_line names.now unsettled) }
 {
-    match unsettled {
-        None => Ok(()),
-        Some((goal, cause)) => {
-            push_undecided(out, names, goal.stage, goal.about, goal.path, &cause)
-        }
+    if let Some((goal, cause)) = unsettled {
+        push_undecided(out, names, goal.stage, goal.about, goal.path, &cause);
     }
 }
 
@@ -81,11 +73,12 @@ pub fn tell_subset<T: InText>(
     let model = checked.model();
     let kept = houdini.kept.as_slice();
     let all = model.conjectures().len() as u64;
-    let mut out = Vec::new(alloc);
-    push_verdict(&mut out, kept.len() as u64, all, houdini.unsettled)?;
-    push_drops(alloc, &mut out, checked, source, houdini.dropped.as_slice())?;
-    push_text(&mut out, "\n")?;
-    push_kept(&mut out, model.names(), kept)?;
-    push_open(&mut out, model.names(), houdini.unsettled)?;
-    Ok(out)
+    let mut out = Text::new(alloc);
+    push_verdict(&mut out, kept.len() as u64, all, houdini.unsettled);
+    push_drops(alloc, &mut out, checked, source, houdini.dropped.as_slice());
+    out.push_str("\n");
+    push_kept(&mut out, model.names(), kept);
+    push_open(&mut out, model.names(), houdini.unsettled);
+    let text = out.into_bytes()?;
+    Ok(text)
 }

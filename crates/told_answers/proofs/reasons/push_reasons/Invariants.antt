@@ -1,12 +1,13 @@
 -- What is written so far, and behind it the text of the rest.
 use Rattle.std.proofs.Common.{◌≡◌, ◌++◌, length}
+use Rattle.std.specs.Prelude.{IsTrue}
 use Rattle.std.specs.List.{flat_map}
 use Rattle.told_answers.specs.ReasonsText.{reason_line}
 use Rattle.told_answers.proofs.reasons.push_reasons.Given as goal
 
 abbrev pub invariant-loop-rest : goal.invariant-loop-rest
-invariant-loop-rest l = l.out.items ++ flat_map (reason_line l.names) l.rest
-    ≡ l.fn.out.items ++ flat_map (reason_line l.names) l.reasons
+invariant-loop-rest l = IsTrue l.out.whole → IsTrue l.fn.out.whole
+    × (l.out.text ++ flat_map (reason_line l.names) l.rest ≡ l.fn.out.text ++ flat_map (reason_line l.names) l.reasons)
 
 abbrev pub decreases-loop-rest : goal.decreases-loop-rest
 decreases-loop-rest l = length l.rest

@@ -9,4 +9,4 @@ pub returns : goal.returns
 unfolding run_head
 returns c =
     two (actions_text (codes "\na run with ") c.args.actions (codes "")) (fault_text c.args.names.now c.args.about)
-    _ _ _ c.in_ok-push_actions.ensures c.in_ok-push_fault.ensures
+    _ _ _ c.push_actions.ensures c.push_fault.ensures
