@@ -1,10 +1,12 @@
 // The line that names kinds of token.
-ghost use Rattle.std.specs.Prelude.{◌≡◌, ◌++◌, IfOk, OnOk, codes};
+ghost use Rattle.std.specs.Prelude.{◌≡◌, ◌++◌, IfOk, codes};
+ghost use Rattle.told_text.specs.Written.{Wrote};
 ghost use Rattle.expectations.specs.Text.{word_text, sign_text, kind_text, lead_text, others_text, expected_text};
 
-use base::{Mem, push_text};
+use base::Mem;
 use rml_lex::{Kind, Sign, Word};
 use std::alloc::Global;
+use told_text::Text;
 
 // How a reserved word is written.
 #[tactic(auto, unfolding(crate::specs::Text::word_text))]
@@ -69,40 +71,37 @@ fn sign_text(sign: Sign) -> &'static str
 }
 
 #[tactic(auto, using(std::proofs::Common::append_assoc))]
-fn push_quoted(out: &mut Vec<u8>, text: &str) -> Mem<()>
-    ensures { OnOk result (out.new.items ≡ out.old.items ++ codes "`" ++ text.now ++ codes "`") }
+fn push_quoted(out: &mut Text, text: &str)
+    ensures { Wrote out.old out.new (codes "`" ++ text.now ++ codes "`") }
 {
-    push_text(out, "`")?;
-    push_text(out, text)?;
-    push_text(out, "`")?;
-    Ok(())
+    out.push_str("`");
+    out.push_str(text);
+    out.push_str("`");
 }
 
 #[tactic(auto, unfolding(crate::specs::Text::kind_text))]
-fn push_kind(out: &mut Vec<u8>, kind: Kind) -> Mem<()>
-    ensures { OnOk result (out.new.items ≡ out.old.items ++ kind_text kind) }
+fn push_kind(out: &mut Text, kind: Kind)
+    ensures { Wrote out.old out.new (kind_text kind) }
 {
     match kind {
-        Kind::Name => push_text(out, "NAME")?,
-        Kind::Number => push_text(out, "NUMBER")?,
-        Kind::Word(word) => push_quoted(out, word_text(word))?,
-        Kind::Sign(sign) => push_quoted(out, sign_text(sign))?,
+        Kind::Name => out.push_str("NAME"),
+        Kind::Number => out.push_str("NUMBER"),
+        Kind::Word(word) => push_quoted(out, word_text(word)),
+        Kind::Sign(sign) => push_quoted(out, sign_text(sign)),
     }
-    Ok(())
 }
 
 // Adds each with a comma in front.
 #[tactic(auto, using(std::proofs::Common::append_assoc))]
-fn push_others(out: &mut Vec<u8>, kinds: &[Kind]) -> Mem<()>
-    ensures { OnOk result (out.new.items ≡ out.old.items ++ others_text kinds.now) }
+fn push_others(out: &mut Text, kinds: &[Kind])
+    ensures { Wrote out.old out.new (others_text kinds.now) }
 {
     let mut rest = kinds;
     while let [kind, after @ ..] = rest {
-        push_text(out, ", ")?;
-        push_kind(out, *kind)?;
+        out.push_str(", ");
+        push_kind(out, *kind);
         rest = after;
     }
-    Ok(())
 }
 
 // What the line begins with, if these follow the first.
@@ -120,13 +119,13 @@ fn lead_text(others: &[Kind]) -> &'static str
 pub fn expected_text(alloc: Global, kinds: &[Kind]) -> Mem<Vec<u8>>
     ensures { IfOk result (λ out. out.items ≡ expected_text kinds.now) }
 {
-    let mut out = Vec::new(alloc);
-    let [first, others @ ..] = kinds else {
-        return Ok(out);
-    };
-    push_text(&mut out, lead_text(others))?;
-    push_kind(&mut out, *first)?;
-    push_others(&mut out, others)?;
-    push_text(&mut out, " may stand here\n")?;
-    Ok(out)
+    let mut out = Text::new(alloc);
+    if let [first, others @ ..] = kinds {
+        out.push_str(lead_text(others));
+        push_kind(&mut out, *first);
+        push_others(&mut out, others);
+        out.push_str(" may stand here\n");
+    }
+    let line = out.into_bytes()?;
+    Ok(line)
 }

@@ -29,11 +29,15 @@ shown b = if nat_lt b 32 || b == 127 then 32 else (if nat_lt 127 b then 63 else 
 abbrev pub blanks : ℕ → List ℕ
 blanks n = replicate n 32
 
+-- `FILE:LINE:COLUMN: `
+unfoldable pub place_text : List ℕ → ℕ → ℕ → List ℕ
+place_text file line column = file ++ codes ":" ++ decimal line ++ codes ":" ++ decimal column ++ codes ": "
+
 -- `FILE:LINE:COLUMN: F9 wrong sort`
 unfoldable pub head_line : List ℕ → List ℕ → Fault → List ℕ
 head_line file text fault =
-    file ++ codes ":" ++ decimal (line_of text fault.at) ++ codes ":" ++ decimal (column_of text fault.at)
-    ++ codes ": F" ++ decimal (number_of fault.code) ++ codes " " ++ text_of fault.code ++ codes "\n"
+    place_text file (line_of text fault.at) (column_of text fault.at) ++ codes "F" ++ decimal (number_of fault.code)
+    ++ codes " " ++ text_of fault.code ++ codes "\n"
 
 -- the line behind its number
 unfoldable pub source_line : List ℕ → ℕ → List ℕ

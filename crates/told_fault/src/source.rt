@@ -1,9 +1,10 @@
 // The line of a text in which a place stands, byte by byte as it is shown.
-ghost use Rattle.std.specs.Prelude.{◌≡◌, ◌≤◌, ◌++◌, length, map, OnOk};
+ghost use Rattle.std.specs.Prelude.{◌≡◌, ◌≤◌, length, map};
+ghost use Rattle.told_text.specs.Written.{Wrote};
 ghost use Rattle.told_fault.specs.Diagnostics.{line_before, up_to_end, line_from, shown, blanks};
 
-use base::Mem;
 use rml_lex::place;
+use told_text::Text;
 
 /// The bytes of a line in front of a place.
 pub fn line_before(text: &[u8], at: u64) -> &[u8]
@@ -54,25 +55,25 @@ fn shown(b: u8) -> u8
 }
 
 /// Adds bytes as they are shown.
-pub fn push_shown(out: &mut Vec<u8>, bytes: &[u8]) -> Mem<()>
-    ensures { OnOk result (out.new.items ≡ out.old.items ++ map shown bytes.now) }
+#[tactic(auto, using(std::proofs::Common::append_assoc))]
+pub fn push_shown(out: &mut Text, bytes: &[u8])
+    ensures { Wrote out.old out.new (map shown bytes.now) }
 {
     let mut rest = bytes;
     while let [b, after @ ..] = rest {
-        out.push(shown(*b))?;
+        out.push_byte(shown(*b));
         rest = after;
     }
-    Ok(())
 }
 
 /// Adds so many blanks.
-pub fn push_blanks(out: &mut Vec<u8>, count: u64) -> Mem<()>
-    ensures { OnOk result (out.new.items ≡ out.old.items ++ blanks count) }
+#[tactic(auto, using(std::proofs::Common::append_assoc))]
+pub fn push_blanks(out: &mut Text, count: u64)
+    ensures { Wrote out.old out.new (blanks count) }
 {
     let mut left = count;
     while left > 0 {
-        out.push(b' ')?;
+        out.push_byte(b' ');
         left -= 1;
     }
-    Ok(())
 }

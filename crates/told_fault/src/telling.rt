@@ -1,50 +1,47 @@
 // The text of a fault, with what is told beside it.
-ghost use Rattle.std.specs.Prelude.{◌≡◌, ◌≤◌, ◌++◌, length, IfOk, OnOk};
+ghost use Rattle.std.specs.Prelude.{◌≡◌, ◌≤◌, length, IfOk};
+ghost use Rattle.told_text.specs.Written.{Wrote};
 ghost use Rattle.told_fault.specs.Readings.{hint_line, advice_text, fault_text};
 
 use crate::hint::Hint;
 use crate::looking::fault_hint;
 use crate::reading::Reading;
-use crate::rendering::diagnostic;
-use base::{Mem, push_text};
+use crate::rendering::push_diagnostic;
+use base::Mem;
 use expectations::expected_text;
 use rml_lex::Fault;
 use std::alloc::Global;
+use told_text::Text;
 
 // The line of a hint.
 #[tactic(auto, using(std::proofs::Common::append_assoc))]
-fn push_hint(out: &mut Vec<u8>, hint: Option<Hint>) -> Mem<()>
-    ensures { OnOk result (out.new.items ≡ out.old.items ++ hint_line hint) }
+fn push_hint(out: &mut Text, hint: Option<Hint>)
+    ensures { Wrote out.old out.new (hint_line hint) }
 {
     if let Some(hint) = hint {
-        push_text(out, "  = hint: ")?;
-        push_text(out, hint.text())?;
-        push_text(out, "\n")?;
+        out.push_str("  = hint: ");
+        out.push_str(hint.text());
+        out.push_str("\n");
     }
-    Ok(())
 }
 
 // What is told beside a fault.
 #[tactic(auto, using(std::proofs::Common::append_assoc))]
-fn push_advice(
-    alloc: Global,
-    out: &mut Vec<u8>,
-    text: &[u8],
-    fault: &Fault,
-    reading: &Reading,
-) -> Mem<()>
+fn push_advice(alloc: Global, out: &mut Text, text: &[u8], fault: &Fault, reading: &Reading)
     requires { fault.now.at ≤ length text.now }
-    ensures { OnOk result (out.new.items ≡ out.old.items ++ advice_text text.now fault.now reading.now) }
+    ensures { Wrote out.old out.new (advice_text text.now fault.now reading.now) }
 {
     match reading {
         Reading::NoTokens(hint) => push_hint(out, *hint),
         Reading::Unexpected(kinds, hint) => {
-            let line = expected_text(alloc, kinds.as_slice())?;
-            out.extend_from_slice(&line)?;
-            push_hint(out, *hint)?;
-            Ok(())
+            let Ok(line) = expected_text(alloc, kinds.as_slice()) else {
+                out.want();
+                return;
+            };
+            out.push_bytes(&line);
+            push_hint(out, *hint);
         }
-        Reading::TooDeep => Ok(()),
+        Reading::TooDeep => {}
         Reading::Parsed(_) => push_hint(out, fault_hint(text, fault.at, fault.code)),
     }
 }
@@ -61,7 +58,9 @@ pub fn fault_text(
     requires { fault.now.at ≤ length text.now }
     ensures { IfOk result (λ out. out.items ≡ fault_text file.now text.now fault.now reading.now) }
 {
-    let mut out = diagnostic(alloc, file, text, fault)?;
-    push_advice(alloc, &mut out, text, fault, reading)?;
-    Ok(out)
+    let mut out = Text::new(alloc);
+    push_diagnostic(alloc, &mut out, file, text, fault);
+    push_advice(alloc, &mut out, text, fault, reading);
+    let told = out.into_bytes()?;
+    Ok(told)
 }
