@@ -1,7 +1,7 @@
 // What a path does at a place of the source where it could have gone another way.
 
 /// A branch of a `choose`.
-#[derive(Clone, Copy, Debug, PartialEq, Eq)]
+#[derive(Clone, Copy)]
 pub struct Branch {
     /// Its number, from 1.
     pub number: u64,
@@ -10,7 +10,7 @@ pub struct Branch {
 }
 
 /// The way that a path takes.
-#[derive(Clone, Copy, Debug, PartialEq, Eq)]
+#[derive(Clone, Copy)]
 pub enum Turn {
     /// The condition of an `assert` is false, and the path aborts.
     AssertFails,
@@ -25,7 +25,7 @@ pub enum Turn {
 }
 
 /// The way that a path takes at a place of the text, that of the word `if`, `choose` or `assert`.
-#[derive(Clone, Copy, Debug, PartialEq, Eq)]
+#[derive(Clone, Copy)]
 pub struct Mark {
     /// The place.
     pub at: u64,

@@ -1,11 +1,12 @@
 // The source of a model, as what tells the ways of its paths.
-ghost use Rattle.std.specs.Prelude.{◌≡◌, ◌++◌, length, None, IfOk, OnOk};
+ghost use Rattle.std.specs.Prelude.{◌≡◌, length, None, IfOk};
 ghost use Rattle.rml_syntax.specs.Tree.{file_tree};
 ghost use Rattle.rml_syntax.specs.Within.{TreeWithin};
 ghost use Rattle.rml_items.specs.Items.{fault_of};
 ghost use Rattle.branches.specs.Stages.{marks_of};
 ghost use Rattle.branches.specs.Within.{MarksWithin};
 ghost use Rattle.branches.specs.MarkText.{branch_lines};
+ghost use Rattle.told_text.specs.Written.{Wrote};
 
 use crate::lines::push_marks;
 use crate::mark::Mark;
@@ -15,6 +16,7 @@ use rml_command::Stage;
 use rml_syntax::Tree;
 use std::alloc::Global;
 use std::marker::Model;
+use told_text::Text;
 
 /// A text and its tree, which stands within the text and has no fault of names and sorts.
 #[derive(Drop)]
@@ -72,12 +74,13 @@ impl<'a> Source<'a> {
 
     /// Adds a line for each `if`, `choose` and `assert` on a path of a stage's block, by its number from 1: where it
     /// stands, and which way the path takes. No line where there is no such path.
-    pub fn push_lines(&self, out: &mut Vec<u8>, stage: Stage, path: u32) -> Mem<()>
-        ensures { OnOk result (out.new.items ≡ out.old.items
-            ++ branch_lines self.now.text (file_tree self.now.tree).items stage path) }
+    pub fn push_lines(&self, out: &mut Text, stage: Stage, path: u32)
+        ensures { Wrote out.old out.new (branch_lines self.now.text (file_tree self.now.tree).items stage path) }
     {
-        let marks = marks_of(self.alloc, self.tree, stage, path)?;
-        push_marks(out, self.text, &marks)?;
-        Ok(())
+        let Ok(marks) = marks_of(self.alloc, self.tree, stage, path) else {
+            out.want();
+            return;
+        };
+        push_marks(out, self.text, &marks);
     }
 }

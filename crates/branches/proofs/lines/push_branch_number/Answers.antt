@@ -4,7 +4,10 @@ use Rattle.branches.proofs.lines.push_branch_number.Goals as goal
 
 pub returns : goal.returns
 unfolding number_text
-returns c =
-    c.in_ok-push_number.ensures.pushed
-    ∙ ap (λ z. z ++ decimal c.args.number) c.in_ok-push_text.ensures.pushed
-    ∙ append_assoc c.args.out.now.items (codes " `choose` takes branch ") (decimal c.args.number)
+returns c = λ whole.
+    let number = c.push_number.ensures whole in
+    let words = c.push_str.ensures number.0 in (
+      words.0,
+      number.1 ∙ ap (λ z. z ++ decimal c.args.number) words.1
+          ∙ append_assoc c.args.out.now.text (codes " `choose` takes branch ") (decimal c.args.number),
+    )

@@ -6,4 +6,4 @@ pub push_marks-requires : goal.push_marks-requires
 push_marks-requires c =
     let text = c.self.inside.text.now in
     subst (λ ks. MarksWithin (length text) ks) (sym c.deref.ensures.value)
-    (c.in_ok-marks.ensures.within text (length text) c.self.invariant.1 c.self.invariant.0)
+    (c.in-Ok.ensures.within text (length text) c.self.invariant.1 c.self.invariant.0)
