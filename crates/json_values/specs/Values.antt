@@ -1,5 +1,6 @@
 -- Words for the data of values.
-use Rattle.std.specs.Prelude.{ℕ, ◌≡◌, List, [], ◌∷◌, ◌++◌, map, codes, encode_utf8_all, Option, IfSome, IsSomeAnd}
+use Rattle.std.specs.Prelude.{ℕ, ◌≡◌, Bool, true, false, List, [], ◌∷◌, ◌++◌, map, codes, encode_utf8_all}
+use Rattle.std.specs.Prelude.{Option, Some, None, IfSome, IsSomeAnd}
 use Rattle.serde_json.specs.Data.{Data, number, unsigned, string, array, object, Members, no_members, put}
 use Rattle.serde_json.specs.View.{items_of}
 use Rattle.serde_json.specs.Written.{compact_text}
@@ -27,6 +28,16 @@ set_each ms (m ∷ more) = set_each (with_member ms m.0 m.1) more
 -- stays none.
 abbrev pub IsBuiltBy : Option Members → List (List ℕ × Data) → Option Members → Type 0
 IsBuiltBy before ms after = IfSome after (λ new. IsSomeAnd before (λ old. new ≡ set_each old ms))
+
+-- A list that is being built, before and after these values are added. It is none where memory was wanting, and then
+-- stays none.
+abbrev pub IsListedBy : Option (List Data) → List Data → Option (List Data) → Type 0
+IsListedBy before ds after = IfSome after (λ new. IsSomeAnd before (λ old. new ≡ old ++ ds))
+
+-- what is built, unless memory was wanting for some of it
+abbrev pub unless_short : {T : Type 0} → Bool → T → Option T
+unless_short true x = None
+unless_short false x = Some x
 
 -- an object with these members
 abbrev pub object_of : List (List ℕ × Data) → Data

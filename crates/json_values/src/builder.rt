@@ -6,7 +6,7 @@ ghost use Rattle.json_values.specs.Values.{with_member, number_data};
 use crate::object::JsonObject;
 use crate::value::Json;
 use base::Mem;
-use std::alloc::Global;
+use std::alloc::{AllocError, Global};
 use std::marker::Model;
 
 /// An object that is being built. Where memory was wanting it is none, and stays none, so what adds members need not
@@ -14,21 +14,22 @@ use std::marker::Model;
 #[derive(Drop)]
 pub struct ObjectBuilder {
     alloc: Global,
-    object: Mem<JsonObject>,
+    object: JsonObject,
+    is_short: bool,
 }
 
 impl Model for ObjectBuilder {
     ghost use Rattle.std.specs.Prelude.{Option};
-    ghost use Rattle.std.specs.Result.{result_ok};
     ghost use Rattle.std.specs.Coded.{coded_option};
     ghost use Rattle.serde_json.specs.Data.{Members};
     ghost use Rattle.json_values.specs.Code.{members_code};
+    ghost use Rattle.json_values.specs.Values.{unless_short};
 
     ghost Value = { Option Members };
 
     ghost coded = { coded_option members_code };
 
-    ghost view = { λ b. result_ok b.object };
+    ghost view = { λ b. unless_short b.is_short b.object };
 }
 
 impl ObjectBuilder {
@@ -38,7 +39,8 @@ impl ObjectBuilder {
     {
         ObjectBuilder {
             alloc,
-            object: Ok(JsonObject::new(alloc)),
+            object: JsonObject::new(alloc),
+            is_short: false,
         }
     }
 
@@ -48,18 +50,24 @@ impl ObjectBuilder {
     {
         ObjectBuilder {
             alloc,
-            object: Ok(object),
+            object,
+            is_short: false,
         }
     }
 
     /// Adds a member. One of this name that was there is replaced.
-    pub fn with(self, name: &str, value: Mem<Json>) -> ObjectBuilder
+    pub fn with(mut self, name: &str, value: Mem<Json>) -> ObjectBuilder
         ensures { IfSome result (λ new. IsSomeAnd self (λ old. IsOkAnd value (λ d. new ≡ with_member old name.now d))) }
     {
-        ObjectBuilder {
-            alloc: self.alloc,
-            object: with_value(self.alloc, self.object, name, value),
+        match value {
+            Err(_) => self.is_short = true,
+            Ok(value) => {
+                if self.object.set(self.alloc, name, value).is_err() {
+                    self.is_short = true;
+                }
+            }
         }
+        self
     }
 
     /// Adds a member that is a text.
@@ -81,29 +89,18 @@ impl ObjectBuilder {
     pub fn build(self) -> Mem<JsonObject>
         ensures { IfOk result (λ o. IsSomeAnd self (λ ms. o ≡ ms)) }
     {
-        self.object
+        if self.is_short {
+            drop(self.object);
+            return Err(AllocError);
+        }
+        Ok(self.object)
     }
 
     /// The object as a value.
     pub fn into_json(self) -> Mem<Json>
         ensures { IfOk result (λ j. IsSomeAnd self (λ ms. j ≡ object ms)) }
     {
-        let object = self.object?;
+        let object = self.build()?;
         Ok(object.into_json())
     }
-}
-
-// With a member more, where there are an object and a value.
-fn with_value(
-    alloc: Global,
-    object: Mem<JsonObject>,
-    name: &str,
-    value: Mem<Json>,
-) -> Mem<JsonObject>
-    ensures { IfOk result (λ new. IsOkAnd object (λ old. IsOkAnd value (λ d. new ≡ with_member old name.now d))) }
-{
-    let value = value?;
-    let mut object = object?;
-    object.set(alloc, name, value)?;
-    Ok(object)
 }

@@ -12,5 +12,5 @@ mod value;
 pub use builder::ObjectBuilder;
 pub use list::JsonList;
 pub use object::JsonObject;
-pub use shapes::{counted, kind, named, numbers};
+pub use shapes::{counted, kind, numbers};
 pub use value::{Json, line};

@@ -1,6 +1,6 @@
 // Small values of one shape each.
 ghost use Rattle.std.specs.Prelude.{◌≡◌, IfOk};
-ghost use Rattle.json_values.specs.Values.{number_data, kind_data, named_data, counted_data, numbers_data};
+ghost use Rattle.json_values.specs.Values.{number_data, kind_data, counted_data, numbers_data};
 
 use crate::builder::ObjectBuilder;
 use crate::list::JsonList;
@@ -15,17 +15,6 @@ pub fn kind(alloc: Global, kind: &str) -> Mem<Json>
 {
     ObjectBuilder::new(alloc)
         .with_word("kind", kind)
-        .into_json()
-}
-
-/// What something is, and its name.
-#[tactic(auto, unfolding(crate::specs::Values::named_data))]
-pub fn named(alloc: Global, kind: &str, name: Json) -> Mem<Json>
-    ensures { IfOk result (λ j. j ≡ named_data kind.now name) }
-{
-    ObjectBuilder::new(alloc)
-        .with_word("kind", kind)
-        .with("name", Ok(name))
         .into_json()
 }
 
@@ -48,8 +37,8 @@ pub fn numbers(alloc: Global, numbers: &[u32]) -> Mem<Json>
     let mut list = JsonList::new(alloc);
     let mut rest = numbers;
     while let [number, after @ ..] = rest {
-        list.push(Ok(Json::number(*number as u64)))?;
+        list.push(Ok(Json::number(*number as u64)));
         rest = after;
     }
-    Ok(list.into_json())
+    list.into_json()
 }
