@@ -57,6 +57,11 @@ end_members m shown =
     (codes "before", structure_data m.names shown.structure)
     ∷ (codes "after", end_data m.names (outcome_of m shown)) ∷ []
 
+-- the first of what is told of executions, or null
+abbrev pub first_or_null : List Data → Data
+first_or_null [] = null
+first_or_null (d ∷ ds) = d
+
 -- What else is told of it stands under "branches".
 unfoldable pub execution_data : ModelTree → Counterexample → Data → Data
 execution_data m shown branches =

@@ -10,8 +10,7 @@ use Rattle.rml_houdini.specs.declared.houdini.Dropped.{Dropped}
 use Rattle.rml_houdini.specs.declared.houdini.Houdini.{Houdini}
 use Rattle.json_values.specs.Values.{list_data, number_data, object_of, set_each}
 use Rattle.json_outcome.specs.GroupData.{name_data, stage_data, about_data, cause_data}
-use Rattle.json_outcome.specs.ExecutionData.{execution_data}
-use Rattle.json_outcome.specs.ReportData.{first_or_null}
+use Rattle.json_outcome.specs.ExecutionData.{first_or_null, execution_data}
 
 -- the names of conjectures
 unfoldable pub names_data : Names → List ℕ → Data

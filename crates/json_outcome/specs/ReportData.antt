@@ -1,6 +1,6 @@
 -- The outcome of a check as data.
 use Rattle.std.specs.Prelude.{ℕ, List, [], ◌∷◌, drop, codes}
-use Rattle.serde_json.specs.Data.{Data, Members, null, string, no_members}
+use Rattle.serde_json.specs.Data.{Data, Members, string, no_members}
 use Rattle.rml_command.specs.Models.{ModelTree}
 use Rattle.rml_exec.specs.declared.trace.Counterexample.{Counterexample}
 use Rattle.rml_report.specs.declared.cause.Cause.{Cause}
@@ -15,7 +15,7 @@ use Rattle.rml_report.specs.declared.report.Group.{Group}
 use Rattle.rml_report.specs.declared.report.Report.{Report}
 use Rattle.json_values.specs.Values.{list_data, number_data, object_of, set_each}
 use Rattle.json_outcome.specs.GroupData.{stage_data, about_data, cause_data, least_data}
-use Rattle.json_outcome.specs.ExecutionData.{execution_data}
+use Rattle.json_outcome.specs.ExecutionData.{first_or_null, execution_data}
 
 -- the shown path, whether its structure is least, and the execution
 abbrev pub failing_members : ModelTree → ℕ → Least → Counterexample → Data → List (List ℕ × Data)
@@ -41,11 +41,6 @@ unfoldable pub group_data : ModelTree → Group → Data → Data
 group_data m g branches =
     object_of ((codes "stage", stage_data m.names g.stage) ∷ (codes "about", about_data m.names g.about)
     ∷ answer_members m g.answer branches)
-
--- the first of them, or null
-abbrev pub first_or_null : List Data → Data
-first_or_null [] = null
-first_or_null (d ∷ ds) = d
 
 -- the groups in order, each with what is told of its execution
 abbrev pub groups_data : ModelTree → List Group → List Data → List Data

@@ -39,18 +39,18 @@ members_data s q xss =
     join_below (tuple_count s.sizes (arguments_of s q)) (λ n. member_data xss (tuple_at s.sizes (arguments_of s q) n))
 
 -- a symbol's name, and its cells under this word
-unfoldable pub symbol_data : Data → List ℕ → List Data → Data
-symbol_data name word cells = object_of ((word, list_data cells) ∷ (codes "name", name) ∷ [])
+unfoldable pub symbol_data : Data → List ℕ → Data → Data
+symbol_data name word cells = object_of ((word, cells) ∷ (codes "name", name) ∷ [])
 
 -- {"name":"linked","tuples":[[0,1],[1,0]]}
 abbrev pub relation_data : Names → Tables → ℕ → Data
 relation_data names s r =
-    symbol_data (name_data names.relations r) (codes "tuples") (cells_data s (relation_symbol r))
+    symbol_data (name_data names.relations r) (codes "tuples") (list_data (cells_data s (relation_symbol r)))
 
 -- {"name":"next","values":[..]}; a variable is a function without arguments, and has one value, at []
 abbrev pub function_data : Names → Tables → ℕ → Data
 function_data names s f =
-    symbol_data (name_data names.functions f) (codes "values") (cells_data s (function_symbol f))
+    symbol_data (name_data names.functions f) (codes "values") (list_data (cells_data s (function_symbol f)))
 
 -- {"name":"node","size":2}
 unfoldable pub sort_data : Names → ℕ → ℕ → Data

@@ -8,7 +8,7 @@ ghost use Rattle.json_outcome.specs.ExecutionData.{takes_along};
 ghost use Rattle.json_outcome.specs.BoundedData.{end_data, part_path, part_data, bound_cause_data};
 ghost use Rattle.json_outcome.specs.BoundedData.{length_data, lengths_data, verdict_data, bounded_members};
 
-use crate::execution::havocs_list;
+use crate::execution::havocs_value;
 use crate::group::{about_value, cause_value, stage_value};
 use crate::structure::structure_value;
 use base::Mem;
@@ -37,11 +37,8 @@ fn takes_value(alloc: Global, checked: &Checked, start: &Structure, part: &Part)
         (λ j. j ≡ takes_along checked.now.names start.now (part_path checked.now part.now) part.now.trace.havoc) }
 {
     match path_at(checked, part.stage, part.trace.path) {
-        None => Ok(JsonList::new(alloc).into_json()),
-        Some(path) => {
-            let list = havocs_list(alloc, checked, start, &path, part.trace.havoc.as_slice())?;
-            Ok(list.into_json())
-        }
+        None => JsonList::new(alloc).into_json(),
+        Some(path) => havocs_value(alloc, checked, start, &path, part.trace.havoc.as_slice()),
     }
 }
 
@@ -71,10 +68,10 @@ fn part_values(alloc: Global, checked: &Checked, start: &Structure, parts: &[Par
     let mut list = JsonList::new(alloc);
     let mut rest = parts;
     while let [part, after @ ..] = rest {
-        list.push(part_value(alloc, checked, start, part))?;
+        list.push(part_value(alloc, checked, start, part));
         rest = after;
     }
-    Ok(list.into_json())
+    list.into_json()
 }
 
 fn bound_cause_value(alloc: Global, cause: &BoundCause) -> Mem<Json>
@@ -149,11 +146,11 @@ fn length_values(alloc: Global, checked: &Checked, lengths: &[Length]) -> Mem<Js
     let mut rest = lengths;
     let mut steps: u64 = 0;
     while let [answer, after @ ..] = rest {
-        list.push(length_value(alloc, checked, steps, answer))?;
+        list.push(length_value(alloc, checked, steps, answer));
         steps += 1;
         rest = after;
     }
-    Ok(list.into_json())
+    list.into_json()
 }
 
 fn verdict_value(alloc: Global, verdict: Verdict) -> Mem<Json>

@@ -1,14 +1,14 @@
 // An execution.
-ghost use Rattle.std.specs.Prelude.{◌≡◌, ◌<◌, ◌++◌, length, IfOk, OnOk};
+ghost use Rattle.std.specs.Prelude.{◌≡◌, ◌<◌, drop, length, IfOk};
 ghost use Rattle.fol_sig.specs.Symbols.{FitsStructure, symbols};
 ghost use Rattle.rml_command.specs.View.{primitive as primitive_view};
 ghost use Rattle.rml_command.specs.Models.{FitsPrimitive, FitsPath};
 ghost use Rattle.rml_command.specs.Goals.{goal_path};
 ghost use Rattle.rml_report.specs.Reports.{IsExecution};
 ghost use Rattle.rml_report.specs.ReportText.{outcome_of};
-ghost use Rattle.json_values.specs.Values.{IsBuiltBy};
+ghost use Rattle.json_values.specs.Values.{IsBuiltBy, IsListedBy, list_data};
 ghost use Rattle.json_outcome.specs.ExecutionData.{element_data, table_data, havoc_data, havocs_data, takes_along};
-ghost use Rattle.json_outcome.specs.ExecutionData.{end_data, end_members, execution_data};
+ghost use Rattle.json_outcome.specs.ExecutionData.{end_data, end_members, first_or_null, execution_data};
 
 use crate::group::name_value;
 use crate::structure::{members_value, structure_value};
@@ -63,50 +63,50 @@ fn push_havoc(
     structure: &Structure,
     primitive: &Primitive,
     havocs: &[Havoc],
-) -> Mem<()>
+)
     requires primitive { FitsPrimitive (symbols model.now.signature) (primitive_view primitive.now) }
     requires structure { FitsStructure (symbols model.now.signature) structure.now }
-    ensures { OnOk result (list.new ≡ list.old
-        ++ havoc_data model.now.names structure.now (primitive_view primitive.now) havocs.now) }
+    ensures { IsListedBy list.old
+        (havoc_data model.now.names structure.now (primitive_view primitive.now) havocs.now) list.new }
 {
     match primitive {
         Primitive::Havoc(variable) => match havocs.first() {
             Some(Havoc::Element(element)) => {
-                list.push(element_value(alloc, model.names(), *variable, *element))
+                list.push(element_value(alloc, model.names(), *variable, *element));
             }
-            _ => Ok(()),
+            _ => {}
         },
         Primitive::HavocRel(rel) => match havocs.first() {
             Some(Havoc::Tuples(tuples)) => {
-                list.push(table_value(alloc, model, structure, *rel, tuples.as_slice()))
+                list.push(table_value(alloc, model, structure, *rel, tuples.as_slice()));
             }
-            _ => Ok(()),
+            _ => {}
         },
-        _ => Ok(()),
+        _ => {}
     }
 }
 
 /// What is told of the steps of a path that is taken from a structure.
 #[tactic(auto, using(std::proofs::Common::append_assoc))]
-pub fn havocs_list(
+pub fn havocs_value(
     alloc: Global,
     checked: &Checked,
     structure: &Structure,
     path: &Path,
     havocs: &[Havoc],
-) -> Mem<JsonList>
+) -> Mem<Json>
     requires path { FitsPath (symbols checked.now.signature) path.now }
     requires structure { FitsStructure (symbols checked.now.signature) structure.now }
-    ensures { IfOk result (λ l. l ≡ havocs_data checked.now.names structure.now path.now havocs.now) }
+    ensures { IfOk result (λ j. j ≡ list_data (havocs_data checked.now.names structure.now path.now havocs.now)) }
 {
     let model = checked.model();
     let mut list = JsonList::new(alloc);
     let mut left = havocs;
     for primitive in path.primitives() {
-        push_havoc(alloc, &mut list, model, structure, primitive, left)?;
+        push_havoc(alloc, &mut list, model, structure, primitive, left);
         left = behind(primitive, left);
     }
-    Ok(list)
+    list.into_json()
 }
 
 // What the havocs of the shown path take.
@@ -116,14 +116,8 @@ fn takes_value(alloc: Global, checked: &Checked, shown: &Counterexample) -> Mem<
         (goal_path checked.now shown.now.goal) shown.now.trace.havoc) }
 {
     let path = checked.path(&shown.goal);
-    let list = havocs_list(
-        alloc,
-        checked,
-        &shown.structure,
-        &path,
-        shown.trace.havoc.as_slice(),
-    )?;
-    Ok(list.into_json())
+    let havocs = shown.trace.havoc.as_slice();
+    havocs_value(alloc, checked, &shown.structure, &path, havocs)
 }
 
 // The structure in which the shown path ends; null where it aborts.
@@ -133,8 +127,32 @@ fn end_value(alloc: Global, checked: &Checked, shown: &Counterexample) -> Mem<Js
 {
     let path = checked.path(&shown.goal);
     match follow(alloc, checked, &path, &shown.trace, &shown.structure)? {
-        Followed::Ended(end) => structure_value(alloc, checked.model(), &end),
+        Followed::Ended(end) => {
+            let value = structure_value(alloc, checked.model(), &end);
+            drop(end);
+            value
+        }
         Followed::Aborted | Followed::Blocked => Ok(Json::null()),
+    }
+}
+
+// The first of them, or null.
+fn first_given(given: &[Json]) -> Mem<Json>
+    ensures { IfOk result (λ j. j ≡ first_or_null given.now) }
+{
+    match given.first() {
+        None => Ok(Json::null()),
+        Some(first) => first.copy(),
+    }
+}
+
+/// Those behind the first.
+pub fn behind_first(given: &[Json]) -> &[Json]
+    ensures { result.now ≡ drop 1 given.now }
+{
+    match given.split_first() {
+        None => given,
+        Some((_, others)) => others,
     }
 }
 
@@ -154,18 +172,18 @@ fn with_ends(
         .with("after", end_value(alloc, checked, shown))
 }
 
-/// An execution. What else is told of it is given, and stands under "branches".
+/// An execution. What else is told of it is the first that is given, or null, and stands under "branches".
 #[tactic(auto, unfolding(crate::specs::ExecutionData::execution_data))]
 pub fn execution_value(
     alloc: Global,
     checked: &Checked,
     shown: &Counterexample,
-    branches: Json,
+    branches: &[Json],
 ) -> Mem<Json>
     requires { IsExecution checked.now shown.now }
-    ensures { IfOk result (λ j. j ≡ execution_data checked.now shown.now branches) }
+    ensures { IfOk result (λ j. j ≡ execution_data checked.now shown.now (first_or_null branches.now)) }
 {
-    let object = ObjectBuilder::new(alloc).with("branches", Ok(branches));
+    let object = ObjectBuilder::new(alloc).with("branches", first_given(branches));
     with_ends(alloc, object, checked, shown)
         .with("takes", takes_value(alloc, checked, shown))
         .with("values", numbers(alloc, shown.values.as_slice()))

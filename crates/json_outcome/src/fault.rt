@@ -2,20 +2,21 @@
 ghost use Rattle.std.specs.Prelude.{◌≡◌, ◌≤◌, length, IfOk};
 ghost use Rattle.json_outcome.specs.FaultData.{code_data, fault_data, faulty_members};
 
-use base::{Mem, push_number, push_text};
+use base::Mem;
 use json_values::{Json, JsonObject, ObjectBuilder};
 use rml_lex::{Fault, FaultCode, place};
 use std::alloc::Global;
+use told_text::Text;
 
 // The letter and the number of a code.
 fn code_value(alloc: Global, code: FaultCode) -> Mem<Json>
     ensures { IfOk result (λ j. j ≡ code_data code) }
 {
-    let mut name = Vec::new(alloc);
-    push_text(&mut name, "F")?;
-    push_number(&mut name, code.number() as u64)?;
-    let value = Json::text(alloc, &name)?;
-    Ok(value)
+    let mut name = Text::new(alloc);
+    name.push_str("F");
+    name.push_number(code.number() as u64);
+    let name = name.into_bytes()?;
+    Json::text(alloc, &name)
 }
 
 #[tactic(auto, unfolding(crate::specs::FaultData::fault_data))]

@@ -1,42 +1,35 @@
 // Names, and what a group is about.
 ghost use Rattle.std.specs.Prelude.{◌≡◌, IfOk};
-ghost use Rattle.rml_report.specs.Words.{name_at};
 ghost use Rattle.json_values.specs.Values.{named_data, IsBuiltBy};
 ghost use Rattle.json_outcome.specs.GroupData.{name_data, stage_data, about_data, cause_data, bound_data, stopped_data};
 ghost use Rattle.json_outcome.specs.GroupData.{least_data, group_members};
 
 use base::Mem;
-use json_values::{Json, ObjectBuilder, counted, kind, named};
+use json_values::{Json, ObjectBuilder, counted, kind};
 use rml_command::{About, Name, Names, Stage};
 use rml_report::{Bound, Cause, Least};
 use std::alloc::Global;
-
-// The bytes of the name of this number; none where there is none.
-fn name_of(names: &[Name], k: u32) -> &[u8]
-    ensures { result.now ≡ name_at names.now k }
-{
-    match names.get(k as usize) {
-        None => &[],
-        Some(name) => name.as_slice(),
-    }
-}
 
 /// The name of this number; the empty text where there is none.
 #[tactic(auto, unfolding(crate::specs::GroupData::name_data))]
 pub fn name_value(alloc: Global, names: &[Name], k: u32) -> Mem<Json>
     ensures { IfOk result (λ j. j ≡ name_data names.now k) }
 {
-    let value = Json::text(alloc, name_of(names, k))?;
-    Ok(value)
+    match names.get(k as usize) {
+        None => Json::text(alloc, "".as_bytes()),
+        Some(name) => Json::text(alloc, name.as_slice()),
+    }
 }
 
 // What something is, and the name of this number.
+#[tactic(auto, unfolding(json_values::specs::Values::named_data))]
 fn named_value(alloc: Global, word: &str, names: &[Name], k: u32) -> Mem<Json>
     ensures { IfOk result (λ j. j ≡ named_data word.now (name_data names.now k)) }
 {
-    let name = name_value(alloc, names, k)?;
-    let value = named(alloc, word, name)?;
-    Ok(value)
+    ObjectBuilder::new(alloc)
+        .with_word("kind", word)
+        .with("name", name_value(alloc, names, k))
+        .into_json()
 }
 
 /// A stage.

@@ -3,12 +3,12 @@ ghost use Rattle.std.specs.Prelude.{◌≡◌, IfOk};
 ghost use Rattle.std.specs.List.{AllByRecursion};
 ghost use Rattle.rml_houdini.specs.HoudiniText.{CanRender};
 ghost use Rattle.json_values.specs.Values.{list_data};
+ghost use Rattle.json_outcome.specs.ExecutionData.{first_or_null};
 ghost use Rattle.json_outcome.specs.HoudiniData.{names_data, dropped_data, drops_data, open_data, unsettled_data};
 ghost use Rattle.json_outcome.specs.HoudiniData.{verdict_data, houdini_members};
 
-use crate::execution::execution_value;
+use crate::execution::{behind_first, execution_value};
 use crate::group::{cause_value, name_value, with_group};
-use crate::report::{behind_first, first_given};
 use base::Mem;
 use json_values::{Json, JsonList, JsonObject, ObjectBuilder};
 use rml_command::{Checked, Goal, Names};
@@ -24,17 +24,22 @@ pub fn names_value(alloc: Global, names: &Names, conjectures: &[u32]) -> Mem<Jso
     let mut list = JsonList::new(alloc);
     let mut rest = conjectures;
     while let [conjecture, after @ ..] = rest {
-        list.push(name_value(alloc, names.conjectures.as_slice(), *conjecture))?;
+        list.push(name_value(alloc, names.conjectures.as_slice(), *conjecture));
         rest = after;
     }
-    Ok(list.into_json())
+    list.into_json()
 }
 
-// A dropped conjecture, and the execution that breaks it.
+// A dropped conjecture, and the execution that breaks it, with the first of what is told of executions.
 #[tactic(auto, unfolding(crate::specs::HoudiniData::dropped_data))]
-fn dropped_value(alloc: Global, checked: &Checked, dropped: &Dropped, branches: Json) -> Mem<Json>
+fn dropped_value(
+    alloc: Global,
+    checked: &Checked,
+    dropped: &Dropped,
+    branches: &[Json],
+) -> Mem<Json>
     requires { CanRender checked.now dropped.now }
-    ensures { IfOk result (λ j. j ≡ dropped_data checked.now dropped.now branches) }
+    ensures { IfOk result (λ j. j ≡ dropped_data checked.now dropped.now (first_or_null branches.now)) }
 {
     let names = checked.model().names();
     let goal = dropped.shown.goal;
@@ -61,12 +66,11 @@ fn drop_values(alloc: Global, checked: &Checked, drops: &[Dropped], branches: &[
     let mut rest = drops;
     let mut given = branches;
     while let [dropped, after @ ..] = rest {
-        let told = first_given(given)?;
-        list.push(dropped_value(alloc, checked, dropped, told))?;
+        list.push(dropped_value(alloc, checked, dropped, given));
         rest = after;
         given = behind_first(given);
     }
-    Ok(list.into_json())
+    list.into_json()
 }
 
 // The goal that is left open.

@@ -34,7 +34,7 @@ fn failing_value(alloc: Global, checked: &Checked, shown: &Counterexample) -> Me
     requires { IsExecution checked.now shown.now }
     ensures { IfOk result (λ j. j ≡ lack_data checked.now (Lack.Fails shown.now)) }
 {
-    let execution = execution_value(alloc, checked, shown, Json::null());
+    let execution = execution_value(alloc, checked, shown, &[]);
     ObjectBuilder::new(alloc)
         .with("execution", execution)
         .with_word("answer", "fails")
@@ -76,10 +76,10 @@ fn need_values(alloc: Global, checked: &Checked, needs: &[Need]) -> Mem<Json>
     let mut list = JsonList::new(alloc);
     let mut rest = needs;
     while let [need, after @ ..] = rest {
-        list.push(need_value(alloc, checked, need))?;
+        list.push(need_value(alloc, checked, need));
         rest = after;
     }
-    Ok(list.into_json())
+    list.into_json()
 }
 
 fn with_carried(
@@ -120,10 +120,10 @@ fn reason_values(alloc: Global, checked: &Checked, reasons: &[Reason]) -> Mem<Js
     let mut list = JsonList::new(alloc);
     let mut rest = reasons;
     while let [reason, after @ ..] = rest {
-        list.push(reason_value(alloc, checked, reason))?;
+        list.push(reason_value(alloc, checked, reason));
         rest = after;
     }
-    Ok(list.into_json())
+    list.into_json()
 }
 
 /// What carries the groups of a model, and which conjectures carry no group but their own.

@@ -1,13 +1,14 @@
 // The report of a check.
-ghost use Rattle.std.specs.Prelude.{◌≡◌, drop, IfOk};
+ghost use Rattle.std.specs.Prelude.{◌≡◌, IfOk};
 ghost use Rattle.std.specs.List.{AllByRecursion};
 ghost use Rattle.rml_report.specs.Reports.{IsRefutation, ShowsRefutation, CanRender};
 ghost use Rattle.json_values.specs.Values.{IsBuiltBy, list_data};
+ghost use Rattle.json_outcome.specs.ExecutionData.{first_or_null};
 ghost use Rattle.json_outcome.specs.ReportData.{failing_members, undecided_members, answer_members, group_data};
-ghost use Rattle.json_outcome.specs.ReportData.{first_or_null, groups_data, open_data};
+ghost use Rattle.json_outcome.specs.ReportData.{groups_data, open_data};
 ghost use Rattle.json_outcome.specs.ReportData.{settled_data, axioms_data, verdict_data, report_members};
 
-use crate::execution::execution_value;
+use crate::execution::{behind_first, execution_value};
 use crate::group::{cause_value, least_value, with_group};
 use base::Mem;
 use json_values::{Json, JsonList, JsonObject, ObjectBuilder};
@@ -23,10 +24,11 @@ fn with_failing(
     paths: u32,
     least: &Least,
     shown: &Counterexample,
-    branches: Json,
+    branches: &[Json],
 ) -> ObjectBuilder
     requires { IsRefutation checked.now shown.now }
-    ensures { IsBuiltBy object (failing_members checked.now paths least.now shown.now branches) result }
+    ensures { IsBuiltBy object
+        (failing_members checked.now paths least.now shown.now (first_or_null branches.now)) result }
 {
     object
         .with(
@@ -54,61 +56,32 @@ fn with_answer(
     object: ObjectBuilder,
     checked: &Checked,
     answer: &Answer,
-    branches: Json,
+    branches: &[Json],
 ) -> ObjectBuilder
     requires { ShowsRefutation checked.now answer.now }
-    ensures { IsBuiltBy object (answer_members checked.now answer.now branches) result }
+    ensures { IsBuiltBy object (answer_members checked.now answer.now (first_or_null branches.now)) result }
 {
     match answer {
-        Answer::Holds => {
-            drop(branches);
-            object.with_word("answer", "holds")
-        }
+        Answer::Holds => object.with_word("answer", "holds"),
         Answer::Fails {
             paths,
             least,
             shown,
         } => with_failing(alloc, object, checked, *paths, least, shown, branches),
-        Answer::Undecided { path, cause } => {
-            drop(branches);
-            with_open(alloc, object, *path, cause)
-        }
+        Answer::Undecided { path, cause } => with_open(alloc, object, *path, cause),
     }
 }
 
-/// A group, with what is told of its execution under "branches".
+// A group, with the first of what is told of executions.
 #[tactic(auto, unfolding(crate::specs::ReportData::group_data))]
-pub fn group_value(alloc: Global, checked: &Checked, group: &Group, branches: Json) -> Mem<Json>
+fn group_value(alloc: Global, checked: &Checked, group: &Group, branches: &[Json]) -> Mem<Json>
     requires { CanRender checked.now group.now }
-    ensures { IfOk result (λ j. j ≡ group_data checked.now group.now branches) }
+    ensures { IfOk result (λ j. j ≡ group_data checked.now group.now (first_or_null branches.now)) }
 {
     let names = checked.model().names();
     let object = ObjectBuilder::new(alloc);
     let object = with_group(alloc, object, names, group.stage, group.about);
     with_answer(alloc, object, checked, &group.answer, branches).into_json()
-}
-
-/// The first of them, or null.
-pub fn first_given(given: &[Json]) -> Mem<Json>
-    ensures { IfOk result (λ j. j ≡ first_or_null given.now) }
-{
-    match given.split_first() {
-        None => Ok(Json::null()),
-        Some((first, _)) => {
-            let copy = first.copy()?;
-            Ok(copy)
-        }
-    }
-}
-
-/// Those behind the first.
-pub fn behind_first(given: &[Json]) -> &[Json]
-    ensures { result.now ≡ drop 1 given.now }
-{
-    match given.split_first() {
-        None => given,
-        Some((_, others)) => others,
-    }
 }
 
 #[tactic(auto, using(std::proofs::Common::append_assoc))]
@@ -120,12 +93,11 @@ fn group_values(alloc: Global, checked: &Checked, groups: &[Group], branches: &[
     let mut rest = groups;
     let mut given = branches;
     while let [group, after @ ..] = rest {
-        let told = first_given(given)?;
-        list.push(group_value(alloc, checked, group, told))?;
+        list.push(group_value(alloc, checked, group, given));
         rest = after;
         given = behind_first(given);
     }
-    Ok(list.into_json())
+    list.into_json()
 }
 
 #[tactic(auto, unfolding(crate::specs::ReportData::settled_data))]

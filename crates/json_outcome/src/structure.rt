@@ -1,10 +1,10 @@
 // A structure.
-ghost use Rattle.std.specs.Prelude.{◌≡◌, ◌<◌, ◌++◌, length, IfOk, OnOk};
+ghost use Rattle.std.specs.Prelude.{◌≡◌, ◌<◌, length, IfOk, IsOkAnd};
 ghost use Rattle.fol_sig.specs.Tables.{IsStructure};
 ghost use Rattle.fol_sig.specs.Symbols.{FitsStructure, symbols};
 ghost use Rattle.fol_sig.specs.SymbolTables.{HasSymbol, IsCell};
 ghost use Rattle.told_states.specs.SymbolText.{relation_symbol};
-ghost use Rattle.json_values.specs.Values.{list_data};
+ghost use Rattle.json_values.specs.Values.{IsListedBy, list_data};
 ghost use Rattle.json_outcome.specs.GroupData.{name_data};
 ghost use Rattle.json_outcome.specs.StructureData.{value_data, cell_data, cells_data, symbol_data, sort_data};
 ghost use Rattle.json_outcome.specs.StructureData.{count_of, item_data, items_data, structure_data};
@@ -44,47 +44,47 @@ fn push_cell(
     structure: &Structure,
     symbol: Symbol,
     tuple: &[u32],
-) -> Mem<()>
+)
     requires { IsCell structure.now symbol tuple.now }
-    ensures { OnOk result (list.new ≡ list.old ++ cell_data structure.now symbol tuple.now) }
+    ensures { IsListedBy list.old (cell_data structure.now symbol tuple.now) list.new }
 {
     match symbol {
         Symbol::Relation(rel) => {
             if structure.rel(rel, tuple) {
-                list.push(numbers(alloc, tuple))?;
+                list.push(numbers(alloc, tuple));
             }
         }
         Symbol::Function(fun) => {
-            list.push(value_at(alloc, tuple, structure.fun(fun, tuple)))?;
+            list.push(value_at(alloc, tuple, structure.fun(fun, tuple)));
         }
     }
-    Ok(())
 }
 
 // What is told of the cells of a symbol.
-fn cells(alloc: Global, structure: &Structure, sizes: &[u32], symbol: Symbol) -> Mem<JsonList>
+fn cells(alloc: Global, structure: &Structure, sizes: &[u32], symbol: Symbol) -> Mem<Json>
     requires whole { IsStructure structure.now }
     requires sizes { sizes.now ≡ structure.now.sizes }
     requires known { HasSymbol structure.now symbol }
-    ensures { IfOk result (λ l. l ≡ cells_data structure.now symbol) }
+    ensures { IfOk result (λ j. j ≡ list_data (cells_data structure.now symbol)) }
 {
-    let mut list = JsonList::new(alloc);
     let sorts = structure.arguments(symbol);
-    for number in 0..tuples(sizes, sorts)? {
+    let count = tuples(sizes, sorts)?;
+    let mut list = JsonList::new(alloc);
+    for number in 0..count {
         let tuple = tuple_of_number(alloc, sizes, sorts, number);
-        push_cell(alloc, &mut list, structure, symbol, tuple.as_slice())?;
+        push_cell(alloc, &mut list, structure, symbol, tuple.as_slice());
+        drop(tuple);
     }
-    Ok(list)
+    list.into_json()
 }
 
 // Adds the tuple, if it is one of the given ones.
-fn push_member(alloc: Global, list: &mut JsonList, given: &[Tuple], tuple: &[u32]) -> Mem<()>
-    ensures { OnOk result (list.new ≡ list.old ++ member_data given.now tuple.now) }
+fn push_member(alloc: Global, list: &mut JsonList, given: &[Tuple], tuple: &[u32])
+    ensures { IsListedBy list.old (member_data given.now tuple.now) list.new }
 {
     if has_tuple(given, tuple) {
-        list.push(numbers(alloc, tuple))?;
+        list.push(numbers(alloc, tuple));
     }
-    Ok(())
 }
 
 /// The given tuples of a relation, each once and in lexicographic order.
@@ -101,12 +101,14 @@ pub fn members_value(
 {
     let sizes = sizes(alloc, model, structure)?;
     let sorts = structure.relation_sorts(rel);
+    let count = tuples(&sizes, sorts)?;
     let mut list = JsonList::new(alloc);
-    for number in 0..tuples(&sizes, sorts)? {
+    for number in 0..count {
         let tuple = tuple_of_number(alloc, &sizes, sorts, number);
-        push_member(alloc, &mut list, given, tuple.as_slice())?;
+        push_member(alloc, &mut list, given, tuple.as_slice());
+        drop(tuple);
     }
-    Ok(list.into_json())
+    list.into_json()
 }
 
 // The symbol of this name and number, with what is told of its cells under the word.
@@ -116,12 +118,12 @@ fn symbol_value(
     names: &[Name],
     number: u32,
     word: &str,
-    cells: JsonList,
+    cells: Mem<Json>,
 ) -> Mem<Json>
-    ensures { IfOk result (λ j. j ≡ symbol_data (name_data names.now number) word.now cells) }
+    ensures { IfOk result (λ j. IsOkAnd cells (λ d. j ≡ symbol_data (name_data names.now number) word.now d)) }
 {
     ObjectBuilder::new(alloc)
-        .with(word, Ok(cells.into_json()))
+        .with(word, cells)
         .with("name", name_value(alloc, names, number))
         .into_json()
 }
@@ -153,11 +155,11 @@ fn item_value(
     match listed {
         Listed::Sorts => sort_value(alloc, names, number, structure.size(Sort(number))),
         Listed::Relations => {
-            let tuples = cells(alloc, structure, sizes, Symbol::Relation(RelId(number)))?;
+            let tuples = cells(alloc, structure, sizes, Symbol::Relation(RelId(number)));
             symbol_value(alloc, names.relations.as_slice(), number, "tuples", tuples)
         }
         Listed::Functions => {
-            let values = cells(alloc, structure, sizes, Symbol::Function(FunId(number)))?;
+            let values = cells(alloc, structure, sizes, Symbol::Function(FunId(number)));
             symbol_value(alloc, names.functions.as_slice(), number, "values", values)
         }
     }
@@ -191,9 +193,9 @@ fn items_value(
     let names = model.names();
     let mut list = JsonList::new(alloc);
     for number in 0..count(model, structure, listed) {
-        list.push(item_value(alloc, names, structure, sizes, listed, number))?;
+        list.push(item_value(alloc, names, structure, sizes, listed, number));
     }
-    Ok(list.into_json())
+    list.into_json()
 }
 
 /// A structure of the model.

@@ -1,4 +1,4 @@
-use Rattle.std.proofs.Common.{◌≡◌, ◌++◌, map, length}
+use Rattle.std.proofs.Common.{◌≡◌, ◌++◌, map, length, IfSome}
 use Rattle.std.specs.List.{AllByRecursion}
 use Rattle.bounded_text.specs.BoundedText.{EndFits}
 use Rattle.json_outcome.specs.BoundedData.{part_data}
@@ -7,7 +7,8 @@ use Rattle.json_outcome.proofs.bounded.part_values.Given as goal
 abbrev pub invariant-loop-rest : goal.invariant-loop-rest
 invariant-loop-rest l = record {
   fit : AllByRecursion (λ part. EndFits l.checked part.end) l.rest;
-  parts : l.list ++ map (part_data l.checked l.start) l.rest ≡ map (part_data l.checked l.start) l.parts;
+  parts : IfSome l.list (λ ds.
+      ds ++ map (part_data l.checked l.start) l.rest ≡ map (part_data l.checked l.start) l.parts);
 }
 
 abbrev pub decreases-loop-rest : goal.decreases-loop-rest

@@ -1,5 +1,5 @@
 -- The values so far, and behind them those of the rest.
-use Rattle.std.proofs.Common.{◌≡◌, ◌++◌, map, length}
+use Rattle.std.proofs.Common.{◌≡◌, ◌++◌, map, length, IfSome}
 use Rattle.std.specs.List.{AllByRecursion}
 use Rattle.model_reasons.specs.Laws.{LackIsShown}
 use Rattle.json_outcome.specs.ReasonsData.{need_data}
@@ -8,7 +8,7 @@ use Rattle.json_outcome.proofs.reasons.need_values.Given as goal
 abbrev pub invariant-loop-rest : goal.invariant-loop-rest
 invariant-loop-rest l = record {
   shown : AllByRecursion (λ n. LackIsShown l.checked n.lack) l.rest;
-  values : l.list ++ map (need_data l.checked) l.rest ≡ map (need_data l.checked) l.needs;
+  values : IfSome l.list (λ ds. ds ++ map (need_data l.checked) l.rest ≡ map (need_data l.checked) l.needs);
 }
 
 abbrev pub decreases-loop-rest : goal.decreases-loop-rest

@@ -3,14 +3,15 @@ use Rattle.std.specs.Prelude.{codes}
 use Rattle.serde_json.specs.Data.{Data, string}
 use Rattle.json_values.specs.Values.{number_data}
 use Rattle.json_outcome.specs.GroupData.{least_data}
-use Rattle.json_outcome.specs.ExecutionData.{execution_data}
+use Rattle.json_outcome.specs.ExecutionData.{first_or_null, execution_data}
 use Rattle.json_outcome.proofs.Built.{joined, given}
 use Rattle.json_outcome.proofs.report.with_failing.Goals as goal
 
 pub returns : goal.returns
 returns c =
     let m = c.args.checked.now in
-    let execution : List ℕ × Data = (codes "execution", execution_data m c.args.shown.now c.args.branches) in
+    let told = first_or_null c.args.branches.now in
+    let execution : List ℕ × Data = (codes "execution", execution_data m c.args.shown.now told) in
     let answer : List ℕ × Data = (codes "answer", string (codes "fails")) in
     let path : List ℕ × Data = (codes "path", number_data c.args.shown.now.trace.path) in
     let paths : List ℕ × Data = (codes "paths", number_data c.args.paths) in

@@ -1,12 +1,12 @@
-use Rattle.std.proofs.Common.{◌≡◌, ◌++◌}
+use Rattle.std.proofs.Common.{◌≡◌, ◌++◌, IfSome}
 use Rattle.fol_sig.specs.Symbols.{symbols}
 use Rattle.rml_command.specs.Models.{FitsPath}
 use Rattle.json_outcome.specs.ExecutionData.{havocs_data}
-use Rattle.json_outcome.proofs.execution.havocs_list.Given as goal
+use Rattle.json_outcome.proofs.execution.havocs_value.Given as goal
 
 abbrev pub invariant-loop-primitive : goal.invariant-loop-primitive
 invariant-loop-primitive l = record {
   fits : FitsPath (symbols l.checked.signature) l.primitive-iterator;
-  list : l.list ++ havocs_data l.checked.names l.structure l.primitive-iterator l.left
-      ≡ havocs_data l.checked.names l.structure l.path l.havocs;
+  list : IfSome l.list (λ ds. ds ++ havocs_data l.checked.names l.structure l.primitive-iterator l.left
+      ≡ havocs_data l.checked.names l.structure l.path l.havocs);
 }
