@@ -1,4 +1,5 @@
 pub mod NodeText
 pub mod EdgeText
+pub mod RowText
 pub mod GraphText
 pub mod AnswerGraphs

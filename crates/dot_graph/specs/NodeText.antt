@@ -1,6 +1,6 @@
 -- The nodes of a picture: the elements of a structure, in a frame for each sort, with what is so of each alone. All is
 -- drawn of a structure beside another one, and in red where the other one differs.
-use Rattle.std.specs.Prelude.{ℕ, ◌==◌, Bool, true, false, not, ◌&&◌, if◌then◌else◌, List, [], ◌∷◌, ◌++◌, length}
+use Rattle.std.specs.Prelude.{ℕ, ◌==◌, Bool, true, false, ◌&&◌, if◌then◌else◌, List, [], ◌∷◌, ◌++◌, length}
 use Rattle.std.specs.Prelude.{codes}
 use Rattle.std.specs.List.{flat_map}
 use Rattle.std.specs.Fmt.{decimal}
@@ -17,14 +17,10 @@ use Rattle.fol_sig.specs.declared.symbol.Symbol.TheVariants as symbol
 unfoldable pub node_id : List ℕ → ℕ → ℕ → List ℕ
 node_id letter k x = letter ++ decimal k ++ codes "_" ++ decimal x
 
--- a line of a node's label, red or not
-abbrev pub mark_text : List ℕ → Bool → List ℕ
-mark_text name true = labelled (codes "<br/><font color='red'>") name (codes "</font>")
-mark_text name false = labelled (codes "<br/>") name (codes "")
-
--- what is so here has a mark, red where it is not so there
+-- what is so here has a line of the node's label, red where it is not so there
 abbrev pub so_text : List ℕ → Bool → Bool → List ℕ
-so_text name true there = mark_text name (not there)
+so_text name true true = labelled (codes "<br/>") name (codes "")
+so_text name true false = labelled (codes "<br/><font color='red'>") name (codes "</font>")
 so_text name false there = []
 
 -- the one sort of these is k
@@ -65,14 +61,11 @@ node_line letter names s t k x =
     codes "      " ++ node_id letter k x ++ codes " [label=<" ++ element_text names k x ++ marks_text names s t k x
     ++ codes ">];\n"
 
--- the sort's name, as the title of its frame
-unfoldable pub frame_title : Names → ℕ → List ℕ
-frame_title names k = labelled (codes "      label=<") (name_at names.sorts k) (codes ">;\n")
-
--- what a sort's frame begins with
+-- what a sort's frame begins with: its title is the sort's name
 unfoldable pub frame_head : List ℕ → Names → ℕ → List ℕ
 frame_head letter names k =
-    codes "    subgraph cluster_" ++ letter ++ decimal k ++ codes " {\n" ++ frame_title names k
+    codes "    subgraph cluster_" ++ letter ++ decimal k
+    ++ labelled (codes " {\n      label=<") (name_at names.sorts k) (codes ">;\n")
 
 -- the elements of a sort
 unfoldable pub sort_frame : List ℕ → Names → Tables → Tables → ℕ → List ℕ

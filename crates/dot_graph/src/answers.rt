@@ -1,8 +1,9 @@
 // The graphs of what is answered: of a report, of what is dropped, and of a run.
-ghost use Rattle.std.specs.Prelude.{◌≡◌, ◌++◌, OnOk, IfOk};
+ghost use Rattle.std.specs.Prelude.{◌≡◌, IfOk};
 ghost use Rattle.std.specs.List.{AllByRecursion};
 ghost use Rattle.rml_report.specs.Reports.{CanRender};
 ghost use Rattle.rml_houdini.specs.HoudiniText as dropping;
+ghost use Rattle.told_text.specs.Written.{Wrote};
 ghost use Rattle.bounded_text.specs.BoundedText.{EndFits, CanShow};
 ghost use Rattle.dot_graph.specs.AnswerGraphs.{group_graph, group_graphs, drop_graphs};
 ghost use Rattle.dot_graph.specs.AnswerGraphs.{end_graph, part_graphs, run_graphs};
@@ -12,22 +13,18 @@ use base::Mem;
 use rml_bmc::{Part, Run};
 use rml_command::Checked;
 use rml_houdini::Dropped;
-use rml_report::{Answer, Group, push_stage};
+use rml_report::{Answer, Group};
 use std::alloc::Global;
+use told_states::push_stage;
+use told_text::Text;
 
 // A group that fails.
-fn push_group(
-    alloc: Global,
-    out: &mut Vec<u8>,
-    number: u64,
-    checked: &Checked,
-    group: &Group,
-) -> Mem<()>
+fn push_group(alloc: Global, out: &mut Text, number: u64, checked: &Checked, group: &Group)
     requires { CanRender checked.now group.now }
-    ensures { OnOk result (out.new.items ≡ out.old.items ++ group_graph number checked.now group.now.answer) }
+    ensures { Wrote out.old out.new (group_graph number checked.now group.now.answer) }
 {
     match &group.answer {
-        Answer::Holds | Answer::Undecided { .. } => Ok(()),
+        Answer::Holds | Answer::Undecided { .. } => {}
         Answer::Fails {
             paths: _,
             least: _,
@@ -44,15 +41,15 @@ pub fn report_graphs(alloc: Global, checked: &Checked, groups: &[Group]) -> Mem<
 {
     // That their number is one of 63 bits is known where it is looked at.
     let _count = groups.len();
-    let mut out = Vec::new(alloc);
+    let mut out = Text::new(alloc);
     let mut number: u64 = 1;
     let mut rest = groups;
     while let [group, after @ ..] = rest {
-        push_group(alloc, &mut out, number, checked, group)?;
+        push_group(alloc, &mut out, number, checked, group);
         number += 1;
         rest = after;
     }
-    Ok(out)
+    out.into_bytes()
 }
 
 /// The executions that break the conjectures that were dropped. Each has the number of its drop, from 1.
@@ -63,55 +60,47 @@ pub fn drops_graphs(alloc: Global, checked: &Checked, drops: &[Dropped]) -> Mem<
 {
     // That their number is one of 63 bits is known where it is looked at.
     let _count = drops.len();
-    let mut out = Vec::new(alloc);
+    let mut out = Text::new(alloc);
     let mut number: u64 = 1;
     let mut rest = drops;
     while let [drop, after @ ..] = rest {
-        push_counterexample_graph(alloc, &mut out, number, checked, &drop.shown)?;
+        push_counterexample_graph(alloc, &mut out, number, checked, &drop.shown);
         number += 1;
         rest = after;
     }
-    Ok(out)
+    out.into_bytes()
 }
 
 // Where a part ends.
-fn push_end(
-    alloc: Global,
-    out: &mut Vec<u8>,
-    number: u64,
-    checked: &Checked,
-    part: &Part,
-) -> Mem<()>
+fn push_end(alloc: Global, out: &mut Text, number: u64, checked: &Checked, part: &Part)
     requires { EndFits checked.now part.now.end }
-    ensures { OnOk result (out.new.items ≡ out.old.items
-        ++ end_graph number checked.now.names part.now.stage part.now.end) }
+    ensures { Wrote out.old out.new (end_graph number checked.now.names part.now.stage part.now.end) }
 {
     match &part.end {
-        None => Ok(()),
+        None => {}
         Some(end) => {
-            let mut title = Vec::new(alloc);
-            push_stage(&mut title, checked.model().names(), part.stage)?;
-            push_state_graph(alloc, out, number, &title, checked.model(), end)?;
-            Ok(())
+            let mut title = Text::new(alloc);
+            push_stage(&mut title, checked.model().names(), part.stage);
+            out.needs(&title);
+            push_state_graph(alloc, out, number, title.as_bytes(), checked.model(), end);
         }
     }
 }
 
 #[tactic(auto, using(std::proofs::Common::append_assoc))]
-fn push_ends(alloc: Global, out: &mut Vec<u8>, checked: &Checked, parts: &[Part]) -> Mem<()>
+fn push_ends(alloc: Global, out: &mut Text, checked: &Checked, parts: &[Part])
     requires { AllByRecursion (λ part. EndFits checked.now part.end) parts.now }
-    ensures { OnOk result (out.new.items ≡ out.old.items ++ part_graphs 1 checked.now parts.now) }
+    ensures { Wrote out.old out.new (part_graphs 1 checked.now parts.now) }
 {
     // That their number is one of 63 bits is known where it is looked at.
     let _count = parts.len();
     let mut number: u64 = 1;
     let mut rest = parts;
     while let [part, after @ ..] = rest {
-        push_end(alloc, out, number, checked, part)?;
+        push_end(alloc, out, number, checked, part);
         number += 1;
         rest = after;
     }
-    Ok(())
 }
 
 /// The states of a run: its start, and the end of each part under the stage that leads there.
@@ -120,15 +109,9 @@ pub fn run_graphs(alloc: Global, checked: &Checked, run: &Run) -> Mem<Vec<u8>>
     requires { CanShow checked.now run.now }
     ensures { IfOk result (λ text. text.items ≡ run_graphs checked.now run.now) }
 {
-    let mut out = Vec::new(alloc);
-    push_state_graph(
-        alloc,
-        &mut out,
-        0,
-        "start".as_bytes(),
-        checked.model(),
-        &run.start,
-    )?;
-    push_ends(alloc, &mut out, checked, run.parts.as_slice())?;
-    Ok(out)
+    let model = checked.model();
+    let mut out = Text::new(alloc);
+    push_state_graph(alloc, &mut out, 0, "start".as_bytes(), model, &run.start);
+    push_ends(alloc, &mut out, checked, run.parts.as_slice());
+    out.into_bytes()
 }

@@ -1,170 +1,153 @@
 // Whole pictures.
-ghost use Rattle.std.specs.Prelude.{◌≡◌, ◌++◌, OnOk, IfOk};
+ghost use Rattle.std.specs.Prelude.{◌≡◌};
 ghost use Rattle.fol_sig.specs.Symbols.{FitsStructure, symbols};
 ghost use Rattle.rml_report.specs.Reports.{IsExecution};
-ghost use Rattle.rml_report.specs.ReportText.{head_text};
+ghost use Rattle.told_text.specs.Written.{Wrote};
 ghost use Rattle.told_states.specs.Alike.{AreAlike};
-ghost use Rattle.dot_graph.specs.GraphText.{side_head, side_point, side_text, graph_head, step_graph, state_graph};
-ghost use Rattle.dot_graph.specs.GraphText.{graph_title, counterexample_graph};
+ghost use Rattle.dot_graph.specs.GraphText.{side_head, side_text, graph_head, step_graph, state_graph};
+ghost use Rattle.dot_graph.specs.GraphText.{execution_graph, counterexample_graph};
 
 use crate::edges::push_edges;
-use crate::lines::push_bytes;
 use crate::nodes::push_frames;
-use base::{Mem, push_number, push_text};
 use fol_sig::Structure;
-use rml_command::{Checked, Goal, Model, Names};
+use rml_command::{Checked, Model};
 use rml_exec::{Counterexample, Followed, follow};
-use rml_report::push_head;
 use std::alloc::Global;
-use told_states::end_law;
+use told_states::{end_law, push_head};
+use told_text::Text;
 
+// The frame of a structure and its title. The point in it is not seen, but a frame with nothing in it is not drawn.
 #[tactic(auto, using(std::proofs::Common::append_assoc), unfolding(crate::specs::GraphText::side_head))]
-fn push_side_head(out: &mut Vec<u8>, letter: &str, title: &[u8]) -> Mem<()>
-    ensures { OnOk result (out.new.items ≡ out.old.items ++ side_head letter.now title.now) }
+fn push_side_head(out: &mut Text, letter: &str, title: &[u8])
+    ensures { Wrote out.old out.new (side_head letter.now title.now) }
 {
-    push_text(out, "  subgraph cluster_")?;
-    push_text(out, letter)?;
-    push_text(out, " {\n")?;
-    push_text(out, "    label=<")?;
-    push_bytes(out, title)?;
-    push_text(out, ">;\n")?;
-    Ok(())
-}
-
-// A point that is not seen, so that a frame with nothing in it is drawn.
-#[tactic(auto, using(std::proofs::Common::append_assoc), unfolding(crate::specs::GraphText::side_point))]
-fn push_side_point(out: &mut Vec<u8>, letter: &str) -> Mem<()>
-    ensures { OnOk result (out.new.items ≡ out.old.items ++ side_point letter.now) }
-{
-    push_text(out, "    ")?;
-    push_text(out, letter)?;
-    push_text(out, " [shape=point, style=invis];\n")?;
-    Ok(())
+    out.push_str("  subgraph cluster_");
+    out.push_str(letter);
+    out.push_str(" {\n    label=<");
+    out.push_bytes(title);
+    out.push_str(">;\n    ");
+    out.push_str(letter);
+    out.push_str(" [shape=point, style=invis];\n");
 }
 
 // A structure, with what differs from the other one in red.
 #[tactic(auto, using(std::proofs::Common::append_assoc), unfolding(crate::specs::GraphText::side_text))]
 fn push_side(
     alloc: Global,
-    out: &mut Vec<u8>,
+    out: &mut Text,
     letter: &str,
     title: &[u8],
     model: &Model,
     now: &Structure,
     other: &Structure,
-) -> Mem<()>
+)
     requires structure { FitsStructure (symbols model.now.signature) now.now }
     requires alike { AreAlike now.now other.now }
-    ensures { OnOk result (out.new.items ≡ out.old.items
-        ++ side_text letter.now title.now model.now.names now.now other.now) }
+    ensures { Wrote out.old out.new (side_text letter.now title.now model.now.names now.now other.now) }
 {
-    push_side_head(out, letter, title)?;
-    push_side_point(out, letter)?;
-    push_frames(alloc, out, letter, model, now, other)?;
-    push_edges(alloc, out, letter, model, now, other)?;
-    push_text(out, "  }\n")?;
-    Ok(())
+    push_side_head(out, letter, title);
+    push_frames(alloc, out, letter, model, now, other);
+    push_edges(alloc, out, letter, model, now, other);
+    out.push_str("  }\n");
 }
 
 // The name of a graph.
 #[tactic(auto, using(std::proofs::Common::append_assoc), unfolding(crate::specs::GraphText::graph_head))]
-fn push_graph_head(out: &mut Vec<u8>, word: &str, number: u64) -> Mem<()>
-    ensures { OnOk result (out.new.items ≡ out.old.items ++ graph_head word.now number) }
+fn push_graph_head(out: &mut Text, word: &str, number: u64)
+    ensures { Wrote out.old out.new (graph_head word.now number) }
 {
-    push_text(out, "digraph ")?;
-    push_text(out, word)?;
-    push_number(out, number)?;
-    push_text(out, " {\n")?;
-    Ok(())
-}
-
-// What stands above a picture.
-#[tactic(auto, using(std::proofs::Common::append_assoc), unfolding(crate::specs::GraphText::graph_title))]
-fn push_graph_title(out: &mut Vec<u8>, title: &[u8]) -> Mem<()>
-    ensures { OnOk result (out.new.items ≡ out.old.items ++ graph_title title.now) }
-{
-    push_text(out, "  label=<")?;
-    push_bytes(out, title)?;
-    push_text(out, ">;\n")?;
-    push_text(out, "  labelloc=t;\n")?;
-    Ok(())
+    out.push_str("digraph ");
+    out.push_str(word);
+    out.push_number(number);
+    out.push_str(" {\n");
 }
 
 /// Adds the picture of a step under a title: the structure before beside the one after.
 #[tactic(auto, using(std::proofs::Common::append_assoc), unfolding(crate::specs::GraphText::step_graph))]
 pub fn push_step_graph(
     alloc: Global,
-    out: &mut Vec<u8>,
+    out: &mut Text,
     number: u64,
     title: &[u8],
     model: &Model,
     before: &Structure,
     after: &Structure,
-) -> Mem<()>
+)
     requires before { FitsStructure (symbols model.now.signature) before.now }
     requires after { FitsStructure (symbols model.now.signature) after.now }
     requires sizes { after.now.sizes ≡ before.now.sizes }
-    ensures { OnOk result (out.new.items ≡ out.old.items
-        ++ step_graph number title.now model.now.names before.now after.now) }
+    ensures { Wrote out.old out.new (step_graph number title.now model.now.names before.now after.now) }
 {
-    push_graph_head(out, "step", number)?;
-    push_graph_title(out, title)?;
-    push_side(alloc, out, "b", "before".as_bytes(), model, before, after)?;
-    push_side(alloc, out, "a", "after".as_bytes(), model, after, before)?;
-    push_text(out, "}\n")?;
-    Ok(())
+    push_graph_head(out, "step", number);
+    out.push_str("  label=<");
+    out.push_bytes(title);
+    out.push_str(">;\n  labelloc=t;\n");
+    push_side(alloc, out, "b", "before".as_bytes(), model, before, after);
+    push_side(alloc, out, "a", "after".as_bytes(), model, after, before);
+    out.push_str("}\n");
 }
 
 /// Adds the picture of a state, under a title.
 #[tactic(auto, using(std::proofs::Common::append_assoc), unfolding(crate::specs::GraphText::state_graph))]
 pub fn push_state_graph(
     alloc: Global,
-    out: &mut Vec<u8>,
+    out: &mut Text,
     number: u64,
     title: &[u8],
     model: &Model,
     structure: &Structure,
-) -> Mem<()>
+)
     requires { FitsStructure (symbols model.now.signature) structure.now }
-    ensures { OnOk result (out.new.items ≡ out.old.items
-        ++ state_graph number title.now model.now.names structure.now) }
+    ensures { Wrote out.old out.new (state_graph number title.now model.now.names structure.now) }
 {
-    push_graph_head(out, "state", number)?;
-    push_side(alloc, out, "s", title, model, structure, structure)?;
-    push_text(out, "}\n")?;
-    Ok(())
+    push_graph_head(out, "state", number);
+    push_side(alloc, out, "s", title, model, structure, structure);
+    out.push_str("}\n");
 }
 
-// What an execution is a counterexample of.
-fn title(alloc: Global, names: &Names, goal: &Goal) -> Mem<Vec<u8>>
-    ensures { IfOk result (λ text. text.items ≡ head_text names.now goal.now.stage goal.now.about) }
+// The picture of an execution under a title: its step, or where it aborts the state in which it begins.
+fn push_execution_graph(
+    alloc: Global,
+    out: &mut Text,
+    number: u64,
+    title: &[u8],
+    checked: &Checked,
+    shown: &Counterexample,
+)
+    requires { IsExecution checked.now shown.now }
+    ensures { Wrote out.old out.new (execution_graph number title.now checked.now shown.now) }
 {
-    let mut text = Vec::new(alloc);
-    push_head(&mut text, names, goal.stage, goal.about)?;
-    Ok(text)
+    end_law();
+    let model = checked.model();
+    let path = checked.path(&shown.goal);
+    let before = &shown.structure;
+    match follow(alloc, checked, &path, &shown.trace, before) {
+        Err(_) => out.want(),
+        Ok(Followed::Ended(end)) => {
+            push_step_graph(alloc, out, number, title, model, before, &end);
+            drop(end);
+        }
+        Ok(Followed::Aborted | Followed::Blocked) => {
+            push_state_graph(alloc, out, number, title, model, before);
+        }
+    }
 }
 
 /// Adds the picture of a counterexample, under what it is one of: its step, or where it aborts the state in which it
 /// begins.
 pub fn push_counterexample_graph(
     alloc: Global,
-    out: &mut Vec<u8>,
+    out: &mut Text,
     number: u64,
     checked: &Checked,
     shown: &Counterexample,
-) -> Mem<()>
+)
     requires { IsExecution checked.now shown.now }
-    ensures { OnOk result (out.new.items ≡ out.old.items ++ counterexample_graph number checked.now shown.now) }
+    ensures { Wrote out.old out.new (counterexample_graph number checked.now shown.now) }
 {
-    end_law();
-    let model = checked.model();
-    let title = title(alloc, model.names(), &shown.goal)?;
-    let path = checked.path(&shown.goal);
-    let before = &shown.structure;
-    match follow(alloc, checked, &path, &shown.trace, before)? {
-        Followed::Ended(end) => push_step_graph(alloc, out, number, &title, model, before, &end),
-        Followed::Aborted | Followed::Blocked => push_state_graph(
-            alloc, out, number, &title, model, before,
-        ),
-    }
+    let mut title = Text::new(alloc);
+    let names = checked.model().names();
+    push_head(&mut title, names, shown.goal.stage, shown.goal.about);
+    out.needs(&title);
+    push_execution_graph(alloc, out, number, title.as_bytes(), checked, shown);
 }

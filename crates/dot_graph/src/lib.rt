@@ -12,6 +12,6 @@ mod edges;
 mod graphs;
 mod lines;
 mod nodes;
+mod row;
 
 pub use answers::{drops_graphs, report_graphs, run_graphs};
-pub use graphs::{push_counterexample_graph, push_state_graph, push_step_graph};

@@ -1,125 +1,139 @@
 // The lines of nodes and edges.
-ghost use Rattle.std.specs.Prelude.{◌≡◌, ◌+◌, ◌<◌, ◌^◌, ◌++◌, length, decimal, OnOk, IfOk};
+ghost use Rattle.std.specs.Prelude.{◌+◌, ◌<◌, ◌^◌, length};
 ghost use Rattle.fol_sig.specs.Tables.{numbers};
+ghost use Rattle.told_text.specs.Written.{Wrote};
+ghost use Rattle.told_states.specs.SymbolText.{symbol_name};
 ghost use Rattle.dot_graph.specs.NodeText.{node_id};
-ghost use Rattle.dot_graph.specs.EdgeText.{colour_text, edge_line, small_node, place_edges, hub_text, pair_text};
-ghost use Rattle.dot_graph.specs.EdgeText.{tuple_text, digits_text};
+ghost use Rattle.dot_graph.specs.EdgeText.{digits_text, symbol_id, hub_id, colour_text, edge_line, small_node};
+ghost use Rattle.dot_graph.specs.RowText.{node_of, label_of, row_edge, row_node, row_places, row_hub, row_text};
 
-use base::{Mem, push_number, push_text};
-use fol_sig::Sort;
-use std::alloc::Global;
-
-/// Adds bytes.
-pub fn push_bytes(out: &mut Vec<u8>, bytes: &[u8]) -> Mem<()>
-    ensures { OnOk result (out.new.items ≡ out.old.items ++ bytes.now) }
-{
-    out.extend_from_slice(bytes)
-}
+use crate::row::{Label, Node, Row};
+use fol_sig::{Sort, Symbol};
+use told_states::push_symbol;
+use told_text::Text;
 
 /// Adds the node of an element.
 #[tactic(auto, using(std::proofs::Common::append_assoc), unfolding(crate::specs::NodeText::node_id))]
-pub fn push_node_id(out: &mut Vec<u8>, letter: &str, sort: Sort, element: u32) -> Mem<()>
-    ensures { OnOk result (out.new.items ≡ out.old.items ++ node_id letter.now sort.0 element) }
+pub fn push_node_id(out: &mut Text, letter: &str, sort: Sort, element: u32)
+    ensures { Wrote out.old out.new (node_id letter.now sort.0 element) }
 {
-    push_text(out, letter)?;
-    push_number(out, sort.0 as u64)?;
-    push_text(out, "_")?;
-    push_number(out, element as u64)?;
-    Ok(())
+    out.push_str(letter);
+    out.push_number(sort.0 as u64);
+    out.push_str("_");
+    out.push_number(element as u64);
 }
 
-fn node(alloc: Global, letter: &str, sort: Sort, element: u32) -> Mem<Vec<u8>>
-    ensures { IfOk result (λ id. id.items ≡ node_id letter.now sort.0 element) }
+// Adds the numbers, each behind a line.
+#[tactic(auto, using(std::proofs::Common::append_assoc), unfolding(crate::specs::EdgeText::digits_text))]
+fn push_digits(out: &mut Text, elements: &[u32])
+    ensures { Wrote out.old out.new (digits_text elements.now) }
 {
-    let mut id = Vec::new(alloc);
-    push_node_id(&mut id, letter, sort, element)?;
-    Ok(id)
+    let mut rest = elements;
+    while let [element, after @ ..] = rest {
+        out.push_str("_");
+        out.push_number(*element as u64);
+        rest = after;
+    }
+}
+
+#[tactic(auto, using(std::proofs::Common::append_assoc))]
+fn push_symbol_id(out: &mut Text, symbol: Symbol)
+    ensures { Wrote out.old out.new (symbol_id symbol) }
+{
+    match symbol {
+        Symbol::Relation(rel) => {
+            out.push_str("r");
+            out.push_number(rel.0 as u64);
+        }
+        Symbol::Function(fun) => {
+            out.push_str("f");
+            out.push_number(fun.0 as u64);
+        }
+    }
+}
+
+// Adds the small node of a tuple.
+#[tactic(auto, using(std::proofs::Common::append_assoc), unfolding(crate::specs::EdgeText::hub_id))]
+fn push_hub_id(out: &mut Text, row: &Row)
+    ensures { Wrote out.old out.new (hub_id row.now.letter.now row.now.symbol row.now.at.now) }
+{
+    out.push_str(row.letter);
+    push_symbol_id(out, row.symbol);
+    push_digits(out, row.at);
+}
+
+fn push_node(out: &mut Text, row: &Row, node: Node)
+    ensures { Wrote out.old out.new (node_of row.now.letter.now row.now.symbol row.now.at.now node) }
+{
+    match node {
+        Node::Hub => push_hub_id(out, row),
+        Node::Element(sort, element) => push_node_id(out, row.letter, sort, element),
+    }
+}
+
+fn push_label(out: &mut Text, row: &Row, label: Label)
+    ensures { Wrote out.old out.new (label_of row.now.names.now row.now.symbol label) }
+{
+    match label {
+        Label::Name => push_symbol(out, row.names, row.symbol),
+        Label::Place(place) => out.push_number(place),
+    }
 }
 
 #[tactic(auto, unfolding(crate::specs::EdgeText::colour_text))]
-fn push_colour(out: &mut Vec<u8>, changed: bool) -> Mem<()>
-    ensures { OnOk result (out.new.items ≡ out.old.items ++ colour_text changed) }
+fn push_colour(out: &mut Text, changed: bool)
+    ensures { Wrote out.old out.new (colour_text changed) }
 {
     if changed {
-        push_text(out, "color=red, fontcolor=red, ")
-    } else {
-        Ok(())
+        out.push_str("color=red, fontcolor=red, ");
     }
 }
 
 #[tactic(auto, using(std::proofs::Common::append_assoc), unfolding(crate::specs::EdgeText::edge_line))]
-fn push_edge(out: &mut Vec<u8>, a: &[u8], b: &[u8], name: &[u8], changed: bool) -> Mem<()>
-    ensures { OnOk result (out.new.items ≡ out.old.items ++ edge_line a.now b.now name.now changed) }
+fn push_edge(out: &mut Text, row: &Row, from: Node, to: Node, label: Label)
+    ensures { Wrote out.old out.new
+        (row_edge row.now.letter.now row.now.names.now row.now.symbol row.now.at.now row.now.changed from to label) }
 {
-    push_text(out, "    ")?;
-    push_bytes(out, a)?;
-    push_text(out, " -> ")?;
-    push_bytes(out, b)?;
-    push_text(out, " [")?;
-    push_colour(out, changed)?;
-    push_text(out, "label=<")?;
-    push_bytes(out, name)?;
-    push_text(out, ">];\n")?;
-    Ok(())
+    out.push_str("    ");
+    push_node(out, row, from);
+    out.push_str(" -> ");
+    push_node(out, row, to);
+    out.push_str(" [");
+    push_colour(out, row.changed);
+    out.push_str("label=<");
+    push_label(out, row, label);
+    out.push_str(">];\n");
 }
 
 #[tactic(auto, using(std::proofs::Common::append_assoc), unfolding(crate::specs::EdgeText::small_node))]
-fn push_small_node(out: &mut Vec<u8>, id: &[u8], name: &[u8], changed: bool) -> Mem<()>
-    ensures { OnOk result (out.new.items ≡ out.old.items ++ small_node id.now name.now changed) }
+fn push_small_node(out: &mut Text, row: &Row)
+    ensures { Wrote out.old out.new
+        (row_node row.now.letter.now row.now.names.now row.now.symbol row.now.at.now row.now.changed) }
 {
-    push_text(out, "    ")?;
-    push_bytes(out, id)?;
-    push_text(out, " [")?;
-    push_colour(out, changed)?;
-    push_text(out, "shape=box, label=<")?;
-    push_bytes(out, name)?;
-    push_text(out, ">];\n")?;
-    Ok(())
+    out.push_str("    ");
+    push_hub_id(out, row);
+    out.push_str(" [");
+    push_colour(out, row.changed);
+    out.push_str("shape=box, label=<");
+    push_symbol(out, row.names, row.symbol);
+    out.push_str(">];\n");
 }
 
-// An edge to the element at this place of a tuple.
-fn push_place(
-    alloc: Global,
-    out: &mut Vec<u8>,
-    id: &[u8],
-    to: &[u8],
-    place: u64,
-    changed: bool,
-) -> Mem<()>
-    ensures { OnOk result (out.new.items ≡ out.old.items ++ edge_line id.now to.now (decimal place) changed) }
-{
-    let mut name = Vec::new(alloc);
-    push_number(&mut name, place)?;
-    push_edge(out, id, to, &name, changed)?;
-    Ok(())
-}
-
-// An edge to each element, the places from this one on.
+// An edge from the small node to each element, the places from this one on.
 #[tactic(auto, using(std::proofs::Common::append_assoc), unfolding(crate::specs::EdgeText::place_edges))]
-fn push_places(
-    alloc: Global,
-    out: &mut Vec<u8>,
-    letter: &str,
-    id: &[u8],
-    place: u64,
-    sorts: &[Sort],
-    tuple: &[u32],
-    changed: bool,
-) -> Mem<()>
+fn push_places(out: &mut Text, row: &Row, place: u64, sorts: &[Sort], tuple: &[u32])
     requires { place + length sorts.now < 2 ^ 64 }
-    ensures { OnOk result (out.new.items ≡ out.old.items
-        ++ place_edges letter.now id.now place (numbers sorts.now) tuple.now changed) }
+    ensures { Wrote out.old out.new (row_places row.now.letter.now row.now.symbol row.now.at.now row.now.changed
+        place (numbers sorts.now) tuple.now) }
 {
     match sorts.split_first() {
-        None => Ok(()),
-        Some((sort, sorts)) => match tuple.split_first() {
-            None => Ok(()),
+        None => {}
+        Some((sort, later)) => match tuple.split_first() {
+            None => {}
             Some((element, others)) => {
-                let to = node(alloc, letter, *sort, *element)?;
-                push_place(alloc, out, id, &to, place, changed)?;
-                drop(to);
-                push_places(alloc, out, letter, id, place + 1, sorts, others, changed)?;
-                Ok(())
+                let to = Node::Element(*sort, *element);
+                push_edge(out, row, Node::Hub, to, Label::Place(place));
+                push_places(out, row, place + 1, later, others);
             }
         },
     }
@@ -127,90 +141,39 @@ fn push_places(
 
 // A small node, and an edge to each element.
 #[tactic(auto, using(std::proofs::Common::append_assoc), unfolding(crate::specs::EdgeText::hub_text))]
-fn push_hub(
-    alloc: Global,
-    out: &mut Vec<u8>,
-    letter: &str,
-    id: &[u8],
-    name: &[u8],
-    sorts: &[Sort],
-    tuple: &[u32],
-    changed: bool,
-) -> Mem<()>
-    ensures { OnOk result (out.new.items ≡ out.old.items
-        ++ hub_text letter.now id.now name.now (numbers sorts.now) tuple.now changed) }
+fn push_hub(out: &mut Text, row: &Row, sorts: &[Sort], tuple: &[u32])
+    ensures { Wrote out.old out.new (row_hub row.now.letter.now row.now.names.now row.now.symbol row.now.at.now
+        row.now.changed (numbers sorts.now) tuple.now) }
 {
     // That their number is one of 63 bits is known where it is looked at.
     let _count = sorts.len();
-    push_small_node(out, id, name, changed)?;
-    push_places(alloc, out, letter, id, 1, sorts, tuple, changed)?;
-    Ok(())
+    push_small_node(out, row);
+    push_places(out, row, 1, sorts, tuple);
 }
 
-// An edge from one element to another.
-fn push_arrow(
-    alloc: Global,
-    out: &mut Vec<u8>,
-    letter: &str,
-    name: &[u8],
-    from: (Sort, u32),
-    to: (Sort, u32),
-    changed: bool,
-) -> Mem<()>
-    ensures { OnOk result (out.new.items ≡ out.old.items
-        ++ edge_line (node_id letter.now from.0.0 from.1) (node_id letter.now to.0.0 to.1) name.now changed) }
-{
-    let start = node(alloc, letter, from.0, from.1)?;
-    let end = node(alloc, letter, to.0, to.1)?;
-    push_edge(out, &start, &end, name, changed)?;
-    Ok(())
-}
-
-/// Adds what is drawn of a tuple.
-pub fn push_tuple(
-    alloc: Global,
-    out: &mut Vec<u8>,
-    letter: &str,
-    id: &[u8],
-    name: &[u8],
-    sorts: &[Sort],
-    tuple: &[u32],
-    changed: bool,
-) -> Mem<()>
-    ensures { OnOk result (out.new.items ≡ out.old.items
-        ++ tuple_text letter.now id.now name.now (numbers sorts.now) tuple.now changed) }
+/// Adds what is drawn of a tuple of these sorts: of a function it has the value behind the arguments.
+pub fn push_tuple(out: &mut Text, row: &Row, sorts: &[Sort], tuple: &[u32])
+    ensures { Wrote out.old out.new (row_text row.now.letter.now row.now.names.now row.now.symbol row.now.at.now
+        row.now.changed (numbers sorts.now) tuple.now) }
 {
     match sorts.split_first() {
-        None => push_small_node(out, id, name, changed),
+        None => push_small_node(out, row),
         Some((k, ks)) => match tuple.split_first() {
-            None => Ok(()),
+            None => {}
             Some((x, xs)) => match ks.split_first() {
-                None => Ok(()),
+                None => {}
                 Some((j, js)) => match xs.split_first() {
-                    None => Ok(()),
+                    None => {}
                     Some((y, _)) => {
                         if js.is_empty() {
-                            push_arrow(alloc, out, letter, name, (*k, *x), (*j, *y), changed)
+                            let from = Node::Element(*k, *x);
+                            push_edge(out, row, from, Node::Element(*j, *y), Label::Name);
                         } else {
-                            push_hub(alloc, out, letter, id, name, sorts, tuple, changed)
+                            push_hub(out, row, sorts, tuple);
                         }
                     }
                 },
             },
         },
     }
-}
-
-/// Adds the numbers, each behind a line.
-#[tactic(auto, using(std::proofs::Common::append_assoc), unfolding(crate::specs::EdgeText::digits_text))]
-pub fn push_digits(out: &mut Vec<u8>, elements: &[u32]) -> Mem<()>
-    ensures { OnOk result (out.new.items ≡ out.old.items ++ digits_text elements.now) }
-{
-    let mut rest = elements;
-    while let [element, after @ ..] = rest {
-        push_text(out, "_")?;
-        push_number(out, *element as u64)?;
-        rest = after;
-    }
-    Ok(())
 }

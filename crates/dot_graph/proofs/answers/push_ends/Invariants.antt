@@ -1,4 +1,5 @@
 use Rattle.std.proofs.Common.{◌≡◌, ◌+◌, ◌++◌, length}
+use Rattle.std.specs.Prelude.{IsTrue}
 use Rattle.std.specs.List.{AllByRecursion}
 use Rattle.bounded_text.specs.BoundedText.{EndFits}
 use Rattle.dot_graph.specs.AnswerGraphs.{part_graphs}
@@ -8,7 +9,9 @@ abbrev pub invariant-loop-rest : goal.invariant-loop-rest
 invariant-loop-rest l = record {
   ends : AllByRecursion (λ part. EndFits l.checked part.end) l.rest;
   place : l.number + length l.rest ≡ length l.parts + 1;
-  text : l.out.items ++ part_graphs l.number l.checked l.rest ≡ l.fn.out.items ++ part_graphs 1 l.checked l.parts;
+  text : IsTrue l.out.whole → IsTrue l.initial.out.whole
+      × (l.out.text ++ part_graphs l.number l.checked l.rest
+      ≡ l.initial.out.text ++ part_graphs 1 l.checked l.parts);
 }
 
 abbrev pub decreases-loop-rest : goal.decreases-loop-rest

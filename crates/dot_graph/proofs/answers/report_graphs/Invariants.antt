@@ -1,4 +1,5 @@
 use Rattle.std.proofs.Common.{◌≡◌, ◌+◌, ◌++◌, length}
+use Rattle.std.specs.Prelude.{IsTrue}
 use Rattle.std.specs.List.{AllByRecursion}
 use Rattle.rml_report.specs.Reports.{CanRender}
 use Rattle.dot_graph.specs.AnswerGraphs.{group_graphs}
@@ -8,7 +9,7 @@ abbrev pub invariant-loop-rest : goal.invariant-loop-rest
 invariant-loop-rest l = record {
   can : AllByRecursion (CanRender l.checked) l.rest;
   place : l.number + length l.rest ≡ length l.groups + 1;
-  text : l.out.items ++ group_graphs l.number l.checked l.rest ≡ group_graphs 1 l.checked l.groups;
+  text : IsTrue l.out.whole → l.out.text ++ group_graphs l.number l.checked l.rest ≡ group_graphs 1 l.checked l.groups;
 }
 
 abbrev pub decreases-loop-rest : goal.decreases-loop-rest
