@@ -1,6 +1,6 @@
 -- The command lines of `ivyview`: a question of `ivycheck`, or `why FILE`, with the options of `ivyview` anywhere among
 -- the words.
-use Rattle.std.specs.Prelude.{◌≤◌, Bool, true, false, ◌&&◌, not, List, [], ◌∷◌, Option, Some, None, option_and_then}
+use Rattle.std.specs.Prelude.{◌≤◌, Bool, true, false, ◌&&◌, not, List, [], ◌∷◌, Option, Some, None}
 use Rattle.std.specs.Prelude.{codes}
 use Rattle.std.specs.Prelude.{if◌then◌else◌}
 use Rattle.std.specs.Str.{bytes_eq}

@@ -7,7 +7,7 @@ ghost use Rattle.view_line.specs.Options.{others, has, options_of};
 ghost use Rattle.view_line.specs.Asking.{question_of, why_of, asked_of, ask_of, ask_line, question_line};
 ghost use Rattle.view_line.specs.Asking.{HasQuestionRanges, HasAskRanges, is_offered, offered};
 
-use crate::options::{Form, Options, has, options_of};
+use crate::options::{Form, Options, has, is_word, options_of};
 use base::Mem;
 use command_line::{Asked, Bound, Request, check, read_words};
 use std::alloc::Global;
@@ -72,7 +72,7 @@ fn read_question<'a>(alloc: Global, words: &'a [String]) -> Mem<Option<Question<
     let [command, ..] = words else {
         return Ok(None);
     };
-    if command.as_bytes() == "why".as_bytes() {
+    if is_word(command, "why") {
         let request = check(alloc, words)?;
         return Ok(why_of(request));
     }

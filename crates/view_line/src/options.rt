@@ -25,12 +25,18 @@ pub struct Options {
     pub form: Form,
 }
 
+/// Whether this is the word.
+pub fn is_word(word: &str, other: &str) -> bool
+    ensures { result ≡ bytes_eq word.now other.now }
+{
+    word.as_bytes() == other.as_bytes()
+}
+
 // Whether a word is an option of `ivyview` alone.
 fn is_own(word: &str) -> bool
     ensures { result ≡ is_own word.now }
 {
-    let bytes = word.as_bytes();
-    bytes == "--lean".as_bytes() || bytes == "--dot".as_bytes() || bytes == "--json".as_bytes()
+    is_word(word, "--lean") || is_word(word, "--dot") || is_word(word, "--json")
 }
 
 /// The words without these options.
@@ -56,7 +62,7 @@ pub fn has(words: &[String], option: &str) -> bool
 {
     let mut rest = words;
     while let [word, after @ ..] = rest {
-        if word.as_bytes() == option.as_bytes() {
+        if is_word(word, option) {
             return true;
         }
         rest = after;
