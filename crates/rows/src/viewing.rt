@@ -9,7 +9,7 @@ use replay_command::ReplayAnswer;
 use rml_bytes::{Files, LoadError, MemSink};
 use row_files::Row;
 use std::alloc::Global;
-use view_run::{Answer, Ended, WhyAnswer, view};
+use view_run::{Answer, Ended, ModelAnswer, WhyAnswer, view};
 
 fn name_of_why(answer: &WhyAnswer) -> &'static str {
     match answer {
@@ -18,47 +18,44 @@ fn name_of_why(answer: &WhyAnswer) -> &'static str {
     }
 }
 
+fn name_of_answer(answer: &ModelAnswer) -> &'static str {
+    match answer {
+        ModelAnswer::Check(answer) => name_of_check(answer),
+        ModelAnswer::Houdini(answer) => name_of_houdini(answer),
+        ModelAnswer::Bmc(answer) => name_of_bmc(answer),
+        ModelAnswer::Why(answer) => name_of_why(answer),
+        ModelAnswer::Replay(answer) => name_of_replay(answer),
+    }
+}
+
 fn name_of(outcome: &Result<Answer, LoadError>) -> &'static str {
     match outcome {
         Ok(Answer::Words) => "words",
-        Ok(Answer::Check(viewed)) => name_of_check(&viewed.answer),
-        Ok(Answer::Houdini(viewed)) => name_of_houdini(&viewed.answer),
-        Ok(Answer::Bmc(viewed)) => name_of_bmc(&viewed.answer),
-        Ok(Answer::Why(viewed)) => name_of_why(&viewed.answer),
-        Ok(Answer::Replay(viewed)) => name_of_replay(&viewed.answer),
+        Ok(Answer::Viewed(viewed)) => name_of_answer(&viewed.answer),
         Err(why) => name_of_stop(*why),
+    }
+}
+
+// Where a fault stands in the model's text; 0 where there is none.
+fn fault_place(answer: &ModelAnswer) -> u64 {
+    match answer {
+        ModelAnswer::Check(CheckAnswer::Fault(fault)) => fault.at,
+        ModelAnswer::Houdini(HoudiniAnswer::Fault(fault)) => fault.at,
+        ModelAnswer::Bmc(BmcAnswer::Fault(fault)) => fault.at,
+        ModelAnswer::Why(WhyAnswer::Fault(fault)) => fault.at,
+        ModelAnswer::Replay(ReplayAnswer::Fault(fault)) => fault.at,
+        _ => 0,
     }
 }
 
 // Whether a fault stands in its text, or at its end.
 fn stands_in_text(ended: &Ended) -> bool {
-    let Ok(answer) = &ended.outcome else {
-        return true;
-    };
-    let at = match answer {
-        Answer::Words => 0,
-        Answer::Check(viewed) => match &viewed.answer {
-            CheckAnswer::Fault(fault) => fault.at,
-            CheckAnswer::Checked { .. } => 0,
-        },
-        Answer::Houdini(viewed) => match &viewed.answer {
-            HoudiniAnswer::Fault(fault) => fault.at,
-            HoudiniAnswer::Found { .. } => 0,
-        },
-        Answer::Bmc(viewed) => match &viewed.answer {
-            BmcAnswer::Fault(fault) => fault.at,
-            BmcAnswer::Answered { .. } => 0,
-        },
-        Answer::Why(viewed) => match &viewed.answer {
-            WhyAnswer::Fault(fault) => fault.at,
-            WhyAnswer::Reasons { .. } => 0,
-        },
-        Answer::Replay(viewed) => match &viewed.answer {
-            ReplayAnswer::Fault(fault) => fault.at,
-            ReplayAnswer::Unread(_) | ReplayAnswer::Replayed(_) => 0,
-        },
-    };
-    at <= ended.loaded.first.len() as u64
+    match &ended.outcome {
+        Ok(Answer::Viewed(viewed)) => {
+            fault_place(&viewed.answer) <= ended.loaded.first.len() as u64
+        }
+        _ => true,
+    }
 }
 
 /// Runs `ivyview` on a row.

@@ -17,7 +17,6 @@ use Rattle.model_commands.specs.declared.bmc.BmcAnswer.{BmcAnswer}
 use Rattle.model_commands.specs.declared.bmc.BmcAnswer.TheVariants.{Answered, Fault}
 use Rattle.view_line.specs.declared.options.Form.{Form}
 use Rattle.view_line.specs.declared.options.Form.TheVariants.{Told, Dot, Json}
-use Rattle.view_run.specs.declared.viewed.Viewed.{Viewed}
 use Rattle.view_run.specs.Views.{text_told, line_of, fault_view}
 
 -- the states of a run that goes wrong
@@ -37,11 +36,7 @@ bounded_view Dot file text reading m b = flat_map (length_graphs m) b.lengths
 bounded_view Json file text reading m b = bounded_line file m b
 
 -- what is due on a sink, and the status: of an answer, or of the text's fault
-abbrev pub answer_view : Form → List ℕ → List ℕ → Reading → BmcAnswer → Due
-answer_view form file text reading (Answered m b) =
+abbrev pub bmc_view : Form → List ℕ → List ℕ → Reading → BmcAnswer → Due
+bmc_view form file text reading (Answered m b) =
     on_out (bounded_view form file text reading m b) (bounded_status (verdict_of b.lengths))
-answer_view form file text reading (Fault fault) = fault_view form (codes "bmc") file text fault reading
-
--- of an answer with the text as far as it can be read
-abbrev pub bmc_view : Form → List ℕ → List ℕ → Viewed BmcAnswer → Due
-bmc_view form file text v = answer_view form file text v.reading v.answer
+bmc_view form file text reading (Fault fault) = fault_view form (codes "bmc") file text fault reading

@@ -14,7 +14,6 @@ use Rattle.model_commands.specs.declared.check.CheckAnswer.{CheckAnswer}
 use Rattle.model_commands.specs.declared.check.CheckAnswer.TheVariants.{Checked, Fault}
 use Rattle.view_line.specs.declared.options.Form.{Form}
 use Rattle.view_line.specs.declared.options.Form.TheVariants.{Told, Dot, Json}
-use Rattle.view_run.specs.declared.viewed.Viewed.{Viewed}
 use Rattle.view_run.specs.Views.{source_of, text_told, line_of, fault_view}
 use Rattle.view_run.specs.WayData.{group_ways}
 
@@ -29,11 +28,7 @@ checked_text Dot file text reading m r = group_graphs 1 m r.groups
 checked_text Json file text reading m r = checked_line file (source_of text reading) m r
 
 -- what is due on a sink, and the status: of an answer, or of the text's fault
-abbrev pub answer_view : Form → List ℕ → List ℕ → Reading → CheckAnswer → Due
-answer_view form file text reading (Checked m r) =
+abbrev pub check_view : Form → List ℕ → List ℕ → Reading → CheckAnswer → Due
+check_view form file text reading (Checked m r) =
     on_out (checked_text form file text reading m r) (verdict_status r.verdict)
-answer_view form file text reading (Fault fault) = fault_view form (codes "check") file text fault reading
-
--- of an answer with the text as far as it can be read
-abbrev pub check_view : Form → List ℕ → List ℕ → Viewed CheckAnswer → Due
-check_view form file text v = answer_view form file text v.reading v.answer
+check_view form file text reading (Fault fault) = fault_view form (codes "check") file text fault reading

@@ -14,7 +14,6 @@ use Rattle.model_commands.specs.declared.houdini.HoudiniAnswer.{HoudiniAnswer}
 use Rattle.model_commands.specs.declared.houdini.HoudiniAnswer.TheVariants.{Found, Fault}
 use Rattle.view_line.specs.declared.options.Form.{Form}
 use Rattle.view_line.specs.declared.options.Form.TheVariants.{Told, Dot, Json}
-use Rattle.view_run.specs.declared.viewed.Viewed.{Viewed}
 use Rattle.view_run.specs.Views.{source_of, text_told, line_of, fault_view}
 use Rattle.view_run.specs.WayData.{drop_ways}
 
@@ -29,11 +28,7 @@ found_text Dot file text reading m h = drop_graphs 1 m h.dropped
 found_text Json file text reading m h = found_line file (source_of text reading) m h
 
 -- what is due on a sink, and the status: of an answer, or of the text's fault
-abbrev pub answer_view : Form → List ℕ → List ℕ → Reading → HoudiniAnswer → Due
-answer_view form file text reading (Found m h) =
+abbrev pub houdini_view : Form → List ℕ → List ℕ → Reading → HoudiniAnswer → Due
+houdini_view form file text reading (Found m h) =
     on_out (found_text form file text reading m h) (houdini_status h.dropped h.unsettled)
-answer_view form file text reading (Fault fault) = fault_view form (codes "houdini") file text fault reading
-
--- of an answer with the text as far as it can be read
-abbrev pub houdini_view : Form → List ℕ → List ℕ → Viewed HoudiniAnswer → Due
-houdini_view form file text v = answer_view form file text v.reading v.answer
+houdini_view form file text reading (Fault fault) = fault_view form (codes "houdini") file text fault reading

@@ -7,4 +7,4 @@ pub mod Why
 pub mod Replay
 pub mod Words
 pub mod Questions
-pub mod Variants
+pub mod Inquiries

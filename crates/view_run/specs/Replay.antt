@@ -12,7 +12,6 @@ use Rattle.replay_command.specs.declared.replay.ReplayAnswer.{ReplayAnswer}
 use Rattle.replay_command.specs.declared.replay.ReplayAnswer.TheVariants.{Fault, Unread, Replayed}
 use Rattle.view_line.specs.declared.options.Form.{Form}
 use Rattle.view_line.specs.declared.options.Form.TheVariants.{Told, Dot, Json}
-use Rattle.view_run.specs.declared.viewed.Viewed.{Viewed}
 use Rattle.view_run.specs.Views.{line_of, fault_view}
 
 -- report.txt:12: P4 ..
@@ -24,21 +23,21 @@ line_view file line number words =
 unfoldable pub confirmed_view : ℕ → List ℕ
 confirmed_view n = codes "confirmed; executions that were followed: " ++ decimal n ++ codes "\n"
 
--- that the report is confirmed, with status 0; or the first line that is denied, with status 1
-abbrev pub judged_told : List ℕ → Judged → Due
-judged_told file (Confirmed n) = on_out (confirmed_view n) 0
-judged_told file (Denied line code) = on_out (line_view file line (denial.number_of code) (denial.text_of code)) 1
+-- that the report is confirmed, or the first line that is denied
+abbrev pub judged_told : List ℕ → Judged → List ℕ
+judged_told report (Confirmed n) = confirmed_view n
+judged_told report (Denied line code) = line_view report line (denial.number_of code) (denial.text_of code)
+
+-- a text, or a JSON value; no picture is asked for
+abbrev pub judged_text : Form → List ℕ → List ℕ → Judged → List ℕ
+judged_text Told file report judged = judged_told report judged
+judged_text Dot file report judged = judged_told report judged
+judged_text Json file report judged = line_of file (judged_members judged)
 
 -- 0 where the report is confirmed, 1 where a line is denied
 abbrev pub judged_status : Judged → ℕ
 judged_status (Confirmed n) = 0
 judged_status (Denied line code) = 1
-
--- a text, or a JSON value; no picture is asked for
-abbrev pub judged_view : Form → List ℕ → List ℕ → Judged → Due
-judged_view Told file report judged = judged_told report judged
-judged_view Dot file report judged = judged_told report judged
-judged_view Json file report judged = on_out (line_of file (judged_members judged)) (judged_status judged)
 
 -- a line that no printed report of the model has there
 abbrev pub unread_view : Form → List ℕ → List ℕ → ℕ → Due
@@ -47,11 +46,8 @@ unread_view Dot file report line = on_err (line_view report line 1 (codes "unexp
 unread_view Json file report line = on_out (line_of file (unread_members line)) 4
 
 -- what is due on a sink, and the status: of the model's fault, an unread line, or a judged report
-abbrev pub answer_view : Form → List ℕ → List ℕ → List ℕ → Reading → ReplayAnswer → Due
-answer_view form file report text reading (Fault fault) = fault_view form (codes "replay") file text fault reading
-answer_view form file report text reading (Unread unread) = unread_view form file report unread.line
-answer_view form file report text reading (Replayed judged) = judged_view form file report judged
-
--- of an answer with the model's text as far as it can be read
-abbrev pub replay_view : Form → List ℕ → List ℕ → List ℕ → Viewed ReplayAnswer → Due
-replay_view form file report text v = answer_view form file report text v.reading v.answer
+abbrev pub replay_view : Form → List ℕ → List ℕ → List ℕ → Reading → ReplayAnswer → Due
+replay_view form file report text reading (Fault fault) = fault_view form (codes "replay") file text fault reading
+replay_view form file report text reading (Unread unread) = unread_view form file report unread.line
+replay_view form file report text reading (Replayed judged) =
+    on_out (judged_text form file report judged) (judged_status judged)

@@ -19,10 +19,11 @@ use Rattle.told_derived.specs.Definitions.{Definitions, definitions_of, no_defin
 use Rattle.told_derived.specs.DerivedText.{facts_text, changes_text}
 use Rattle.view_line.specs.declared.options.Form.{Form}
 use Rattle.view_line.specs.declared.options.Form.TheVariants.{Told, Dot, Json}
+use Rattle.view_run.specs.declared.viewed.ModelAnswer.{ModelAnswer}
 use Rattle.view_run.specs.declared.viewed.Viewed.{Viewed}
 
 -- the answer is so, and the text is read as far as it can be
-abbrev pub IsViewed : {A : Type 0} → (A → Type 0) → List ℕ → Viewed A → Type 0
+abbrev pub IsViewed : (ModelAnswer → Type 0) → List ℕ → Viewed → Type 0
 IsViewed P text v = P v.answer × IsReading text v.reading
 
 -- the source of a text that has a tree

@@ -16,7 +16,6 @@ use Rattle.command_parts.specs.ModelTexts.{IsTheModel, IsTheFault}
 use Rattle.command_parts.specs.Saying.{on_out}
 use Rattle.view_line.specs.declared.options.Form.{Form}
 use Rattle.view_line.specs.declared.options.Form.TheVariants.{Told, Dot, Json}
-use Rattle.view_run.specs.declared.viewed.Viewed.{Viewed}
 use Rattle.view_run.specs.declared.why.WhyAnswer.{WhyAnswer}
 use Rattle.view_run.specs.declared.why.WhyAnswer.TheVariants.{Reasons, Fault}
 use Rattle.view_run.specs.Views.{line_of, fault_view}
@@ -57,10 +56,6 @@ reasons_view Dot file m reasons = reasons_text m reasons
 reasons_view Json file m reasons = reasons_line file m reasons
 
 -- what is due on a sink, and the status: of the reasons, or of the text's fault
-abbrev pub answer_view : Form → List ℕ → List ℕ → Reading → WhyAnswer → Due
-answer_view form file text reading (Reasons m reasons) = on_out (reasons_view form file m reasons) (why_status reasons)
-answer_view form file text reading (Fault fault) = fault_view form (codes "why") file text fault reading
-
--- of an answer with the text as far as it can be read
-abbrev pub why_view : Form → List ℕ → List ℕ → Viewed WhyAnswer → Due
-why_view form file text v = answer_view form file text v.reading v.answer
+abbrev pub why_view : Form → List ℕ → List ℕ → Reading → WhyAnswer → Due
+why_view form file text reading (Reasons m reasons) = on_out (reasons_view form file m reasons) (why_status reasons)
+why_view form file text reading (Fault fault) = fault_view form (codes "why") file text fault reading

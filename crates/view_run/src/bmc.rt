@@ -2,26 +2,27 @@
 ghost use Rattle.std.specs.Prelude.{◌≡◌, ◌++◌, IfOk, OnOk};
 ghost use Rattle.std.specs.List.{AllByRecursion, flat_map};
 ghost use Rattle.bounded_text.specs.BoundedText.{CanRender};
-ghost use Rattle.told_answers.specs.RunsText.{CanTell, runs_text};
+ghost use Rattle.told_answers.specs.RunsText.{CanTell};
 ghost use Rattle.command_parts.specs.ModelTexts.{IsTheModel};
 ghost use Rattle.model_commands.specs.Bmc.{IsBmcAnswerBy};
 ghost use Rattle.told_fault.specs.Readings.{IsReading};
-ghost use Rattle.view_run.specs.Views.{text_told};
-ghost use Rattle.view_run.specs.Bmc.{answer_view, length_graphs, bounded_line, bounded_view};
+ghost use Rattle.view_run.specs.Bmc.{length_graphs, bounded_line, bounded_view};
+ghost use Rattle.view_run.specs.Questions.{OfBmc, model_due};
 
 use crate::faults::{line_of, say_fault};
-use crate::showing::Show;
+use crate::showing::View;
 use crate::telling::telling_of;
+use crate::viewed::ModelAnswer;
 use base::Mem;
 use command_parts::shown;
-use commands::{Command, Said};
+use commands::Said;
 use dot_graph::run_graphs;
 use json_outcome::bounded_object;
 use model_commands::{Bmc, BmcAnswer, bounded_status};
-use progress::Progress;
 use rml_bmc::{Bounded, Length, verdict_for};
 use rml_command::Checked;
 use std::alloc::Global;
+use told_answers::tell_runs;
 use told_fault::Reading;
 use view_line::Form;
 
@@ -66,26 +67,7 @@ fn bounded_line(alloc: Global, file: &str, model: &Checked, bounded: &Bounded) -
     Ok(line)
 }
 
-// The text for a person, with what the text of the model tells.
-fn told(
-    alloc: Global,
-    text: &[u8],
-    reading: &Reading,
-    model: &Checked,
-    bounded: &Bounded,
-) -> Mem<Vec<u8>>
-    requires reading { IsReading text.now reading.now }
-    requires model { IsTheModel text.now model.now }
-    requires can { AllByRecursion (CanTell model.now) bounded.now.lengths }
-    ensures { IfOk result (λ out. out.items
-        ≡ runs_text model.now (text_told text.now reading.now) bounded.now) }
-{
-    let telling = telling_of(alloc, text, reading, model)?;
-    let out = told_answers::tell_runs(alloc, model, &telling, bounded)?;
-    Ok(out)
-}
-
-// What is shown of the lengths.
+// What is shown of the lengths; in the text for a person, with what the text of the model tells.
 fn bounded_view(
     alloc: Global,
     form: Form,
@@ -103,50 +85,45 @@ fn bounded_view(
         ≡ bounded_view form file.now text.now reading.now model.now bounded.now) }
 {
     match form {
-        Form::Told => told(alloc, text, reading, model, bounded),
+        Form::Told => {
+            let telling = telling_of(alloc, text, reading, model)?;
+            let told = tell_runs(alloc, model, &telling, bounded);
+            drop(telling);
+            let out = told?;
+            Ok(out)
+        }
         Form::Dot => lengths_graphs(alloc, model, bounded.lengths.as_slice()),
         Form::Json => bounded_line(alloc, file, model, bounded),
     }
 }
 
-impl Show for Bmc {
-    type Answer = BmcAnswer;
-
-    ghost is_answer = { λ c text other a. IsBmcAnswerBy c.counted c.bound text a };
-
-    ghost shown = { λ c form file text reading a. answer_view form file text reading a };
-
-    fn answer<P: Progress>(
-        &self,
-        alloc: Global,
-        text: &[u8],
-        other: &[u8],
-        progress: &mut P,
-    ) -> Mem<BmcAnswer> {
-        self.judge(alloc, text, other, progress)
-    }
-
-    fn show(
-        &self,
-        alloc: Global,
-        form: Form,
-        file: &str,
-        text: &[u8],
-        other: &[u8],
-        reading: &Reading,
-        answer: &BmcAnswer,
-    ) -> Mem<Said> {
-        bounded_text::rendering_law();
-        told_answers::telling_law();
-        match answer {
-            BmcAnswer::Answered { model, bounded } => {
-                // That the model is in the fragment is known where it is looked at.
-                let _model = model.model();
-                let out = bounded_view(alloc, form, file, text, reading, model, bounded)?;
-                let verdict = verdict_for(bounded.lengths.as_slice());
-                Ok(shown(out, bounded_status(verdict)))
-            }
-            BmcAnswer::Fault(fault) => say_fault(alloc, form, "bmc", file, text, fault, reading),
+/// What is shown of an answer of `bmc`.
+pub fn say_bmc(
+    alloc: Global,
+    view: &View,
+    bmc: &Bmc,
+    text: &[u8],
+    reading: &Reading,
+    answer: &ModelAnswer,
+) -> Mem<Said>
+    requires answer { OfBmc (IsBmcAnswerBy bmc.now.counted bmc.now.bound text.now) answer.now }
+    requires reading { IsReading text.now reading.now }
+    ensures { IfOk result (λ s. s ≡ model_due view.now.form view.now.file.now view.now.report.now text.now reading.now
+        answer.now) }
+{
+    bounded_text::rendering_law();
+    told_answers::telling_law();
+    match answer {
+        ModelAnswer::Bmc(BmcAnswer::Answered { model, bounded }) => {
+            // That the model is in the fragment is known where it is looked at.
+            let _model = model.model();
+            let out = bounded_view(alloc, view.form, view.file, text, reading, model, bounded)?;
+            let verdict = verdict_for(bounded.lengths.as_slice());
+            Ok(shown(out, bounded_status(verdict)))
         }
+        ModelAnswer::Bmc(BmcAnswer::Fault(fault)) => {
+            say_fault(alloc, view.form, "bmc", view.file, text, fault, reading)
+        }
+        _ => unreachable!(),
     }
 }

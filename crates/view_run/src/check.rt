@@ -6,26 +6,27 @@ ghost use Rattle.command_parts.specs.Limits.{ceilings_of};
 ghost use Rattle.command_parts.specs.ModelTexts.{IsTheModel};
 ghost use Rattle.model_commands.specs.Check.{IsCheckAnswerBy, verdict_status};
 ghost use Rattle.told_fault.specs.Readings.{IsReading};
-ghost use Rattle.told_report.specs.ToldText.{told_text};
-ghost use Rattle.view_run.specs.Views.{text_told};
-ghost use Rattle.view_run.specs.Check.{answer_view, checked_line, checked_text};
+ghost use Rattle.view_run.specs.Check.{checked_line, checked_text};
+ghost use Rattle.view_run.specs.Questions.{OfCheck, model_due};
 
 use crate::faults::{line_of, say_fault};
 use crate::json_ways::group_ways;
-use crate::showing::Show;
+use crate::showing::View;
+use crate::source::source_of;
 use crate::telling::telling_of;
-use crate::ways::{Ways, ways_of};
+use crate::viewed::ModelAnswer;
 use base::Mem;
+use branches::Source;
 use command_parts::shown;
-use commands::{Command, Said};
+use commands::Said;
 use dot_graph::report_graphs;
 use json_outcome::report_object;
 use model_commands::{Check, CheckAnswer, verdict_status};
-use progress::Progress;
 use rml_command::Checked;
 use rml_report::Report;
 use std::alloc::Global;
 use told_fault::Reading;
+use told_report::tell;
 use view_line::Form;
 
 // The report as a JSON value.
@@ -33,39 +34,21 @@ use view_line::Form;
 fn checked_line(
     alloc: Global,
     file: &str,
-    ways: &Ways,
+    source: &Option<Source>,
     model: &Checked,
     report: &Report,
 ) -> Mem<Vec<u8>>
     requires { AllByRecursion (CanRender model.now) report.now.groups }
-    ensures { IfOk result (λ out. out.items ≡ checked_line file.now ways.now.source model.now report.now) }
+    ensures { IfOk result (λ out. out.items ≡ checked_line file.now source.now model.now report.now) }
 {
-    let branches = group_ways(alloc, ways, report.groups.as_slice())?;
-    let object = report_object(alloc, model, report, &branches)?;
-    let line = line_of(alloc, file, object)?;
+    let branches = group_ways(alloc, source, report.groups.as_slice())?;
+    let object = report_object(alloc, model, report, &branches);
+    drop(branches);
+    let line = line_of(alloc, file, object?)?;
     Ok(line)
 }
 
-// The text for a person, with what the text of the model tells.
-fn told(
-    alloc: Global,
-    text: &[u8],
-    reading: &Reading,
-    model: &Checked,
-    report: &Report,
-) -> Mem<Vec<u8>>
-    requires reading { IsReading text.now reading.now }
-    requires model { IsTheModel text.now model.now }
-    requires can { AllByRecursion (CanRender model.now) report.now.groups }
-    ensures { IfOk result (λ out. out.items
-        ≡ told_text model.now (text_told text.now reading.now) report.now) }
-{
-    let telling = telling_of(alloc, text, reading, model)?;
-    let out = told_report::tell(alloc, model, &telling, report)?;
-    Ok(out)
-}
-
-// What is shown of a report.
+// What is shown of a report; in the text for a person, with what the text of the model tells.
 fn checked_text(
     alloc: Global,
     form: Form,
@@ -82,51 +65,44 @@ fn checked_text(
         ≡ checked_text form file.now text.now reading.now model.now report.now) }
 {
     match form {
-        Form::Told => told(alloc, text, reading, model, report),
+        Form::Told => {
+            let telling = telling_of(alloc, text, reading, model)?;
+            let told = tell(alloc, model, &telling, report);
+            drop(telling);
+            let out = told?;
+            Ok(out)
+        }
         Form::Dot => report_graphs(alloc, model, report.groups.as_slice()),
         Form::Json => {
-            let ways = ways_of(alloc, text, reading, model);
-            checked_line(alloc, file, &ways, model, report)
+            let source = source_of(alloc, text, reading, model);
+            checked_line(alloc, file, &source, model, report)
         }
     }
 }
 
-impl Show for Check {
-    type Answer = CheckAnswer;
-
-    ghost is_answer = { λ c text other a. IsCheckAnswerBy c.counted (ceilings_of c.asked) text a };
-
-    ghost shown = { λ c form file text reading a. answer_view form file text reading a };
-
-    fn answer<P: Progress>(
-        &self,
-        alloc: Global,
-        text: &[u8],
-        other: &[u8],
-        progress: &mut P,
-    ) -> Mem<CheckAnswer> {
-        self.judge(alloc, text, other, progress)
-    }
-
-    fn show(
-        &self,
-        alloc: Global,
-        form: Form,
-        file: &str,
-        text: &[u8],
-        other: &[u8],
-        reading: &Reading,
-        answer: &CheckAnswer,
-    ) -> Mem<Said> {
-        rml_report::rendering_law();
-        match answer {
-            CheckAnswer::Checked { model, report } => {
-                let out = checked_text(alloc, form, file, text, reading, model, report)?;
-                Ok(shown(out, verdict_status(report.verdict)))
-            }
-            CheckAnswer::Fault(fault) => say_fault(
-                alloc, form, "check", file, text, fault, reading,
-            ),
+/// What is shown of an answer of `check`.
+pub fn say_check(
+    alloc: Global,
+    view: &View,
+    check: &Check,
+    text: &[u8],
+    reading: &Reading,
+    answer: &ModelAnswer,
+) -> Mem<Said>
+    requires answer { OfCheck (IsCheckAnswerBy check.now.counted (ceilings_of check.now.asked) text.now) answer.now }
+    requires reading { IsReading text.now reading.now }
+    ensures { IfOk result (λ s. s ≡ model_due view.now.form view.now.file.now view.now.report.now text.now reading.now
+        answer.now) }
+{
+    rml_report::rendering_law();
+    match answer {
+        ModelAnswer::Check(CheckAnswer::Checked { model, report }) => {
+            let out = checked_text(alloc, view.form, view.file, text, reading, model, report)?;
+            Ok(shown(out, verdict_status(report.verdict)))
         }
+        ModelAnswer::Check(CheckAnswer::Fault(fault)) => {
+            say_fault(alloc, view.form, "check", view.file, text, fault, reading)
+        }
+        _ => unreachable!(),
     }
 }

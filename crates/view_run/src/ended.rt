@@ -2,10 +2,7 @@
 ghost use Rattle.std.specs.Prelude.{◌≡◌};
 
 use crate::viewed::Viewed;
-use crate::why::WhyAnswer;
 use commands::Written;
-use model_commands::{BmcAnswer, CheckAnswer, HoudiniAnswer};
-use replay_command::ReplayAnswer;
 use rml_bytes::{Bytes, LoadError};
 
 /// What is answered.
@@ -13,11 +10,8 @@ use rml_bytes::{Bytes, LoadError};
 pub enum Answer {
     /// The words are no command line, or ask for words alone.
     Words,
-    Check(Viewed<CheckAnswer>),
-    Houdini(Viewed<HoudiniAnswer>),
-    Bmc(Viewed<BmcAnswer>),
-    Why(Viewed<WhyAnswer>),
-    Replay(Viewed<ReplayAnswer>),
+    /// They ask a question about a model.
+    Viewed(Viewed),
 }
 
 /// The bytes that were handed over. What was not loaded is empty.

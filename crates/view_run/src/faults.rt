@@ -20,7 +20,9 @@ pub fn line_of(alloc: Global, file: &str, object: JsonObject) -> Mem<Vec<u8>>
     let value = ObjectBuilder::from_object(alloc, object)
         .with_word("file", file)
         .into_json()?;
-    let text = line(alloc, &value)?;
+    let text = line(alloc, &value);
+    drop(value);
+    let text = text?;
     Ok(text)
 }
 

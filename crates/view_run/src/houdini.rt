@@ -6,24 +6,25 @@ ghost use Rattle.command_parts.specs.Limits.{ceilings_of};
 ghost use Rattle.command_parts.specs.ModelTexts.{IsTheModel};
 ghost use Rattle.model_commands.specs.Houdini.{IsHoudiniAnswerBy};
 ghost use Rattle.told_fault.specs.Readings.{IsReading};
-ghost use Rattle.told_answers.specs.SubsetText.{subset_text};
-ghost use Rattle.view_run.specs.Views.{text_told};
-ghost use Rattle.view_run.specs.Houdini.{answer_view, found_line, found_text};
+ghost use Rattle.view_run.specs.Houdini.{found_line, found_text};
+ghost use Rattle.view_run.specs.Questions.{OfHoudini, model_due};
 
 use crate::faults::{line_of, say_fault};
 use crate::json_ways::drop_ways;
-use crate::showing::Show;
+use crate::showing::View;
+use crate::source::source_of;
 use crate::telling::telling_of;
-use crate::ways::{Ways, ways_of};
+use crate::viewed::ModelAnswer;
 use base::Mem;
+use branches::Source;
 use command_parts::shown;
-use commands::{Command, Said};
+use commands::Said;
 use dot_graph::drops_graphs;
 use json_outcome::houdini_object;
 use model_commands::{Houdini, HoudiniAnswer, houdini_status};
-use progress::Progress;
 use rml_command::Checked;
 use std::alloc::Global;
+use told_answers::tell_subset;
 use told_fault::Reading;
 use view_line::Form;
 
@@ -32,39 +33,21 @@ use view_line::Form;
 fn found_line(
     alloc: Global,
     file: &str,
-    ways: &Ways,
+    source: &Option<Source>,
     model: &Checked,
     found: &rml_houdini::Houdini,
 ) -> Mem<Vec<u8>>
     requires { AllByRecursion (CanRender model.now) found.now.dropped }
-    ensures { IfOk result (λ out. out.items ≡ found_line file.now ways.now.source model.now found.now) }
+    ensures { IfOk result (λ out. out.items ≡ found_line file.now source.now model.now found.now) }
 {
-    let branches = drop_ways(alloc, ways, found.dropped.as_slice())?;
-    let object = houdini_object(alloc, model, found, &branches)?;
-    let line = line_of(alloc, file, object)?;
+    let branches = drop_ways(alloc, source, found.dropped.as_slice())?;
+    let object = houdini_object(alloc, model, found, &branches);
+    drop(branches);
+    let line = line_of(alloc, file, object?)?;
     Ok(line)
 }
 
-// The text for a person, with what the text of the model tells.
-fn told(
-    alloc: Global,
-    text: &[u8],
-    reading: &Reading,
-    model: &Checked,
-    found: &rml_houdini::Houdini,
-) -> Mem<Vec<u8>>
-    requires reading { IsReading text.now reading.now }
-    requires model { IsTheModel text.now model.now }
-    requires can { AllByRecursion (CanRender model.now) found.now.dropped }
-    ensures { IfOk result (λ out. out.items
-        ≡ subset_text model.now (text_told text.now reading.now) found.now) }
-{
-    let telling = telling_of(alloc, text, reading, model)?;
-    let out = told_answers::tell_subset(alloc, model, &telling, found)?;
-    Ok(out)
-}
-
-// What is shown of what was found.
+// What is shown of what was found; in the text for a person, with what the text of the model tells.
 fn found_text(
     alloc: Global,
     form: Form,
@@ -81,51 +64,50 @@ fn found_text(
         ≡ found_text form file.now text.now reading.now model.now found.now) }
 {
     match form {
-        Form::Told => told(alloc, text, reading, model, found),
+        Form::Told => {
+            let telling = telling_of(alloc, text, reading, model)?;
+            let told = tell_subset(alloc, model, &telling, found);
+            drop(telling);
+            let out = told?;
+            Ok(out)
+        }
         Form::Dot => drops_graphs(alloc, model, found.dropped.as_slice()),
         Form::Json => {
-            let ways = ways_of(alloc, text, reading, model);
-            found_line(alloc, file, &ways, model, found)
+            let source = source_of(alloc, text, reading, model);
+            found_line(alloc, file, &source, model, found)
         }
     }
 }
 
-impl Show for Houdini {
-    type Answer = HoudiniAnswer;
-
-    ghost is_answer = { λ c text other a. IsHoudiniAnswerBy c.counted (ceilings_of c.asked) text a };
-
-    ghost shown = { λ c form file text reading a. answer_view form file text reading a };
-
-    fn answer<P: Progress>(
-        &self,
-        alloc: Global,
-        text: &[u8],
-        other: &[u8],
-        progress: &mut P,
-    ) -> Mem<HoudiniAnswer> {
-        self.judge(alloc, text, other, progress)
-    }
-
-    fn show(
-        &self,
-        alloc: Global,
-        form: Form,
-        file: &str,
-        text: &[u8],
-        other: &[u8],
-        reading: &Reading,
-        answer: &HoudiniAnswer,
-    ) -> Mem<Said> {
-        rml_houdini::rendering_law();
-        match answer {
-            HoudiniAnswer::Found { model, houdini } => {
-                let out = found_text(alloc, form, file, text, reading, model, houdini)?;
-                Ok(shown(out, houdini_status(houdini)))
-            }
-            HoudiniAnswer::Fault(fault) => say_fault(
-                alloc, form, "houdini", file, text, fault, reading,
-            ),
+/// What is shown of an answer of `houdini`.
+pub fn say_houdini(
+    alloc: Global,
+    view: &View,
+    houdini: &Houdini,
+    text: &[u8],
+    reading: &Reading,
+    answer: &ModelAnswer,
+) -> Mem<Said>
+    requires answer { OfHoudini (IsHoudiniAnswerBy houdini.now.counted (ceilings_of houdini.now.asked) text.now)
+        answer.now }
+    requires reading { IsReading text.now reading.now }
+    ensures { IfOk result (λ s. s ≡ model_due view.now.form view.now.file.now view.now.report.now text.now reading.now
+        answer.now) }
+{
+    rml_houdini::rendering_law();
+    match answer {
+        ModelAnswer::Houdini(
+            HoudiniAnswer::Found {
+                model,
+                houdini: found,
+            },
+        ) => {
+            let out = found_text(alloc, view.form, view.file, text, reading, model, found)?;
+            Ok(shown(out, houdini_status(found)))
         }
+        ModelAnswer::Houdini(HoudiniAnswer::Fault(fault)) => {
+            say_fault(alloc, view.form, "houdini", view.file, text, fault, reading)
+        }
+        _ => unreachable!(),
     }
 }

@@ -4,24 +4,22 @@ ghost use Rattle.commands.specs.Ends.{EndsNone, EndsOne, EndsTwo};
 ghost use Rattle.commands.specs.Done.{due_in, outcome_in};
 ghost use Rattle.command_parts.specs.ModelTexts.{model_limit};
 ghost use Rattle.replay_command.specs.Replay.{IsReplayAnswer, report_limit};
-ghost use Rattle.view_line.specs.Asking.{AskLine, show, ask_of, ask_line, HasAskRanges, HasQuestionRanges};
-ghost use Rattle.view_line.specs.Asking.{question_line};
+ghost use Rattle.view_line.specs.Asking.{AskLine, show, ask_of, ask_line, question_line, HasAskRanges};
+ghost use Rattle.view_line.specs.Asking.{HasQuestionRanges};
 ghost use Rattle.view_run.specs.Views.{IsViewed};
-ghost use Rattle.view_run.specs.Replay.{replay_view};
-ghost use Rattle.view_run.specs.Questions.{EndsAsAsked, IsWords, counted_by, due_of, words_of};
+ghost use Rattle.view_run.specs.Inquiries.{IsAnswerTo, EndsAsShown, done_as};
+ghost use Rattle.view_run.specs.Questions.{EndsAsAsked, IsWords, OfReplay, counted_by, due_of, view_due, words_of};
 
 use crate::ended::Answer;
-use crate::replay::ReplayOf;
-use crate::showing::{Show, View};
-use crate::variant::as_variant;
+use crate::inquiry::Inquiry;
+use crate::showing::View;
 use crate::viewed::Viewed;
 use crate::why::Why;
-use crate::words::Words;
-use commands::{Done, no_file, one_file, two_files};
+use crate::words::{Words, words_said};
+use commands::{Done, one_file, two_files};
 use lean_decide::Counted;
 use model_commands::{Bmc, Check, Houdini};
 use progress::Progress;
-use replay_command::ReplayAnswer;
 use rml_bytes::{Files, LoadError};
 use std::alloc::Global;
 use view_line::{Ask, Form, Options, Question, other_words, read_ask};
@@ -43,37 +41,38 @@ fn counted_by(options: Options) -> Counted
 }
 
 // Answers with words alone.
-fn say_words<P: Progress>(
-    alloc: Global,
-    words: Words,
-    progress: &mut P,
-) -> Result<Done<Answer>, LoadError>
+fn say_words(alloc: Global, words: Words) -> Result<Done<Answer>, LoadError>
     ensures due { (ask : Option AskLine) → words_of ask ≡ words → due_in result ≡ due_of ask [] [] (outcome_in result) }
     ensures ends { EndsNone 0 0 [] [] (λ text other a. IsWords a) (outcome_in result) }
 {
-    as_variant(no_file(&words, alloc, progress))
+    let said = words_said(alloc, words)?;
+    Ok(Done {
+        answer: Answer::Words,
+        said,
+    })
 }
 
 // Asks a question of the text of one file.
-fn ask_one<Q: Show + Drop, F: Files, P: Progress>(
+fn ask_one<F: Files, P: Progress>(
     alloc: Global,
     file: &str,
-    question: Q,
+    inquiry: Inquiry,
     form: Form,
     files: &mut F,
     first: &mut Vec<u8>,
     progress: &mut P,
-) -> Result<Done<Viewed<Q::Answer>>, LoadError>
+) -> Result<Done<Viewed>, LoadError>
     requires { first.old.items ≡ [] }
     ensures same { (n : List ℕ) → F.told files.new n ≡ F.told files.old n }
     ensures ends { EndsOne (F.told files.old file.now) model_limit (F.faults files.old) (F.faults files.new)
-        first.new.items [] (λ text other d. IsViewed (Q.is_answer question text other) text d.answer
-        × (d.said ≡ Q.shown question form file.now text d.answer.reading d.answer.answer)) result }
+        first.new.items [] (λ text other d. IsViewed (IsAnswerTo inquiry text other) text d.answer
+        × (d.said ≡ view_due form file.now [] text d.answer)) result }
 {
     let view = View {
-        file,
-        question,
+        inquiry,
         form,
+        file,
+        report: "",
     };
     one_file(&view, alloc, files, file, MODEL_LIMIT, first, progress)
 }
@@ -88,19 +87,20 @@ fn ask_two<F: Files, P: Progress>(
     first: &mut Vec<u8>,
     second: &mut Vec<u8>,
     progress: &mut P,
-) -> Result<Done<Viewed<ReplayAnswer>>, LoadError>
+) -> Result<Done<Viewed>, LoadError>
     requires first { first.old.items ≡ [] }
     requires second { second.old.items ≡ [] }
     ensures same { (n : List ℕ) → F.told files.new n ≡ F.told files.old n }
     ensures ends { EndsTwo (F.told files.old model.now) (F.told files.old report.now) model_limit report_limit
         (F.faults files.old) (F.faults files.new) first.new.items second.new.items
-        (λ text other d. IsViewed (IsReplayAnswer text other) text d.answer
-        × (d.said ≡ replay_view form model.now report.now text d.answer)) result }
+        (λ text other d. IsViewed (OfReplay (IsReplayAnswer text other)) text d.answer
+        × (d.said ≡ view_due form model.now report.now text d.answer)) result }
 {
     let view = View {
-        file: model,
-        question: ReplayOf { report },
+        inquiry: Inquiry::Replay,
         form,
+        file: model,
+        report,
     };
     two_files(
         &view,
@@ -116,8 +116,62 @@ fn ask_two<F: Files, P: Progress>(
     )
 }
 
-// Answers a question.
+// Answers a question, with limits on these counts.
 fn show_question<F: Files, P: Progress>(
+    alloc: Global,
+    question: Question,
+    counted: Counted,
+    form: Form,
+    files: &mut F,
+    first: &mut Vec<u8>,
+    second: &mut Vec<u8>,
+    progress: &mut P,
+) -> Result<Done<Viewed>, LoadError>
+    requires ranges { HasQuestionRanges question }
+    requires first { first.old.items ≡ [] }
+    requires second { second.old.items ≡ [] }
+    ensures same { (n : List ℕ) → F.told files.new n ≡ F.told files.old n }
+    ensures ends { EndsAsShown (question_line question.entry) counted form (F.told files.old) (F.faults files.old)
+        (F.faults files.new) first.new.items second.new.items result }
+{
+    match question {
+        Question::Check(file, asked) => {
+            let check = Inquiry::Check(Check { asked, counted });
+            ask_one(alloc, file, check, form, files, first, progress)
+        }
+        Question::Houdini(file, asked) => {
+            let houdini = Inquiry::Houdini(Houdini { asked, counted });
+            ask_one(alloc, file, houdini, form, files, first, progress)
+        }
+        Question::Bmc(file, bound) => {
+            let bmc = Inquiry::Bmc(Bmc { bound, counted });
+            ask_one(alloc, file, bmc, form, files, first, progress)
+        }
+        Question::Why(file, asked) => {
+            let why = Inquiry::Why(Why { asked });
+            ask_one(alloc, file, why, form, files, first, progress)
+        }
+        Question::Replay(model, report) => ask_two(
+            alloc, model, report, form, files, first, second, progress,
+        ),
+    }
+}
+
+// The answer to a question as one of all.
+fn as_answer(done: Result<Done<Viewed>, LoadError>) -> Result<Done<Answer>, LoadError>
+    ensures { result ≡ done_as done }
+{
+    match done {
+        Ok(done) => Ok(Done {
+            answer: Answer::Viewed(done.answer),
+            said: done.said,
+        }),
+        Err(why) => Err(why),
+    }
+}
+
+// Answers a question, as these options ask.
+fn show_asked<F: Files, P: Progress>(
     alloc: Global,
     question: Question,
     options: Options,
@@ -133,32 +187,13 @@ fn show_question<F: Files, P: Progress>(
     ensures due { due_in result ≡ due_of (Some (show (question_line question.entry) options)) first.new.items
         second.new.items (outcome_in result) }
     ensures ends { EndsAsAsked (Some (show (question_line question.entry) options)) (F.told files.old)
-        (F.faults files.old)
-        (F.faults files.new) first.new.items second.new.items (outcome_in result) }
+        (F.faults files.old) (F.faults files.new) first.new.items second.new.items (outcome_in result) }
 {
     let counted = counted_by(options);
     let form = options.form;
-    match question {
-        Question::Check(file, asked) => {
-            let check = Check { asked, counted };
-            as_variant(ask_one(alloc, file, check, form, files, first, progress))
-        }
-        Question::Houdini(file, asked) => {
-            let houdini = Houdini { asked, counted };
-            as_variant(ask_one(alloc, file, houdini, form, files, first, progress))
-        }
-        Question::Bmc(file, bound) => {
-            let bmc = Bmc { bound, counted };
-            as_variant(ask_one(alloc, file, bmc, form, files, first, progress))
-        }
-        Question::Why(file, asked) => {
-            let why = Why { asked };
-            as_variant(ask_one(alloc, file, why, form, files, first, progress))
-        }
-        Question::Replay(model, report) => as_variant(ask_two(
-            alloc, model, report, form, files, first, second, progress,
-        )),
-    }
+    as_answer(show_question(
+        alloc, question, counted, form, files, first, second, progress,
+    ))
 }
 
 // Does what a command line asks for.
@@ -181,12 +216,12 @@ fn perform<F: Files, P: Progress>(
         first.new.items second.new.items (outcome_in result) }
 {
     match ask {
-        Some(Ask::Help) => say_words(alloc, Words::Help, progress),
-        Some(Ask::Version) => say_words(alloc, Words::Version, progress),
-        Some(Ask::Show(question, options)) => show_question(
+        Some(Ask::Help) => say_words(alloc, Words::Help),
+        Some(Ask::Version) => say_words(alloc, Words::Version),
+        Some(Ask::Show(question, options)) => show_asked(
             alloc, question, options, files, first, second, progress,
         ),
-        None => say_words(alloc, Words::Usage, progress),
+        None => say_words(alloc, Words::Usage),
     }
 }
 

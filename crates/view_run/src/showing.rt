@@ -1,69 +1,61 @@
 // A question about the text of a model: what answers it, and what is shown of the answer.
-ghost use Rattle.std.specs.Prelude.{◌≡◌, ℕ, List, IfOk};
-ghost use Rattle.commands.specs.Due.{Due};
-ghost use Rattle.told_fault.specs.declared.reading.Reading.{Reading};
-ghost use Rattle.told_fault.specs.Readings.{IsReading};
-ghost use Rattle.view_line.specs.declared.options.Form.{Form};
+ghost use Rattle.std.specs.Prelude.{IfOk};
 ghost use Rattle.view_run.specs.Views.{IsViewed};
+ghost use Rattle.view_run.specs.Inquiries.{IsAnswerTo};
+ghost use Rattle.view_run.specs.Questions.{view_due};
 
-use crate::viewed::Viewed;
+use crate::bmc::say_bmc;
+use crate::check::say_check;
+use crate::houdini::say_houdini;
+use crate::inquiry::Inquiry;
+use crate::replay::say_replay;
+use crate::viewed::{ModelAnswer, Viewed};
+use crate::why::{judge_groups, say_why};
 use base::Mem;
 use commands::{Command, Said};
 use progress::Progress;
+use replay_command::Replay;
 use std::alloc::Global;
-use told_fault::{Reading, read};
+use told_fault::read;
 use view_line::Form;
 
-/// What is asked of the text of a model, and of a second text, which is empty where there is none.
-pub trait Show {
-    type Answer: Drop;
-
-    /// An answer to these texts.
-    ghost is_answer: { Self → List ℕ → List ℕ → Self.Answer → Type 0 };
-
-    /// What is due: by the form, the name of the model's file, its text, how far that can be read, and the answer.
-    ghost shown: { Self → Form → List ℕ → List ℕ → Reading → Self.Answer → Due };
-
-    /// The answer. How far it has come is told to `progress`.
-    fn answer<P: Progress>(
-        &self,
-        alloc: Global,
-        text: &[u8],
-        other: &[u8],
-        progress: &mut P,
-    ) -> Mem<Self::Answer>
-        ensures { IfOk result (is_answer self.now text.now other.now) };
-
-    /// What is shown of an answer.
-    fn show(
-        &self,
-        alloc: Global,
-        form: Form,
-        file: &str,
-        text: &[u8],
-        other: &[u8],
-        reading: &Reading,
-        answer: &Self::Answer,
-    ) -> Mem<Said>
-        requires answer { is_answer self.now text.now other.now answer.now }
-        requires reading { IsReading text.now reading.now }
-        ensures { IfOk result (λ s. s ≡ shown self.now form file.now text.now reading.now answer.now) };
-}
-
-/// The question, with the name of the model's file and how the answer is shown.
+/// The question, how the answer is shown, and the names of the files: of the model's, and of the report's, which is
+/// empty where no report is asked about.
 #[derive(Drop)]
-pub struct View<'a, Q: Drop> {
-    pub file: &'a str,
-    pub question: Q,
+pub struct View<'a> {
+    pub inquiry: Inquiry,
     pub form: Form,
+    pub file: &'a str,
+    pub report: &'a str,
 }
 
-impl<'a, Q: Show + Drop> Command for View<'a, Q> {
-    type Answer = Viewed<Q::Answer>;
+// The answer to the text of a model, and to a second text, which is empty where there is none.
+fn answer_to<P: Progress>(
+    alloc: Global,
+    inquiry: &Inquiry,
+    text: &[u8],
+    other: &[u8],
+    progress: &mut P,
+) -> Mem<ModelAnswer>
+    ensures { IfOk result (IsAnswerTo inquiry.now text.now other.now) }
+{
+    match inquiry {
+        Inquiry::Check(check) => Ok(ModelAnswer::Check(check.judge(alloc, text, other, progress)?)),
+        Inquiry::Houdini(houdini) => Ok(ModelAnswer::Houdini(houdini.judge(
+            alloc, text, other, progress,
+        )?)),
+        Inquiry::Bmc(bmc) => Ok(ModelAnswer::Bmc(bmc.judge(alloc, text, other, progress)?)),
+        Inquiry::Why(why) => Ok(ModelAnswer::Why(judge_groups(alloc, text, why.asked, progress)?)),
+        Inquiry::Replay => Ok(ModelAnswer::Replay(Replay.judge(alloc, text, other, progress)?)),
+    }
+}
 
-    ghost is_answer = { λ c first second a. IsViewed (Q.is_answer c.question first second) first a };
+impl<'a> Command for View<'a> {
+    type Answer = Viewed;
 
-    ghost due = { λ c first second a. Q.shown c.question c.form c.file.now first a.reading a.answer };
+    ghost is_answer = { λ v first second a. IsViewed (IsAnswerTo v.inquiry first second) first a };
+
+    ghost due = { λ v first second a. view_due v.form v.file.now v.report.now first a };
 
     fn judge<P: Progress>(
         &self,
@@ -71,9 +63,9 @@ impl<'a, Q: Show + Drop> Command for View<'a, Q> {
         first: &[u8],
         second: &[u8],
         progress: &mut P,
-    ) -> Mem<Viewed<Q::Answer>> {
+    ) -> Mem<Viewed> {
         let reading = read(alloc, first)?;
-        match self.question.answer(alloc, first, second, progress) {
+        match answer_to(alloc, &self.inquiry, first, second, progress) {
             Ok(answer) => Ok(Viewed { answer, reading }),
             Err(wanting) => {
                 drop(reading);
@@ -82,21 +74,15 @@ impl<'a, Q: Show + Drop> Command for View<'a, Q> {
         }
     }
 
-    fn say(
-        &self,
-        alloc: Global,
-        first: &[u8],
-        second: &[u8],
-        answer: &Viewed<Q::Answer>,
-    ) -> Mem<Said> {
-        self.question.show(
-            alloc,
-            self.form,
-            self.file,
-            first,
-            second,
-            &answer.reading,
-            &answer.answer,
-        )
+    fn say(&self, alloc: Global, first: &[u8], second: &[u8], answer: &Viewed) -> Mem<Said> {
+        let reading = &answer.reading;
+        let answer = &answer.answer;
+        match &self.inquiry {
+            Inquiry::Check(check) => say_check(alloc, self, check, first, reading, answer),
+            Inquiry::Houdini(houdini) => say_houdini(alloc, self, houdini, first, reading, answer),
+            Inquiry::Bmc(bmc) => say_bmc(alloc, self, bmc, first, reading, answer),
+            Inquiry::Why(why) => say_why(alloc, self, why, first, reading, answer),
+            Inquiry::Replay => say_replay(alloc, self, first, second, reading, answer),
+        }
     }
 }

@@ -6,51 +6,49 @@ ghost use Rattle.told_fault.specs.Readings.{IsReading};
 ghost use Rattle.told_derived.specs.Definitions.{FitDefinitions};
 ghost use Rattle.view_run.specs.Views.{definitions_in, told_by, text_told};
 
-use crate::ways::{Ways, model_of_tree, ways_of};
+use crate::source::{model_of_tree, source_of};
 use base::Mem;
+use branches::Source;
 use fol_sig::Structure;
 use rml_command::{Checked, Model, Stage};
 use std::alloc::Global;
 use told_derived::Definitions;
 use told_fault::Reading;
 use told_report::InText;
+use told_text::Text;
 
 /// The source of a model and its derived relations, where they are known.
 #[derive(Drop)]
 pub struct Telling<'a> {
-    pub ways: Ways<'a>,
+    pub source: Option<Source<'a>>,
     pub definitions: Definitions,
 }
 
 impl<'a> InText for Telling<'a> {
-    ghost told = { λ t. told_by t.ways.source t.definitions };
+    ghost told = { λ t. told_by t.source t.definitions };
 
     ghost is_over = { λ t sig. FitDefinitions sig t.definitions };
 
-    fn push_lines(&self, out: &mut Vec<u8>, stage: Stage, path: u32) -> Mem<()> {
-        self.ways.push_lines(out, stage, path)
+    fn push_lines(&self, out: &mut Text, stage: Stage, path: u32) {
+        if let Some(source) = &self.source {
+            source.push_lines(out, stage, path);
+        }
     }
 
-    fn push_facts(
-        &self,
-        alloc: Global,
-        out: &mut Vec<u8>,
-        model: &Model,
-        structure: &Structure,
-    ) -> Mem<()> {
-        self.definitions.push_facts(alloc, out, model, structure)
+    fn push_facts(&self, alloc: Global, out: &mut Text, model: &Model, structure: &Structure) {
+        self.definitions.push_facts(alloc, out, model, structure);
     }
 
     fn push_changes(
         &self,
         alloc: Global,
-        out: &mut Vec<u8>,
+        out: &mut Text,
         model: &Model,
         before: &Structure,
         after: &Structure,
-    ) -> Mem<()> {
+    ) {
         self.definitions
-            .push_changes(alloc, out, model, before, after)
+            .push_changes(alloc, out, model, before, after);
     }
 }
 
@@ -87,10 +85,13 @@ pub fn telling_of<'a>(
 ) -> Mem<Telling<'a>>
     requires reading { IsReading text.now reading.now }
     requires model { IsTheModel text.now model.now }
-    ensures told { IfOk result (λ t. told_by t.ways.source t.definitions ≡ text_told text.now reading.now) }
+    ensures told { IfOk result (λ t. told_by t.source t.definitions ≡ text_told text.now reading.now) }
     ensures fit { IfOk result (λ t. FitDefinitions (symbols model.now.signature) t.definitions) }
 {
     let definitions = definitions_in(alloc, text, reading, model)?;
-    let ways = ways_of(alloc, text, reading, model);
-    Ok(Telling { ways, definitions })
+    let source = source_of(alloc, text, reading, model);
+    Ok(Telling {
+        source,
+        definitions,
+    })
 }

@@ -5,11 +5,13 @@ ghost use Rattle.command_line.specs.Asking.{IsInRange};
 ghost use Rattle.command_parts.specs.Limits.{ceilings_of};
 ghost use Rattle.model_reasons.specs.Reasons.{AreReasons};
 ghost use Rattle.model_reasons.specs.Laws.{CarriedIsShown};
-ghost use Rattle.view_run.specs.Why.{IsWhyAnswer, answer_view, fails, is_open, reasons_line, reasons_view};
-ghost use Rattle.view_run.specs.Why.{why_status};
+ghost use Rattle.told_fault.specs.Readings.{IsReading};
+ghost use Rattle.view_run.specs.Why.{IsWhyAnswer, fails, is_open, reasons_line, reasons_view, why_status};
+ghost use Rattle.view_run.specs.Questions.{OfWhy, model_due};
 
 use crate::faults::{line_of, say_fault};
-use crate::showing::Show;
+use crate::showing::View;
+use crate::viewed::ModelAnswer;
 use base::{Mem, Refused, Row};
 use command_line::Asked;
 use command_parts::{limits_of, read_model, shown};
@@ -58,8 +60,8 @@ fn reasons_of<P: Progress>(
     Ok(reasons)
 }
 
-// The answer to the text of a model.
-fn judge_groups<P: Progress>(
+/// The answer to the text of a model.
+pub fn judge_groups<P: Progress>(
     alloc: Global,
     text: &[u8],
     asked: Asked,
@@ -146,40 +148,29 @@ fn reasons_view(
     }
 }
 
-impl Show for Why {
-    type Answer = WhyAnswer;
-
-    ghost is_answer = { λ c text other a. IsWhyAnswer (ceilings_of c.asked) text a };
-
-    ghost shown = { λ c form file text reading a. answer_view form file text reading a };
-
-    fn answer<P: Progress>(
-        &self,
-        alloc: Global,
-        text: &[u8],
-        other: &[u8],
-        progress: &mut P,
-    ) -> Mem<WhyAnswer> {
-        judge_groups(alloc, text, self.asked, progress)
-    }
-
-    fn show(
-        &self,
-        alloc: Global,
-        form: Form,
-        file: &str,
-        text: &[u8],
-        other: &[u8],
-        reading: &Reading,
-        answer: &WhyAnswer,
-    ) -> Mem<Said> {
-        model_reasons::showing_law();
-        match answer {
-            WhyAnswer::Reasons { model, reasons } => {
-                let out = reasons_view(alloc, form, file, model, reasons.as_slice())?;
-                Ok(shown(out, why_status(reasons.as_slice())))
-            }
-            WhyAnswer::Fault(fault) => say_fault(alloc, form, "why", file, text, fault, reading),
+/// What is shown of an answer of `why`.
+pub fn say_why(
+    alloc: Global,
+    view: &View,
+    why: &Why,
+    text: &[u8],
+    reading: &Reading,
+    answer: &ModelAnswer,
+) -> Mem<Said>
+    requires answer { OfWhy (IsWhyAnswer (ceilings_of why.now.asked) text.now) answer.now }
+    requires reading { IsReading text.now reading.now }
+    ensures { IfOk result (λ s. s ≡ model_due view.now.form view.now.file.now view.now.report.now text.now reading.now
+        answer.now) }
+{
+    model_reasons::showing_law();
+    match answer {
+        ModelAnswer::Why(WhyAnswer::Reasons { model, reasons }) => {
+            let out = reasons_view(alloc, view.form, view.file, model, reasons.as_slice())?;
+            Ok(shown(out, why_status(reasons.as_slice())))
         }
+        ModelAnswer::Why(WhyAnswer::Fault(fault)) => {
+            say_fault(alloc, view.form, "why", view.file, text, fault, reading)
+        }
+        _ => unreachable!(),
     }
 }

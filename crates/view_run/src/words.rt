@@ -1,11 +1,11 @@
 // What is answered with words alone: what the words of a command line are, which version this is, and that these are
 // none.
+ghost use Rattle.std.specs.Prelude.{◌≡◌, IfOk};
 ghost use Rattle.view_run.specs.Words.{words_due};
 
 use base::Mem;
 use command_parts::{complaint, shown};
-use commands::{Command, Said};
-use progress::Progress;
+use commands::Said;
 use std::alloc::Global;
 use view_line::{help, usage};
 
@@ -17,33 +17,18 @@ pub enum Words {
     Usage,
 }
 
-impl Command for Words {
-    type Answer = ();
-
-    ghost is_answer = { λ c first second a. Unit {0} };
-
-    ghost due = { λ c first second a. words_due c };
-
-    fn judge<P: Progress>(
-        &self,
-        alloc: Global,
-        first: &[u8],
-        second: &[u8],
-        progress: &mut P,
-    ) -> Mem<()> {
-        Ok(())
-    }
-
-    fn say(&self, alloc: Global, first: &[u8], second: &[u8], answer: &()) -> Mem<Said> {
-        match self {
-            Words::Help => Ok(shown(help(alloc)?, 0)),
-            Words::Version => Ok(shown(
-                "ivyview 1, for models of rml 1 and 2\n"
-                    .as_bytes()
-                    .to_vec(alloc)?,
-                0,
-            )),
-            Words::Usage => Ok(complaint(usage(alloc)?, 2)),
-        }
+/// What is said to them.
+pub fn words_said(alloc: Global, words: Words) -> Mem<Said>
+    ensures { IfOk result (λ s. s ≡ words_due words) }
+{
+    match words {
+        Words::Help => Ok(shown(help(alloc)?, 0)),
+        Words::Version => Ok(shown(
+            "ivyview 1, for models of rml 1 and 2\n"
+                .as_bytes()
+                .to_vec(alloc)?,
+            0,
+        )),
+        Words::Usage => Ok(complaint(usage(alloc)?, 2)),
     }
 }

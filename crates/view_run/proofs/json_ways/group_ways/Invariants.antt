@@ -4,7 +4,7 @@ use Rattle.view_run.specs.WayData.{group_ways}
 use Rattle.view_run.proofs.json_ways.group_ways.Given as goal
 
 abbrev pub invariant-loop-rest : goal.invariant-loop-rest
-invariant-loop-rest l = l.list.items ++ group_ways l.ways.source l.rest ≡ group_ways l.ways.source l.groups
+invariant-loop-rest l = l.list.items ++ group_ways l.source l.rest ≡ group_ways l.source l.groups
 
 abbrev pub decreases-loop-rest : goal.decreases-loop-rest
 decreases-loop-rest l = length l.rest

@@ -1,7 +1,7 @@
 -- The tree that was read is that of the model, since a text has one.
 use Rattle.rml_syntax.specs.Tree.{file_tree}
 use Rattle.view_run.proofs.Faultless.{model_of_tree}
-use Rattle.view_run.proofs.ways.model_of_tree.Goals as goal
+use Rattle.view_run.proofs.source.model_of_tree.Goals as goal
 
 pub returns-clause-right : goal.returns-clause-right
 returns-clause-right c =

@@ -1,9 +1,0 @@
--- What the text tells beside its model is told by its source and its derived relations.
-use Rattle.std.proofs.Common.{ap, ◌∙◌}
-use Rattle.told_answers.specs.RunsText.{runs_text}
-use Rattle.view_run.proofs.bmc.told.Goals as goal
-
-pub returns : goal.returns
-returns c =
-    c.in_ok-out.ensures
-    ∙ ap (λ t. runs_text c.args.model.now t c.args.bounded.now) c.in_ok-telling.ensures.told
