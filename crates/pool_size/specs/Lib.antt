@@ -1,0 +1,4 @@
+pub mod Counted
+pub mod Existentials
+pub mod Instances
+pub mod Sizes

@@ -1,0 +1,16 @@
+//! How large the ground formulas of a sentence will be, where the sentence stands in a pool of formulas of which equal
+//! parts are kept once: each node is counted once, where its tree would be walked in each place. What is counted is
+//! said by `ground_size`, of trees.
+#![tactic(auto)]
+
+mod axioms;
+mod counting;
+mod counts;
+mod existentials;
+mod instance;
+mod leaves;
+mod measure;
+mod signed;
+mod size;
+
+pub use size::{GroundSize, ground_size};

@@ -1,0 +1,10 @@
+// What is counted at a node.
+use crate::leaves::LeafCount;
+use crate::signed::SignedCount;
+
+// Of a formula or a row of formulas the sizes, and of a term or a row of terms the leaves.
+#[derive(Clone, Copy)]
+pub enum Measure {
+    Sizes(SignedCount),
+    Leaves(LeafCount),
+}

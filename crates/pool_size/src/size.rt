@@ -1,0 +1,56 @@
+// All together.
+ghost use Rattle.std.specs.Prelude.{◌≡◌, ◌<◌, [], length, IfOk};
+ghost use Rattle.fol_sig.specs.Symbols.{symbols};
+ghost use Rattle.fol_sig.specs.Strata.{IsStrata};
+ghost use Rattle.fol_formula.specs.Fits.{FitsForm};
+ghost use Rattle.fol_formula.specs.Fragments.{IsEa};
+ghost use Rattle.fol_pool.specs.Trees.{HasForm, form_at};
+ghost use Rattle.pool_size.specs.Sizes.{IsGroundSize};
+
+use crate::axioms::axioms;
+use crate::counting::term_counts;
+use crate::counts::total;
+use crate::existentials::constants;
+use crate::instance::instance_nodes;
+use base::Mem;
+use fol_pool::{Node, Pool};
+use fol_sig::{Signature, Strata};
+use std::alloc::Global;
+
+/// How many ground terms there are once a sentence's existentials are constants, and how large its ground formulas
+/// are: the nodes of its instance, and the axioms of equality. A number that 64 bits do not hold is the greatest that
+/// they hold.
+#[derive(Clone, Copy)]
+pub struct GroundSize {
+    pub terms: u64,
+    pub size: u64,
+}
+
+/// The size of the ground formulas of the sentence at a node. Nothing is built. Each node with a number up to that of
+/// the sentence is looked at, once for each sort and once more, also where it is no part of the sentence. Err: out of
+/// memory; a few numbers are kept for each of these nodes, and for each sort.
+pub fn ground_size(
+    alloc: Global,
+    signature: &Signature,
+    strata: &Strata,
+    pool: &Pool,
+    sentence: Node,
+) -> Mem<GroundSize>
+    requires strata { IsStrata (symbols signature.now) strata.now }
+    requires sentence { HasForm pool.now sentence.0 }
+    requires fragment { IsEa (form_at pool.now sentence.0) }
+    requires fits { FitsForm (symbols signature.now) [] (form_at pool.now sentence.0) }
+    ensures { IfOk result (IsGroundSize signature.now (form_at pool.now sentence.0)) }
+{
+    fol_sig::growth_laws();
+    fol_nnf::exactness();
+    skolem::exactness();
+    skolem::witnesses();
+    let constants = constants(alloc, signature, pool, sentence)?;
+    let counts = term_counts(alloc, signature, strata, &constants)?;
+    let nodes = instance_nodes(alloc, pool, &counts, sentence)?;
+    Ok(GroundSize {
+        terms: total(&counts),
+        size: nodes.saturating_add(axioms(signature, &counts)),
+    })
+}

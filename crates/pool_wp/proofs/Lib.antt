@@ -1,0 +1,5 @@
+pub mod Nodes
+pub mod PremiseRows
+pub mod Before
+pub mod Backward
+pub mod Answered

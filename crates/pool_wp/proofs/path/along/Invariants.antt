@@ -1,0 +1,16 @@
+use Rattle.std.proofs.Common.{length}
+use Rattle.fol_sig.specs.Symbols.{symbols}
+use Rattle.fol_pool.specs.Trees.{Grows}
+use Rattle.rml_wp.specs.Preconditions.{target_of, premises_of}
+use Rattle.pool_wp.proofs.Backward.{IsBack}
+use Rattle.pool_wp.proofs.path.along.Given as goal
+
+abbrev pub invariant-loop-primitive : goal.invariant-loop-primitive
+invariant-loop-primitive l = record {
+  grows : Grows l.fn.pool l.pool;
+  back : IsBack (symbols l.model.signature) (premises_of l.fn.premises l.model.axioms)
+      (target_of l.model l.fn.about) (length l.model.signature.relations) l.path l.before l.fresh l.pool l.now.0;
+}
+
+abbrev pub decreases-loop-primitive : goal.decreases-loop-primitive
+decreases-loop-primitive l = length l.before

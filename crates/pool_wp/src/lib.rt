@@ -1,0 +1,16 @@
+//! Preconditions of paths, made in a pool of formulas of which equal parts are kept once: what is done to a formula is
+//! done to each node once, where its tree would be walked in each place. What a precondition is, and the limit of its
+//! size, is said by `rml_wp`, of trees.
+#![tactic(auto)]
+
+mod goal;
+mod model_nodes;
+mod path;
+mod premises;
+mod refuted;
+mod rows;
+mod steps;
+
+pub use goal::precondition;
+pub use model_nodes::ModelNodes;
+pub use refuted::refuting;

@@ -1,0 +1,212 @@
+// What must hold before one primitive, by what must hold behind it.
+ghost use Rattle.std.specs.Prelude.{◌≡◌, ◌≤◌, ◌<◌, length, IfOk};
+ghost use Rattle.fol_sig.specs.Symbols.{symbols};
+ghost use Rattle.fol_formula.specs.View.{form, term};
+ghost use Rattle.fol_formula.specs.Syntax.{implication, for_all};
+ghost use Rattle.fol_occurs.specs.View.{named};
+ghost use Rattle.fol_occurs.specs.Occurs.{the_rel, the_fun};
+ghost use Rattle.fol_subst.specs.Replace.{change_rel, change_fun, change_const, changed_form};
+ghost use Rattle.fol_pool.specs.Trees.{IsAt, Grows, HasForm, a_form, a_term, form_at};
+ghost use Rattle.pool_subst.specs.Replacements.{HasReplacement, change_in};
+ghost use Rattle.rml_command.specs.View.{primitive as primitive_view};
+ghost use Rattle.rml_command.specs.Models.{FitsPrimitive};
+ghost use Rattle.rml_command.specs.Fresh.{at_parameters as at_parameters_of};
+ghost use Rattle.rml_wp.specs.Written.{written_step};
+ghost use Rattle.rml_wp.specs.Preconditions.{back_of, premises_at, premises_of, where_lawful};
+ghost use Rattle.pool_wp.specs.Standing.{AreNodesOf};
+
+use crate::model_nodes::ModelNodes;
+use crate::premises::lawful;
+use crate::rows::{at_parameters, take_term};
+use base::Mem;
+use fol_formula::{Formula, Term};
+use fol_pool::{Node, Pool, Shape};
+use fol_sig::{FunId, RelId, Symbol};
+use pool_subst::{Replacement, replace};
+use rml_command::{Model, Primitive};
+use rml_wp::Premises;
+use std::alloc::Global;
+
+// What must hold before a primitive; a relation havoc is an update to the fresh relation of this number.
+pub fn step_back(
+    alloc: Global,
+    pool: &mut Pool,
+    nodes: &ModelNodes,
+    model: &Model,
+    premises: Premises,
+    primitive: &Primitive,
+    fresh: u32,
+    rest: Node,
+) -> Mem<Node>
+    requires nodes { AreNodesOf model.now pool.old nodes.now }
+    requires primitive { FitsPrimitive (symbols model.now.signature) (primitive_view primitive.now) }
+    requires rest { HasForm pool.old rest.0 }
+    ensures node { IfOk result
+        (λ node. IsAt pool.new node.0
+        (a_form (back_of (symbols model.now.signature)
+        (premises_of premises model.now.axioms
+        (written_step (symbols model.now.signature) fresh (primitive_view primitive.now)))
+        (written_step (symbols model.now.signature) fresh (primitive_view primitive.now))
+        (form_at pool.old rest.0)))) }
+    ensures grows { Grows pool.old pool.new }
+{
+    match primitive {
+        Primitive::Assume(sentence) => before_assume(pool, sentence.formula(), rest),
+        Primitive::SetRel(rel, by) => {
+            before_set_rel(alloc, pool, nodes, model, premises, *rel, by, rest)
+        }
+        Primitive::SetFun(fun, by) => {
+            before_set_fun(alloc, pool, nodes, model, premises, *fun, by, rest)
+        }
+        Primitive::Havoc(variable) => {
+            before_havoc(alloc, pool, nodes, model, premises, *variable, rest)
+        }
+        Primitive::HavocRel(rel) => {
+            before_havoc_rel(alloc, pool, nodes, model, premises, *rel, fresh, rest)
+        }
+        Primitive::Abort => pool.add(Shape::False),
+    }
+}
+
+fn before_assume(pool: &mut Pool, assumed: &Formula, rest: Node) -> Mem<Node>
+    requires rest { HasForm pool.old rest.0 }
+    ensures node { IfOk result
+        (λ node. IsAt pool.new node.0 (a_form (implication (form assumed.now) (form_at pool.old rest.0)))) }
+    ensures grows { Grows pool.old pool.new }
+{
+    let premise = pool.take_in(assumed)?;
+    let node = pool.add(Shape::Implies(premise, rest))?;
+    Ok(node)
+}
+
+fn before_set_rel(
+    alloc: Global,
+    pool: &mut Pool,
+    nodes: &ModelNodes,
+    model: &Model,
+    premises: Premises,
+    rel: RelId,
+    by: &Formula,
+    rest: Node,
+) -> Mem<Node>
+    requires nodes { AreNodesOf model.now pool.old nodes.now }
+    requires rest { HasForm pool.old rest.0 }
+    ensures node { IfOk result
+        (λ node. IsAt pool.new node.0
+        (a_form (changed_form (change_rel rel.0 (form by.now)) 0
+        (where_lawful (premises_at premises model.now.axioms (the_rel rel.0)) (form_at pool.old rest.0))))) }
+    ensures grows { Grows pool.old pool.new }
+{
+    let by = pool.take_in(by)?;
+    let change = Replacement::Rel(rel, by);
+    let symbol = Symbol::Relation(rel);
+    let node = before_change(alloc, pool, nodes, model, premises, symbol, change, rest)?;
+    Ok(node)
+}
+
+fn before_set_fun(
+    alloc: Global,
+    pool: &mut Pool,
+    nodes: &ModelNodes,
+    model: &Model,
+    premises: Premises,
+    fun: FunId,
+    by: &Term,
+    rest: Node,
+) -> Mem<Node>
+    requires nodes { AreNodesOf model.now pool.old nodes.now }
+    requires rest { HasForm pool.old rest.0 }
+    ensures node { IfOk result
+        (λ node. IsAt pool.new node.0
+        (a_form (changed_form (change_fun fun.0 (term by.now)) 0
+        (where_lawful (premises_at premises model.now.axioms (the_fun fun.0)) (form_at pool.old rest.0))))) }
+    ensures grows { Grows pool.old pool.new }
+{
+    let by = take_term(alloc, pool, by)?;
+    let change = Replacement::Fun(fun, by);
+    let symbol = Symbol::Function(fun);
+    let node = before_change(alloc, pool, nodes, model, premises, symbol, change, rest)?;
+    Ok(node)
+}
+
+fn before_havoc(
+    alloc: Global,
+    pool: &mut Pool,
+    nodes: &ModelNodes,
+    model: &Model,
+    premises: Premises,
+    variable: FunId,
+    rest: Node,
+) -> Mem<Node>
+    requires variable { variable.0 < length model.now.signature.functions }
+    requires nodes { AreNodesOf model.now pool.old nodes.now }
+    requires rest { HasForm pool.old rest.0 }
+    ensures node { IfOk result
+        (λ node. IsAt pool.new node.0
+        (a_form (for_all ((symbols model.now.signature).into_of variable.0)
+        (changed_form (change_const variable.0 0) 0
+        (where_lawful (premises_at premises model.now.axioms (the_fun variable.0)) (form_at pool.old rest.0)))))) }
+    ensures grows { Grows pool.old pool.new }
+{
+    let change = Replacement::Const(variable, 0);
+    let symbol = Symbol::Function(variable);
+    let inside = before_change(alloc, pool, nodes, model, premises, symbol, change, rest)?;
+    let sort = model.signature().into_of(variable);
+    let node = pool.add(Shape::Forall(sort, inside))?;
+    Ok(node)
+}
+
+fn before_havoc_rel(
+    alloc: Global,
+    pool: &mut Pool,
+    nodes: &ModelNodes,
+    model: &Model,
+    premises: Premises,
+    rel: RelId,
+    fresh: u32,
+    rest: Node,
+) -> Mem<Node>
+    requires relation { rel.0 < length model.now.signature.relations }
+    requires nodes { AreNodesOf model.now pool.old nodes.now }
+    requires rest { HasForm pool.old rest.0 }
+    ensures node { IfOk result
+        (λ node. IsAt pool.new node.0
+        (a_form (changed_form
+        (change_rel rel.0 (at_parameters_of fresh (length ((symbols model.now.signature).sorts_of rel.0)))) 0
+        (where_lawful (premises_at premises model.now.axioms (the_rel rel.0)) (form_at pool.old rest.0))))) }
+    ensures grows { Grows pool.old pool.new }
+{
+    let count = model.signature().sorts_of(rel).len() as u32;
+    let by = at_parameters(pool, RelId(fresh), count)?;
+    let change = Replacement::Rel(rel, by);
+    let symbol = Symbol::Relation(rel);
+    let node = before_change(alloc, pool, nodes, model, premises, symbol, change, rest)?;
+    Ok(node)
+}
+
+// Before a change of a symbol: only where the structure behind it satisfies the axioms.
+fn before_change(
+    alloc: Global,
+    pool: &mut Pool,
+    nodes: &ModelNodes,
+    model: &Model,
+    premises: Premises,
+    symbol: Symbol,
+    change: Replacement,
+    rest: Node,
+) -> Mem<Node>
+    requires nodes { AreNodesOf model.now pool.old nodes.now }
+    requires change { HasReplacement pool.old change }
+    requires rest { HasForm pool.old rest.0 }
+    ensures node { IfOk result
+        (λ node. IsAt pool.new node.0
+        (a_form (changed_form (change_in pool.old change) 0
+        (where_lawful (premises_at premises model.now.axioms (named symbol)) (form_at pool.old rest.0))))) }
+    ensures grows { Grows pool.old pool.new }
+{
+    let axioms = model.axioms();
+    let lawful = lawful(pool, premises, axioms, &nodes.axioms, symbol)?;
+    let within = pool.add(Shape::Implies(lawful, rest))?;
+    let node = replace(alloc, pool, within, change)?;
+    Ok(node)
+}
