@@ -29,7 +29,8 @@ graph_head word n = codes "digraph " ++ word ++ decimal n ++ codes " {\n"
 -- the structure before beside the one after, under a title that stands above the picture
 unfoldable pub step_graph : ℕ → List ℕ → Names → Tables → Tables → List ℕ
 step_graph n title names s t =
-    graph_head (codes "step") n ++ codes "  label=<" ++ title ++ codes ">;\n  labelloc=t;\n" ++ side_text (codes "b") (codes "before") names s t
+    graph_head (codes "step") n ++ codes "  label=<" ++ title ++ codes ">;\n  labelloc=t;\n"
+    ++ side_text (codes "b") (codes "before") names s t
     ++ side_text (codes "a") (codes "after") names t s ++ codes "}\n"
 
 -- one structure under a title, in which nothing is red

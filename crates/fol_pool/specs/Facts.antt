@@ -1,5 +1,5 @@
--- What a pool knows of the tree of a node: how many nodes it has and how deep it is, as far as 64 bits count, and whether
--- an existential stands in it.
+-- What a pool knows of the tree of a node: how many nodes it has and how deep it is, as far as 64 bits count, and
+-- whether an existential stands in it.
 use Rattle.std.specs.Prelude.{ℕ, Bool, true, false, ◌||◌}
 use Rattle.fol_formula.specs.Syntax.{FormTree, FormTrees, top, bottom, rel, equal, negation, conjunction, disjunction}
 use Rattle.fol_formula.specs.Syntax.{implication, equivalence, for_all, for_some, no_forms, form_then}

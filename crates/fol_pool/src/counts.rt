@@ -1,5 +1,5 @@
-// How many nodes the formula of a node has, how deep it is, and whether an existential stands in it: what is known of the
-// parts is kept, so nothing is walked.
+// How many nodes the formula of a node has, how deep it is, and whether an existential stands in it: what is known of
+// the parts is kept, so nothing is walked.
 ghost use Rattle.std.specs.Prelude.{◌≡◌, false};
 ghost use Rattle.fol_formula.specs.Counts.{form_nodes, forms_nodes, term_nodes, terms_nodes, form_depth, forms_depth};
 ghost use Rattle.fol_formula.specs.Counts.{term_depth, terms_depth, saturated};

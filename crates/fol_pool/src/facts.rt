@@ -1,5 +1,5 @@
-// What is known of a tree: how many nodes it has and how deep it is, as far as 64 bits count, and whether an existential
-// stands in it.
+// What is known of a tree: how many nodes it has and how deep it is, as far as 64 bits count, and whether an
+// existential stands in it.
 ghost use Rattle.std.specs.Prelude.{◌≡◌, ◌+◌, ◌||◌, max};
 ghost use Rattle.fol_formula.specs.Counts.{saturated};
 

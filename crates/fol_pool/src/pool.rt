@@ -94,7 +94,8 @@ impl Pool {
 
 // What is known of a new tree is pushed. With room for it, this cannot fail.
 fn push_where(facts: &mut Vec<TreeFacts>, is_new: bool, known: TreeFacts) -> Mem<()>
-    ensures items { OnOk result (facts.new.items ≡ (if is_new then facts.old.items ++ known ∷ [] else facts.old.items)) }
+    ensures items { OnOk result
+        (facts.new.items ≡ (if is_new then facts.old.items ++ known ∷ [] else facts.old.items)) }
     ensures room { vec_len facts.old < vec_capacity facts.old → IsOk result }
 {
     if is_new {

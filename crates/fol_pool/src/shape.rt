@@ -7,7 +7,7 @@ pub struct Node(pub u32);
 
 /// A formula, a term, or a row of these, whose parts are nodes. The variants are those of `Formula` and `Term`; a list
 /// of parts is a node too, an empty row or a part and the row behind it, so that ends that are the same are kept once,
-/// and a shape takes sixteen bytes.
+/// and a shape owns no memory.
 #[derive(Clone, Copy, PartialEq, Eq, Hash)]
 pub enum Shape {
     True,
