@@ -44,8 +44,9 @@ impl Pool {
         }
     }
 
+    /// The node of a term, which is added likewise.
     #[cycle(taking)]
-    fn take_term(&mut self, t: &Term) -> Mem<Node>
+    pub fn take_term(&mut self, t: &Term) -> Mem<Node>
         ensures node { IfOk result (λ node. IsAt self.new node.0 (a_term (term t.now))) }
         ensures grows { Grows self.old self.new }
     {
