@@ -1,13 +1,12 @@
--- A path that is gone back while its relation havocs are written out.
-use Rattle.std.proofs.Common.{map, get_or, ◌≡◌, ℕ, zero, suc, ◌+◌, ◌<◌, ◌≤◌, List, [], ◌∷◌, ◌++◌, length, refl, sym}
-use Rattle.std.proofs.Common.{ap, ◌∙◌, subst}
-use Rattle.std.proofs.Common.{arith, append_assoc}
+-- What holds of a path in the signature with its fresh relations, and the loop that lists those that it havocs.
+use Rattle.std.proofs.Common.{map, get_or, ◌≡◌, ℕ, zero, suc, ◌<◌, List, [], ◌∷◌, ◌++◌, length, sym}
+use Rattle.std.proofs.Common.{ap, ◌∙◌, subst, arith, append_assoc}
 use Rattle.std.specs.List.{AllByRecursion}
-use Rattle.base.proofs.Lists.{all_back, all_more, all_push, map-map}
+use Rattle.base.proofs.Lists.{all_more, all_push, map-map}
 use Rattle.fol_sig.specs.declared.RelId.{RelId}
-use Rattle.std.proofs.lemmas.List.{length-append, map-append, append-nil}
+use Rattle.std.proofs.lemmas.List.{map-append, append-nil}
 use Rattle.fol_sig.specs.Tables.{Declared, IsSignature}
-use Rattle.fol_sig.specs.Symbols.{Symbols, symbols}
+use Rattle.fol_sig.specs.Symbols.{symbols}
 use Rattle.fol_sig.specs.Growing.{GrowsByRelations}
 use Rattle.fol_formula.specs.Syntax.{FormTree}
 use Rattle.fol_formula.specs.Fits.{FitsForm}
@@ -15,93 +14,9 @@ use Rattle.fol_formula.specs.Growing.{FittingIsKept}
 use Rattle.rml_command.specs.Trees.{PrimitiveTree, assume, set_rel, set_fun, havoc, havoc_rel, abort}
 use Rattle.rml_command.specs.Models.{FitsPrimitive, FitsPath, FitsSteps}
 use Rattle.rml_command.specs.Fresh.{written, havocked, with_fresh, WrittenPathsFit, FreshSignaturesGrow}
-use Rattle.rml_wp.specs.Written.{relation_havocs, written_step, havoc_of}
+use Rattle.rml_wp.specs.Written.{havoc_of}
 use Rattle.rml_wp.proofs.Under.{steps-of}
 
-pub havocked-count : (sig : Symbols) (p : List PrimitiveTree) → length (havocked sig p) ≡ relation_havocs p
-havocked-count sig [] = refl
-havocked-count sig (assume p ∷ qs) = havocked-count sig qs
-havocked-count sig (set_rel r by ∷ qs) = havocked-count sig qs
-havocked-count sig (set_fun f by ∷ qs) = havocked-count sig qs
-havocked-count sig (havoc v ∷ qs) = havocked-count sig qs
-havocked-count sig (havoc_rel r ∷ qs) = ap suc (havocked-count sig qs)
-havocked-count sig (abort ∷ qs) = havocked-count sig qs
-
-pub havocs-append : (a b : List PrimitiveTree) → relation_havocs (a ++ b) ≡ relation_havocs a + relation_havocs b
-havocs-append [] b = omega arith
-havocs-append (assume p ∷ qs) b = havocs-append qs b
-havocs-append (set_rel r by ∷ qs) b = havocs-append qs b
-havocs-append (set_fun f by ∷ qs) b = havocs-append qs b
-havocs-append (havoc v ∷ qs) b = havocs-append qs b
-havocs-append (havoc_rel r ∷ qs) b = let h = havocs-append qs b in omega (arith, h)
-havocs-append (abort ∷ qs) b = havocs-append qs b
-
-one-written : (sig : Symbols) (n : ℕ) (q : PrimitiveTree) → written sig n (q ∷ []) ≡ written_step sig n q ∷ []
-one-written sig n (assume p) = refl
-one-written sig n (set_rel r by) = refl
-one-written sig n (set_fun f by) = refl
-one-written sig n (havoc v) = refl
-one-written sig n (havoc_rel r) = refl
-one-written sig n abort = refl
-
-written-append : (sig : Symbols) (n : ℕ) (a b : List PrimitiveTree)
-    → written sig n (a ++ b) ≡ written sig n a ++ written sig (n + relation_havocs a) b
-written-append sig n [] b = let e : n ≡ n + 0 = omega arith in ap (λ k. written sig k b) e
-written-append sig n (assume p ∷ qs) b = ap (λ z. assume p ∷ z) (written-append sig n qs b)
-written-append sig n (set_rel r by ∷ qs) b = ap (λ z. set_rel r by ∷ z) (written-append sig n qs b)
-written-append sig n (set_fun f by ∷ qs) b = ap (λ z. set_fun f by ∷ z) (written-append sig n qs b)
-written-append sig n (havoc v ∷ qs) b = ap (λ z. havoc v ∷ z) (written-append sig n qs b)
-written-append sig n (havoc_rel r ∷ qs) b =
-    let e : suc n + relation_havocs qs ≡ n + suc (relation_havocs qs) = omega arith in
-    ap (λ z. written_step sig n (havoc_rel r) ∷ z)
-    (written-append sig (suc n) qs b ∙ ap (λ k. written sig (suc n) qs ++ written sig k b) e)
-written-append sig n (abort ∷ qs) b = ap (λ z. abort ∷ z) (written-append sig n qs b)
-
--- the last primitive, with the number of its fresh relation
-pub record Last (sig : Symbols) (n : ℕ) (before rest : List PrimitiveTree) (q : PrimitiveTree) (behind fresh : ℕ)
-    : Type 0 where
-  pub step : written sig n before ≡ written sig n rest ++ written_step sig fresh q ∷ []
-  pub number : fresh ≡ n + relation_havocs rest
-
-pub room : (n : ℕ) (before rest : List PrimitiveTree) (q : PrimitiveTree) (behind : ℕ) → before ≡ rest ++ q ∷ []
-    → behind ≡ n + relation_havocs before → relation_havocs (q ∷ []) ≤ behind
-room n before rest q behind split count =
-    omega (arith, count, ap relation_havocs split ∙ havocs-append rest (q ∷ []))
-
-pub last : (sig : Symbols) (n : ℕ) (before rest : List PrimitiveTree) (q : PrimitiveTree) (behind fresh : ℕ)
-    → before ≡ rest ++ q ∷ [] → behind ≡ n + relation_havocs before → fresh + relation_havocs (q ∷ []) ≡ behind
-    → Last sig n before rest q behind fresh
-last sig n before rest q behind fresh split count less =
-    let number : fresh ≡ n + relation_havocs rest =
-    omega (arith, count, less, ap relation_havocs split ∙ havocs-append rest (q ∷ [])) in
-    record {
-      step =
-          ap (written sig n) split ∙ written-append sig n rest (q ∷ [])
-          ∙ ap (λ z. written sig n rest ++ z) (one-written sig (n + relation_havocs rest) q)
-          ∙ ap (λ k. written sig n rest ++ written_step sig k q ∷ []) (sym number);
-      number = number;
-    }
-
--- a first part of a path
-pub record IsFront (path before : List PrimitiveTree) : Type 0 where
-  pub behind : List PrimitiveTree
-  pub split : path ≡ before ++ behind
-
-pub front-fits : (sig : Symbols) (path before rest : List PrimitiveTree) (q : PrimitiveTree) → FitsPath sig path
-    → IsFront path before → before ≡ rest ++ q ∷ [] → FitsPrimitive sig q
-front-fits sig path before rest q f h split =
-    let whole : path ≡ rest ++ (q ∷ h.behind) =
-    h.split ∙ ap (λ z. z ++ h.behind) split ∙ append_assoc rest (q ∷ []) h.behind in
-    (all_back (FitsPrimitive sig) rest (q ∷ h.behind) (subst (FitsPath sig) whole f)).0
-
-pub front-less : (path before rest : List PrimitiveTree) (q : PrimitiveTree) → IsFront path before
-    → before ≡ rest ++ q ∷ [] → IsFront path rest
-front-less path before rest q h split = record {
-  behind = q ∷ h.behind;
-  split = h.split ∙ ap (λ z. z ++ h.behind) split ∙ append_assoc rest (q ∷ []) h.behind;
-}
-
--- what holds of a path in the signature with its fresh relations
 module _ (sig : Declared) (p : List PrimitiveTree) (ok : IsSignature sig) (fits : FitsPath (symbols sig) p) where
   pub grown : FreshSignaturesGrow → GrowsByRelations (symbols sig) (havocked (symbols sig) p)
       (symbols (with_fresh sig p))
@@ -122,13 +37,6 @@ module _ (sig : Declared) (p : List PrimitiveTree) (ok : IsSignature sig) (fits 
       → AllByRecursion (FitsForm (symbols (with_fresh sig p)) []) cs
   all-wide law keeps cs h =
       all_more (FitsForm (symbols sig) []) (FitsForm (symbols (with_fresh sig p)) []) (one-wide law keeps) cs h
-
-pub first-count : (sig : Declared) (p before : List PrimitiveTree) (count : ℕ) → before ≡ p
-    → count ≡ length (with_fresh sig p).relations → count ≡ length sig.relations + relation_havocs before
-first-count sig p before count whole is =
-    is ∙ length-append sig.relations (havocked (symbols sig) p)
-    ∙ ap (λ k. length sig.relations + k) (havocked-count (symbols sig) p)
-    ∙ ap (λ z. length sig.relations + relation_havocs z) (sym whole)
 
 -- the loop that lists the relations that a path havocs
 abbrev pub sorts_at : Declared → List ℕ → List (List ℕ)

@@ -71,7 +71,7 @@ pub fn precondition_by(
     let model = checked.model();
     let _ = model.signature().sorts();
     let path = checked.path(goal);
-    let answered = answered_signature(alloc, model, &path)?;
+    let answered = signature_along(alloc, model, &path)?;
     let counted = along(alloc, model, premises, &answered, goal.about, &path)?;
     Ok((answered, Ae::new(Sentence::of(counted.formula))))
 }
@@ -137,6 +137,16 @@ pub fn refuting_with(
     Ok((answered, sentence))
 }
 
+/// The signature over which the sentences of a goal are.
+pub fn answered_signature(alloc: Global, checked: &Checked, goal: &Goal) -> Mem<Signature>
+    requires { IsGoal checked.now goal.now }
+    ensures { IfOk result (λ s. s ≡ answered checked.now goal.now) }
+{
+    let path = checked.path(goal);
+    let signature = signature_along(alloc, checked.model(), &path)?;
+    Ok(signature)
+}
+
 // The relation that the primitive havocs, if it havocs one, behind those before.
 fn push_havocked(havocked: &mut Vec<RelId>, primitive: &Primitive) -> Mem<()>
     ensures { OnOk result (map (λ r. r.0) havocked.new.items
@@ -149,7 +159,7 @@ fn push_havocked(havocked: &mut Vec<RelId>, primitive: &Primitive) -> Mem<()>
 }
 
 // The model's signature, with a fresh relation for each havoc of a relation on the path.
-fn answered_signature(alloc: Global, model: &Model, path: &Path) -> Mem<Signature>
+fn signature_along(alloc: Global, model: &Model, path: &Path) -> Mem<Signature>
     requires path { FitsPath (symbols model.now.signature) path.now }
     ensures { IfOk result (λ s. s ≡ with_fresh model.now.signature path.now) }
 {

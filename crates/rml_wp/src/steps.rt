@@ -78,8 +78,9 @@ pub fn along(
     Ok(now)
 }
 
-// The number of the first fresh relation from this primitive on, by that of those behind it.
-fn fresh_before(primitive: &Primitive, behind: u32) -> u32
+/// The number of the first fresh relation from this primitive on, by that of those behind it: they are numbered along
+/// the path.
+pub fn fresh_before(primitive: &Primitive, behind: u32) -> u32
     requires { relation_havocs (primitive_view primitive.now ∷ []) ≤ behind }
     ensures { result + relation_havocs (primitive_view primitive.now ∷ []) ≡ behind }
 {
@@ -154,8 +155,8 @@ fn step_back(
     }
 }
 
-// A relation at so many parameters in order, the last one 0.
-fn at_parameters(alloc: Global, rel: RelId, count: u32) -> Mem<Formula>
+/// A relation at so many parameters in order, the last one 0.
+pub fn at_parameters(alloc: Global, rel: RelId, count: u32) -> Mem<Formula>
     requires { count ≤ 8 }
     ensures { IfOk result (λ f. form f ≡ at_parameters_of rel.0 count) }
 {

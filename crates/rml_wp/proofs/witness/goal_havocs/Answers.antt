@@ -6,8 +6,7 @@ use Rattle.rml_command.specs.Models.{ModelTree}
 use Rattle.rml_command.specs.Goals.{goal_path}
 use Rattle.rml_command.specs.Fresh.{havocked, havocs_under}
 use Rattle.rml_wp.specs.Preconditions.{path_or_none}
-use Rattle.rml_wp.specs.Written.{relation_havocs}
-use Rattle.rml_wp.proofs.Backward.{havocked-count}
+use Rattle.rml_wp.specs.Written.{relation_havocs, havocked_count}
 use Rattle.rml_wp.proofs.witness.goal_havocs.Goals as goal
 
 pub havocs_with_tables-requires-clause-there : goal.havocs_with_tables-requires-clause-there
@@ -20,7 +19,7 @@ havocs_with_tables-requires-clause-there c =
     let is_path : path_or_none (goal_path m g) ≡ path = ap path_or_none c.path-path.ensures.path in
     let count = length-append m.signature.relations (havocked (symbols m.signature) (path_or_none (goal_path m g)))
     ∙ ap (λ n. length m.signature.relations + n)
-    (havocked-count (symbols m.signature) (path_or_none (goal_path m g)) ∙ ap relation_havocs is_path) in
+    (havocked_count (symbols m.signature) (path_or_none (goal_path m g)) ∙ ap relation_havocs is_path) in
     let there = ap (λ (d : Declared). length d.relations) (sym c.requires.answered) in
     let here = c.requires.structure.relations in
     omega (arith, fresh, count, there, here)

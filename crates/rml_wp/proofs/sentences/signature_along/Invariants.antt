@@ -5,7 +5,7 @@ use Rattle.fol_sig.specs.declared.RelId.{RelId}
 use Rattle.rml_command.specs.Models.{FitsPath}
 use Rattle.rml_command.specs.Fresh.{havocked}
 use Rattle.rml_wp.proofs.Backward.{sorts_at}
-use Rattle.rml_wp.proofs.sentences.answered_signature.Given as goal
+use Rattle.rml_wp.proofs.sentences.signature_along.Given as goal
 
 abbrev pub invariant-loop-primitive : goal.invariant-loop-primitive
 invariant-loop-primitive l = record {

@@ -6,7 +6,7 @@ use Rattle.fol_sig.specs.Growing.{grown_by_relations}
 use Rattle.fol_sig.specs.declared.RelId.{RelId}
 use Rattle.rml_command.specs.Fresh.{havocked}
 use Rattle.rml_wp.proofs.Backward.{sorts_at, ids-known, ids-sorts}
-use Rattle.rml_wp.proofs.sentences.answered_signature.Goals as goal
+use Rattle.rml_wp.proofs.sentences.signature_along.Goals as goal
 
 pub with_fresh_relations-requires-clause-known : goal.with_fresh_relations-requires-clause-known
 with_fresh_relations-requires-clause-known c =
