@@ -2,4 +2,3 @@ pub mod Nodes
 pub mod PremiseRows
 pub mod Before
 pub mod Backward
-pub mod Answered

@@ -1,21 +1,18 @@
 -- Rows that are made from the last formula on.
 use Rattle.std.proofs.Common.{◌≡◌, ℕ, ◌+◌, ◌<◌, Bool, true, false, List, [], ◌∷◌, ◌++◌, length, get_or, drop, refl}
-use Rattle.std.proofs.Common.{sym, ap, ◌∙◌, if◌then◌else◌, add-one}
+use Rattle.std.proofs.Common.{sym, ap, ◌∙◌, if◌then◌else◌}
 use Rattle.std.proofs.lemmas.List.{drop_more}
-use Rattle.fol_formula.specs.Syntax.{FormTree, FormTrees, negation, form_then, forms_of, term_then, bound}
+use Rattle.fol_formula.specs.Syntax.{FormTree, FormTrees, negation, form_then, forms_of}
 use Rattle.fol_occurs.specs.Occurs.{Named, form_mentions}
-use Rattle.fol_pool.specs.Trees.{Tree, IsAt, Grows, a_form, some_forms, a_term, some_terms, as_formula}
-use Rattle.fol_pool.specs.Trees.{as_formulas, as_term, as_terms, form_at, forms_at, term_at, terms_at}
+use Rattle.fol_pool.specs.Trees.{Tree, IsAt, a_form, some_forms, as_formula, as_formulas, form_at, forms_at}
 use Rattle.rml_command.specs.Outcomes.{all_of}
 use Rattle.rml_command.specs.Models.{ModelTree}
-use Rattle.rml_command.specs.Fresh.{parameters}
 use Rattle.rml_command.specs.declared.goal.Stage.{Stage}
 use Rattle.rml_command.specs.declared.goal.Stage.TheVariants as stage
 use Rattle.rml_wp.specs.declared.premises.Premises.{Premises}
 use Rattle.rml_wp.specs.declared.premises.Premises.TheVariants.{All, Affected}
 use Rattle.rml_wp.specs.Preconditions.{mentioning, premises_at, allowed_parts}
 use Rattle.pool_wp.specs.Standing.{is_premise, premise_row, held_row}
-use Rattle.fol_pool.specs.Growing.{stays_at}
 
 row_of : (b : Bool) (p : FormTree) (ps : List FormTree)
     → premise_row b p (forms_of ps) ≡ forms_of (if b then p ∷ ps else ps)
@@ -66,31 +63,6 @@ pub not_in_front : (b : Bool) (ts : List Tree) (row : ℕ) (p : FormTree) → b 
     → IsAt ts row (some_forms (forms_at ts row)) → IsAt ts row (some_forms (premise_row b p (forms_at ts row)))
 not_in_front b ts row p is there =
     (there.0, there.1 ∙ ap (λ (c : Bool). some_forms (premise_row c p (forms_at ts row))) (sym is))
-
--- one more parameter in front
-pub parameter_turn : (old now new : List Tree) (n parameter row next : ℕ) → Grows old now
-    → IsAt old row (some_terms (parameters n)) → IsAt now parameter (a_term (bound n))
-    → IsAt new next (some_terms (term_then (term_at now parameter) (terms_at now row)))
-    → IsAt new next (some_terms (parameters (n + 1)))
-parameter_turn old now new n parameter row next grows there first made =
-    let stays = stays_at old now grows row (some_terms (parameters n)) there in
-    let one : parameters (n + 1) ≡ term_then (bound n) (parameters n) = ap parameters (add-one n) in (
-      made.0,
-      made.1 ∙ (λ i. some_terms (term_then (as_term (first.1 i)) (as_terms (stays.1 i)))) ∙ ap some_terms (sym one),
-    )
-
--- one more formula in front
-pub row_turn : (ps : List FormTree) (old new : List Tree) (i k node row next : ℕ) (d : FormTree) → k < length ps
-    → i ≡ k + 1 → IsAt old node (a_form (get_or ps k d)) → IsAt old row (some_forms (forms_of (drop i ps)))
-    → IsAt new next (some_forms (form_then (form_at old node) (forms_at old row)))
-    → IsAt new next (some_forms (forms_of (drop k ps)))
-row_turn ps old new i k node row next d lt count first there made =
-    let rest : forms_at old row ≡ forms_of (drop (k + 1) ps) =
-    ap as_formulas there.1 ∙ ap (λ (n : ℕ). forms_of (drop n ps)) count in (
-      made.0,
-      made.1 ∙ (λ j. some_forms (form_then (as_formula (first.1 j)) (rest j)))
-          ∙ ap (λ (qs : List FormTree). some_forms (forms_of qs)) (sym (drop_more ps k d lt)),
-    )
 
 -- what holds before a stage, in front of the other parts of a refuting sentence
 pub allowed_row : (m : ModelTree) (st : Stage) (p : FormTree) (more : List FormTree)

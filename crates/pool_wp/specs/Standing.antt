@@ -1,27 +1,20 @@
 -- The nodes of a model's sentences, and rows that are made of them.
-use Rattle.std.specs.Prelude.{Bool, true, false, List, [], ◌∷◌}
+use Rattle.std.specs.Prelude.{Bool, true, false, List}
 use Rattle.fol_formula.specs.Syntax.{FormTree, FormTrees, form_then}
 use Rattle.rml_command.specs.declared.goal.Stage.{Stage}
 use Rattle.rml_command.specs.declared.goal.Stage.TheVariants as stage
 use Rattle.fol_occurs.specs.Occurs.{Named, form_mentions}
-use Rattle.fol_pool.specs.Trees.{Tree, IsAt, a_form}
-use Rattle.fol_pool.specs.declared.shape.Node.{Node}
+use Rattle.fol_pool.specs.Trees.{Tree}
+use Rattle.fol_pool.specs.Rows.{AreForms}
 use Rattle.rml_command.specs.Models.{ModelTree}
 use Rattle.rml_wp.specs.declared.premises.Premises.{Premises}
 use Rattle.rml_wp.specs.declared.premises.Premises.TheVariants.{All, Affected}
 use Rattle.pool_wp.specs.declared.model_nodes.ModelNodes.{ModelNodes}
 
--- these formulas stand at these nodes, one by one
-abbrev pub StandAt : List Tree → List Node → List FormTree → Type 0
-StandAt ts [] [] = Unit {0}
-StandAt ts [] (p ∷ ps) = ⊥
-StandAt ts (n ∷ ns) [] = ⊥
-StandAt ts (n ∷ ns) (p ∷ ps) = IsAt ts n.0 (a_form p) × StandAt ts ns ps
-
 -- the nodes are those of the model's axioms and conjectures
 pub record AreNodesOf (m : ModelTree) (ts : List Tree) (nodes : ModelNodes) : Type 0 where
-  pub axioms : StandAt ts nodes.axioms.items m.axioms
-  pub conjectures : StandAt ts nodes.conjectures.items m.conjectures
+  pub axioms : AreForms ts nodes.axioms.items m.axioms
+  pub conjectures : AreForms ts nodes.conjectures.items m.conjectures
 
 -- whether an axiom is a premise behind a change of a symbol. Private contracts alone cite this.
 abbrev pub is_premise : Premises → Named → FormTree → Bool

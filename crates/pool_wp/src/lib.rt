@@ -8,7 +8,6 @@ mod model_nodes;
 mod path;
 mod premises;
 mod refuted;
-mod rows;
 mod steps;
 
 pub use goal::precondition;

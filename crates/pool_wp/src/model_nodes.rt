@@ -1,7 +1,8 @@
 // The nodes of a model's sentences.
 ghost use Rattle.std.specs.Prelude.{IfOk};
 ghost use Rattle.fol_pool.specs.Trees.{Grows};
-ghost use Rattle.pool_wp.specs.Standing.{StandAt, AreNodesOf};
+ghost use Rattle.fol_pool.specs.Rows.{AreForms};
+ghost use Rattle.pool_wp.specs.Standing.{AreNodesOf};
 
 use base::Mem;
 use fol_formula::Sentence;
@@ -35,7 +36,7 @@ impl ModelNodes {
 
 // The nodes of sentences, in order.
 pub(crate) fn take_all(alloc: Global, pool: &mut Pool, sentences: &[Sentence]) -> Mem<Vec<Node>>
-    ensures nodes { IfOk result (λ nodes. StandAt pool.new nodes.items sentences.now) }
+    ensures nodes { IfOk result (λ nodes. AreForms pool.new nodes.items sentences.now) }
     ensures grows { Grows pool.old pool.new }
 {
     let mut nodes = Vec::with_capacity(alloc, sentences.len())?;

@@ -1,5 +1,5 @@
 // A path is gone back, from its end to its beginning.
-ghost use Rattle.std.specs.Prelude.{◌≡◌, ◌+◌, ◌≤◌, [], ◌∷◌, length, false, IfOk, IfErr, OnOk, IsTrue};
+ghost use Rattle.std.specs.Prelude.{◌≡◌, length, false, IfOk, IfErr, OnOk, IsTrue};
 ghost use Rattle.base.specs.Because.{Because};
 ghost use Rattle.fol_sig.specs.Symbols.{symbols};
 ghost use Rattle.fol_subst.specs.Limits.{is_too_large};
@@ -8,7 +8,7 @@ ghost use Rattle.rml_command.specs.View.{primitive as primitive_view};
 ghost use Rattle.rml_command.specs.Models.{FitsPrimitive, FitsPath};
 ghost use Rattle.rml_command.specs.Fresh.{written, with_fresh};
 ghost use Rattle.rml_wp.specs.Laws.{HasTarget};
-ghost use Rattle.rml_wp.specs.Written.{written_step, relation_havocs};
+ghost use Rattle.rml_wp.specs.Written.{written_step};
 ghost use Rattle.rml_wp.specs.Preconditions.{back_of, precondition_of, passes_limit, target_of, premises_of};
 ghost use Rattle.pool_wp.specs.Standing.{AreNodesOf};
 
@@ -19,7 +19,7 @@ use fol_pool::{Node, Pool, Shape};
 use fol_sig::Signature;
 use fol_subst::{FormulaLimit, MOST_DEPTH, MOST_NODES};
 use rml_command::{About, Model, Path, Primitive};
-use rml_wp::Premises;
+use rml_wp::{Premises, fresh_before};
 use std::alloc::Global;
 
 // The precondition of a path for what a goal is about, with its relation havocs written out as updates to the fresh
@@ -67,17 +67,6 @@ pub fn along(
         };
     }
     Ok(now)
-}
-
-// The number of the first fresh relation from this primitive on, by that of those behind it.
-fn fresh_before(primitive: &Primitive, behind: u32) -> u32
-    requires { relation_havocs (primitive_view primitive.now ∷ []) ≤ behind }
-    ensures { result + relation_havocs (primitive_view primitive.now ∷ []) ≡ behind }
-{
-    match primitive {
-        Primitive::HavocRel(_) => behind - 1,
-        _ => behind,
-    }
 }
 
 // The node of what a goal asks of the ends of its path.

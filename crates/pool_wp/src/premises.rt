@@ -2,9 +2,10 @@
 ghost use Rattle.std.specs.Prelude.{◌≡◌, IfOk};
 ghost use Rattle.fol_occurs.specs.View.{named};
 ghost use Rattle.fol_pool.specs.Trees.{IsAt, Grows, HasForms, a_form, some_forms, forms_at};
+ghost use Rattle.fol_pool.specs.Rows.{AreForms};
 ghost use Rattle.rml_command.specs.Outcomes.{all_of};
 ghost use Rattle.rml_wp.specs.Preconditions.{premises_at};
-ghost use Rattle.pool_wp.specs.Standing.{StandAt, premise_row, is_premise as is_premise_of};
+ghost use Rattle.pool_wp.specs.Standing.{premise_row, is_premise as is_premise_of};
 
 use base::Mem;
 use fol_formula::Sentence;
@@ -21,7 +22,7 @@ pub fn lawful(
     nodes: &[Node],
     symbol: Symbol,
 ) -> Mem<Node>
-    requires { StandAt pool.old nodes.now axioms.now }
+    requires { AreForms pool.old nodes.now axioms.now }
     ensures node { IfOk result
         (λ node. IsAt pool.new node.0 (a_form (all_of (premises_at premises axioms.now (named symbol))))) }
     ensures grows { Grows pool.old pool.new }

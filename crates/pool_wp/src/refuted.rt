@@ -3,11 +3,12 @@ ghost use Rattle.std.specs.Prelude.{◌≡◌, ◌++◌, ◌∷◌, [], false, I
 ghost use Rattle.base.specs.Because.{Because};
 ghost use Rattle.fol_formula.specs.Syntax.{negation, conjunction, form_then, forms_of};
 ghost use Rattle.fol_pool.specs.Trees.{IsAt, Grows, HasForm, HasForms, a_form, some_forms, form_at, forms_at};
+ghost use Rattle.fol_pool.specs.Rows.{AreForms};
 ghost use Rattle.rml_command.specs.Goals.{IsGoal};
 ghost use Rattle.rml_command.specs.Outcomes.{all_of};
 ghost use Rattle.rml_wp.specs.Preconditions.{answered, allowed_parts, goal_passes_limit_by};
 ghost use Rattle.rml_wp.specs.Added.{refuting_all_by};
-ghost use Rattle.pool_wp.specs.Standing.{AreNodesOf, StandAt, held_row};
+ghost use Rattle.pool_wp.specs.Standing.{AreNodesOf, held_row};
 
 use crate::goal::precondition;
 use crate::model_nodes::{ModelNodes, take_all};
@@ -131,7 +132,7 @@ fn with_lawful(pool: &mut Pool, nodes: &ModelNodes, model: &Model, row: Node) ->
 
 // The And of sentences in front of a row.
 fn all_before(pool: &mut Pool, sentences: &[Sentence], nodes: &[Node], row: Node) -> Mem<Node>
-    requires nodes { StandAt pool.old nodes.now sentences.now }
+    requires nodes { AreForms pool.old nodes.now sentences.now }
     requires row { HasForms pool.old row.0 }
     ensures node { IfOk result
         (λ node. IsAt pool.new node.0
@@ -146,13 +147,10 @@ fn all_before(pool: &mut Pool, sentences: &[Sentence], nodes: &[Node], row: Node
 
 // The row of sentences, which stand at these nodes.
 fn row_of(pool: &mut Pool, sentences: &[Sentence], nodes: &[Node]) -> Mem<Node>
-    requires { StandAt pool.old nodes.now sentences.now }
+    requires { AreForms pool.old nodes.now sentences.now }
     ensures node { IfOk result (λ node. IsAt pool.new node.0 (some_forms (forms_of sentences.now))) }
     ensures grows { Grows pool.old pool.new }
 {
-    let mut row = pool.add(Shape::NoForms)?;
-    for i in (0..nodes.len()).rev() {
-        row = pool.add(Shape::FormThen(nodes[i], row))?;
-    }
+    let row = pool.row_of(nodes)?;
     Ok(row)
 }

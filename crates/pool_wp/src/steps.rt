@@ -10,21 +10,19 @@ ghost use Rattle.fol_pool.specs.Trees.{IsAt, Grows, HasForm, a_form, a_term, for
 ghost use Rattle.pool_subst.specs.Replacements.{HasReplacement, change_in};
 ghost use Rattle.rml_command.specs.View.{primitive as primitive_view};
 ghost use Rattle.rml_command.specs.Models.{FitsPrimitive};
-ghost use Rattle.rml_command.specs.Fresh.{at_parameters as at_parameters_of};
 ghost use Rattle.rml_wp.specs.Written.{written_step};
 ghost use Rattle.rml_wp.specs.Preconditions.{back_of, premises_at, premises_of, where_lawful};
 ghost use Rattle.pool_wp.specs.Standing.{AreNodesOf};
 
 use crate::model_nodes::ModelNodes;
 use crate::premises::lawful;
-use crate::rows::{at_parameters, take_term};
 use base::Mem;
 use fol_formula::{Formula, Term};
 use fol_pool::{Node, Pool, Shape};
 use fol_sig::{FunId, RelId, Symbol};
 use pool_subst::{Replacement, replace};
 use rml_command::{Model, Primitive};
-use rml_wp::Premises;
+use rml_wp::{Premises, at_parameters};
 use std::alloc::Global;
 
 // What must hold before a primitive; a relation havoc is an update to the fresh relation of this number.
@@ -62,7 +60,9 @@ pub fn step_back(
             before_havoc(alloc, pool, nodes, model, premises, *variable, rest)
         }
         Primitive::HavocRel(rel) => {
-            before_havoc_rel(alloc, pool, nodes, model, premises, *rel, fresh, rest)
+            let count = model.signature().sorts_of(*rel).len() as u32;
+            let by = at_parameters(alloc, RelId(fresh), count)?;
+            before_set_rel(alloc, pool, nodes, model, premises, *rel, &by, rest)
         }
         Primitive::Abort => pool.add(Shape::False),
     }
@@ -122,7 +122,7 @@ fn before_set_fun(
         (where_lawful (premises_at premises model.now.axioms (the_fun fun.0)) (form_at pool.old rest.0))))) }
     ensures grows { Grows pool.old pool.new }
 {
-    let by = take_term(alloc, pool, by)?;
+    let by = pool.take_term(by)?;
     let change = Replacement::Fun(fun, by);
     let symbol = Symbol::Function(fun);
     let node = before_change(alloc, pool, nodes, model, premises, symbol, change, rest)?;
@@ -153,34 +153,6 @@ fn before_havoc(
     let inside = before_change(alloc, pool, nodes, model, premises, symbol, change, rest)?;
     let sort = model.signature().into_of(variable);
     let node = pool.add(Shape::Forall(sort, inside))?;
-    Ok(node)
-}
-
-fn before_havoc_rel(
-    alloc: Global,
-    pool: &mut Pool,
-    nodes: &ModelNodes,
-    model: &Model,
-    premises: Premises,
-    rel: RelId,
-    fresh: u32,
-    rest: Node,
-) -> Mem<Node>
-    requires relation { rel.0 < length model.now.signature.relations }
-    requires nodes { AreNodesOf model.now pool.old nodes.now }
-    requires rest { HasForm pool.old rest.0 }
-    ensures node { IfOk result
-        (λ node. IsAt pool.new node.0
-        (a_form (changed_form
-        (change_rel rel.0 (at_parameters_of fresh (length ((symbols model.now.signature).sorts_of rel.0)))) 0
-        (where_lawful (premises_at premises model.now.axioms (the_rel rel.0)) (form_at pool.old rest.0))))) }
-    ensures grows { Grows pool.old pool.new }
-{
-    let count = model.signature().sorts_of(rel).len() as u32;
-    let by = at_parameters(pool, RelId(fresh), count)?;
-    let change = Replacement::Rel(rel, by);
-    let symbol = Symbol::Relation(rel);
-    let node = before_change(alloc, pool, nodes, model, premises, symbol, change, rest)?;
     Ok(node)
 }
 

@@ -1,10 +1,10 @@
 use Rattle.std.proofs.Common.{take}
 use Rattle.fol_pool.specs.Trees.{Grows}
-use Rattle.pool_wp.specs.Standing.{StandAt}
+use Rattle.fol_pool.specs.Rows.{AreForms}
 use Rattle.pool_wp.proofs.model_nodes.take_all.Given as goal
 
 abbrev pub invariant-loop-sentence : goal.invariant-loop-sentence
 invariant-loop-sentence l = record {
   grows : Grows l.fn.pool l.pool;
-  stand : StandAt l.pool l.nodes.items (take l.sentence-index l.sentences);
+  stand : AreForms l.pool l.nodes.items (take l.sentence-index l.sentences);
 }

@@ -3,9 +3,9 @@ use Rattle.std.proofs.lemmas.List.{drop_all, get_or_default}
 use Rattle.fol_formula.specs.Syntax.{FormTree, forms_of, top}
 use Rattle.fol_occurs.specs.View.{named}
 use Rattle.fol_pool.specs.Trees.{a_form, some_forms}
+use Rattle.fol_pool.specs.Rows.{forms_stay}
 use Rattle.rml_wp.specs.Preconditions.{premises_at}
-use Rattle.pool_wp.specs.Staying.{formulas_stay}
-use Rattle.pool_wp.proofs.Nodes.{stand_length, stand_there}
+use Rattle.pool_wp.proofs.Nodes.{forms_length, form_there}
 use Rattle.pool_wp.proofs.PremiseRows.{none}
 use Rattle.pool_wp.proofs.premises.lawful.Goals as goal
 
@@ -26,7 +26,7 @@ loop-i-init c =
 
 pub bounds-nodes-i : goal.bounds-nodes-i
 bounds-nodes-i c =
-    let e = stand_length c.args.pool.now c.args.nodes.now c.args.axioms.now c.requires in
+    let e = forms_length c.args.pool.now c.args.nodes.now c.args.axioms.now c.requires in
     omega (arith, e)
 
 pub with_premise-requires-clause-node : goal.with_premise-requires-clause-node
@@ -36,8 +36,8 @@ with_premise-requires-clause-node c =
     let nodes = c.args.nodes.now in
     let axioms = c.args.axioms.now in
     let k = c.loop-i.i - 1 in
-    let e = stand_length start nodes axioms c.requires in
-    let stood = formulas_stay start now c.loop-i.invariant.grows nodes axioms c.requires in
-    let there = stand_there now nodes axioms k (record { 0 = 0 }) stood (omega (arith, e)) in
+    let e = forms_length start nodes axioms c.requires in
+    let stood = forms_stay start now c.loop-i.invariant.grows nodes axioms c.requires in
+    let there = form_there now nodes axioms k (record { 0 = 0 }) stood (omega (arith, e)) in
     let p = c.index-axioms-i.result in
     (there.0, there.1 ∙ ap a_form (get_or_default axioms k top p (omega arith) ∙ sym c.index-axioms-i.is))
