@@ -8,8 +8,8 @@ ghost use Rattle.rml_command.specs.View.{primitive as primitive_view};
 ghost use Rattle.rml_command.specs.Models.{FitsPrimitive, FitsPath};
 ghost use Rattle.rml_command.specs.Fresh.{written, with_fresh};
 ghost use Rattle.rml_wp.specs.Laws.{HasTarget};
-ghost use Rattle.rml_wp.specs.Written.{written_step};
-ghost use Rattle.rml_wp.specs.Preconditions.{back_of, precondition_of, passes_limit, target_of, premises_of};
+ghost use Rattle.rml_wp.specs.Backward.{back_by};
+ghost use Rattle.rml_wp.specs.Preconditions.{precondition_of, passes_limit, target_of, premises_of};
 ghost use Rattle.pool_wp.specs.Standing.{AreNodesOf};
 
 use crate::model_nodes::ModelNodes;
@@ -117,26 +117,18 @@ fn step_within(
     requires rest { HasForm pool.old rest.0 }
     ensures node { IfOk result
         (λ node. IsAt pool.new node.0
-        (a_form (back_of (symbols model.now.signature)
-        (premises_of premises model.now.axioms
-        (written_step (symbols model.now.signature) fresh (primitive_view primitive.now)))
-        (written_step (symbols model.now.signature) fresh (primitive_view primitive.now))
-        (form_at pool.old rest.0)))) }
+        (a_form (back_by (symbols model.now.signature) (symbols model.now.signature)
+        (premises_of premises model.now.axioms) fresh (primitive_view primitive.now) (form_at pool.old rest.0)))) }
     ensures within { OnOk result
         (is_too_large
-        (back_of (symbols model.now.signature)
-        (premises_of premises model.now.axioms
-        (written_step (symbols model.now.signature) fresh (primitive_view primitive.now)))
-        (written_step (symbols model.now.signature) fresh (primitive_view primitive.now))
-        (form_at pool.old rest.0)) ≡ false) }
+        (back_by (symbols model.now.signature) (symbols model.now.signature)
+        (premises_of premises model.now.axioms) fresh (primitive_view primitive.now) (form_at pool.old rest.0))
+        ≡ false) }
     ensures limit { IfErr result
         (Because (λ _. IsTrue
         (is_too_large
-        (back_of (symbols model.now.signature)
-        (premises_of premises model.now.axioms
-        (written_step (symbols model.now.signature) fresh (primitive_view primitive.now)))
-        (written_step (symbols model.now.signature) fresh (primitive_view primitive.now))
-        (form_at pool.old rest.0))))) }
+        (back_by (symbols model.now.signature) (symbols model.now.signature)
+        (premises_of premises model.now.axioms) fresh (primitive_view primitive.now) (form_at pool.old rest.0))))) }
     ensures grows { Grows pool.old pool.new }
 {
     let node = step_back(alloc, pool, nodes, model, premises, primitive, fresh, rest)?;

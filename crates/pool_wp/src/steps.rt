@@ -1,17 +1,17 @@
 // What must hold before one primitive, by what must hold behind it.
-ghost use Rattle.std.specs.Prelude.{◌≡◌, ◌≤◌, ◌<◌, length, IfOk};
+ghost use Rattle.std.specs.Prelude.{◌<◌, length, IfOk};
 ghost use Rattle.fol_sig.specs.Symbols.{symbols};
 ghost use Rattle.fol_formula.specs.View.{form, term};
 ghost use Rattle.fol_formula.specs.Syntax.{implication, for_all};
 ghost use Rattle.fol_occurs.specs.View.{named};
 ghost use Rattle.fol_occurs.specs.Occurs.{the_rel, the_fun};
 ghost use Rattle.fol_subst.specs.Replace.{change_rel, change_fun, change_const, changed_form};
-ghost use Rattle.fol_pool.specs.Trees.{IsAt, Grows, HasForm, a_form, a_term, form_at};
+ghost use Rattle.fol_pool.specs.Trees.{IsAt, Grows, HasForm, a_form, form_at};
 ghost use Rattle.pool_subst.specs.Replacements.{HasReplacement, change_in};
 ghost use Rattle.rml_command.specs.View.{primitive as primitive_view};
 ghost use Rattle.rml_command.specs.Models.{FitsPrimitive};
-ghost use Rattle.rml_wp.specs.Written.{written_step};
-ghost use Rattle.rml_wp.specs.Preconditions.{back_of, premises_at, premises_of, where_lawful};
+ghost use Rattle.rml_wp.specs.Backward.{back_by};
+ghost use Rattle.rml_wp.specs.Preconditions.{premises_at, premises_of, where_lawful};
 ghost use Rattle.pool_wp.specs.Standing.{AreNodesOf};
 
 use crate::model_nodes::ModelNodes;
@@ -41,11 +41,8 @@ pub fn step_back(
     requires rest { HasForm pool.old rest.0 }
     ensures node { IfOk result
         (λ node. IsAt pool.new node.0
-        (a_form (back_of (symbols model.now.signature)
-        (premises_of premises model.now.axioms
-        (written_step (symbols model.now.signature) fresh (primitive_view primitive.now)))
-        (written_step (symbols model.now.signature) fresh (primitive_view primitive.now))
-        (form_at pool.old rest.0)))) }
+        (a_form (back_by (symbols model.now.signature) (symbols model.now.signature)
+        (premises_of premises model.now.axioms) fresh (primitive_view primitive.now) (form_at pool.old rest.0)))) }
     ensures grows { Grows pool.old pool.new }
 {
     match primitive {

@@ -16,10 +16,17 @@ use Rattle.rml_command.specs.Fresh.{written}
 use Rattle.rml_wp.specs.Written.{relation_havocs, written_step, havocs_append, written_append, written_first}
 use Rattle.rml_wp.specs.Preconditions.{back_of, precondition_of, passes_limit}
 
+-- What must hold before a primitive that is written out, by the signature `own`, with the relation n. These axioms are
+-- premises behind each primitive.
+abbrev pub back_by : Symbols → Symbols → (PrimitiveTree → List FormTree) → ℕ → PrimitiveTree → FormTree → FormTree
+back_by own sig premises n q rest = back_of sig (premises (written_step own n q)) (written_step own n q) rest
+
+-- where the second of two tests holds, one does
 later : (a b : Bool) → b ≡ true → (a || b) ≡ true
 later true b e = refl
 later false b e = e
 
+-- and where the first does
 sooner : (a b : Bool) → a ≡ true → (a || b) ≡ true
 sooner a b e = ap (λ z. z || b) e
 
@@ -39,39 +46,41 @@ module _ (own sig : Symbols) (premises : PrimitiveTree → List FormTree) (targe
   abbrev pub Passes : List PrimitiveTree → FormulaLimit → Type 0
   Passes path = λ x. IsTrue (passes_limit sig premises target (written own n path))
 
-  limit-end : (qs : List PrimitiveTree) → is_too_large target ≡ true → passes_limit sig premises target qs ≡ true
-  limit-end [] e = e
-  limit-end (q ∷ qs) e = later (is_too_large (precondition_of sig premises target (q ∷ qs))) _ (limit-end qs e)
+  -- each path passes the limit where the target does
+  limit_end : (qs : List PrimitiveTree) → is_too_large target ≡ true → passes_limit sig premises target qs ≡ true
+  limit_end [] e = e
+  limit_end (q ∷ qs) e = later (is_too_large (precondition_of sig premises target (q ∷ qs))) _ (limit_end qs e)
 
-  limit-append : (front behind : List PrimitiveTree) → passes_limit sig premises target behind ≡ true
+  -- and where its rest does
+  limit_append : (front behind : List PrimitiveTree) → passes_limit sig premises target behind ≡ true
       → passes_limit sig premises target (front ++ behind) ≡ true
-  limit-append [] behind e = e
-  limit-append (q ∷ front) behind e =
-      later (is_too_large (precondition_of sig premises target (q ∷ (front ++ behind)))) _ (limit-append front behind e)
+  limit_append [] behind e = e
+  limit_append (q ∷ front) behind e =
+      later (is_too_large (precondition_of sig premises target (q ∷ (front ++ behind)))) _ (limit_append front behind e)
 
   -- ---- laws
 
   -- the way begins with the target
-  pub at_end : (given : FormTree) (path before : List PrimitiveTree) (fresh : ℕ) (now : FormTree) → given ≡ target
-      → before ≡ path → fresh ≡ n + relation_havocs before → now ≡ given → is_too_large now ≡ false
-      → IsBack path before fresh now
-  at_end given path before fresh now is whole count same small =
+  pub at_end : (path before : List PrimitiveTree) (fresh : ℕ) (now : FormTree) → before ≡ path
+      → fresh ≡ n + relation_havocs before → now ≡ target → is_too_large now ≡ false → IsBack path before fresh now
+  at_end path before fresh now whole count is small =
       record {
         behind = [];
         split = sym (append-nil path) ∙ ap (λ z. z ++ []) (sym whole);
         count = count;
-        tree = same ∙ is;
-        small = ap is_too_large (sym (same ∙ is)) ∙ small;
+        tree = is;
+        small = ap is_too_large (sym is) ∙ small;
       }
 
   -- or ends there
   pub stops_at_end : (given : FormTree) (path : List PrimitiveTree) (e : Refused FormulaLimit) → given ≡ target
       → Because (λ x. IsTrue (is_too_large given)) e → Because (Passes path) e
-  stops_at_end given path (For x) is h = limit-end (written own n path) (ap is_too_large (sym is) ∙ h)
+  stops_at_end given path (For x) is h = limit_end (written own n path) (ap is_too_large (sym is) ∙ h)
   stops_at_end given path NoMemory is h = tt
 
   module _ (path before : List PrimitiveTree) (fresh : ℕ) (now : FormTree) (none : before ≡ [])
       (h : IsBack path before fresh now) where
+    -- where no primitive is left before, the whole path is behind
     all_behind : written own fresh h.behind ≡ written own n path
     all_behind =
         let zero : n + relation_havocs [] ≡ n = omega arith in
@@ -79,7 +88,7 @@ module _ (own sig : Symbols) (premises : PrimitiveTree → List FormTree) (targe
         ap (λ k. written own k h.behind) number
         ∙ ap (written own n) (sym (h.split ∙ ap (λ z. z ++ h.behind) none))
 
-    -- with no primitive before, it is the precondition of the path
+    -- so the formula is the path's precondition
     pub at_start : now ≡ precondition_of sig premises target (written own n path)
     at_start = h.tree ∙ ap (precondition_of sig premises target) all_behind
 
@@ -87,9 +96,10 @@ module _ (own sig : Symbols) (premises : PrimitiveTree → List FormTree) (targe
     pub within_limit : passes_limit sig premises target (written own n path) ≡ false
     within_limit = ap (passes_limit sig premises target) (sym all_behind) ∙ h.small
 
-  -- the last primitive before, and the number of its fresh relation
+  -- the last primitive before
   module _ (path before rest : List PrimitiveTree) (q : PrimitiveTree) (behind : ℕ) (now : FormTree)
       (step : before ≡ rest ++ q ∷ []) (h : IsBack path before behind now) where
+    -- it stands in the path
     whole : path ≡ rest ++ (q ∷ h.behind)
     whole = h.split ∙ ap (λ z. z ++ h.behind) step ∙ append_assoc rest (q ∷ []) h.behind
 
@@ -97,17 +107,21 @@ module _ (own sig : Symbols) (premises : PrimitiveTree → List FormTree) (targe
     pub room : relation_havocs (q ∷ []) ≤ behind
     room = omega (arith, h.count, ap relation_havocs step ∙ havocs_append rest (q ∷ []))
 
-    -- it is one of the path's
+    -- it fits the signature where the path does
     pub step_fits : FitsPath own path → FitsPrimitive own q
     step_fits f = (all_back (FitsPrimitive own) rest (q ∷ h.behind) (subst (FitsPath own) whole f)).0
 
+    -- its fresh relation has this number
     module _ (fresh : ℕ) (less : fresh + relation_havocs (q ∷ []) ≡ behind) where
+      -- those before it have the numbers below
       number : fresh ≡ n + relation_havocs rest
       number = omega (arith, h.count, less, ap relation_havocs step ∙ havocs_append rest (q ∷ []))
 
+      -- it is written out with that relation
       abbrev one : PrimitiveTree
       one = written_step own fresh q
 
+      -- in front of the primitives behind
       front : written own fresh (q ∷ h.behind) ≡ one ∷ written own behind h.behind
       front = written_first own fresh q h.behind ∙ ap (λ k. one ∷ written own k h.behind) less
 
@@ -119,23 +133,23 @@ module _ (own sig : Symbols) (premises : PrimitiveTree → List FormTree) (targe
           ∙ ap (λ k. written own n rest ++ written own k (q ∷ h.behind)) (sym number)
           ∙ ap (λ z. written own n rest ++ z) front
 
+      -- before it must hold what must hold behind, gone back once
       made : precondition_of sig premises target (one ∷ written own behind h.behind)
-          ≡ back_of sig (premises one) one now
+          ≡ back_by own sig premises fresh q now
       made = ap (back_of sig (premises one) one) (sym h.tree)
 
       -- where the step passes the limit, the path does
       pub stops_at : (e : Refused FormulaLimit)
-          → Because (λ x. IsTrue (is_too_large (back_of sig (premises one) one now))) e
-          → Because (Passes path) e
+          → Because (λ x. IsTrue (is_too_large (back_by own sig premises fresh q now))) e → Because (Passes path) e
       stops_at (For x) large =
           ap (passes_limit sig premises target) written_whole
-          ∙ limit-append (written own n rest) (one ∷ written own behind h.behind)
+          ∙ limit_append (written own n rest) (one ∷ written own behind h.behind)
           (sooner (is_too_large (precondition_of sig premises target (one ∷ written own behind h.behind))) _
           (ap is_too_large made ∙ large))
       stops_at NoMemory large = tt
 
       -- and else one primitive less is left before
-      pub goes_back : (next : FormTree) → next ≡ back_of sig (premises one) one now → is_too_large next ≡ false
+      pub goes_back : (next : FormTree) → next ≡ back_by own sig premises fresh q now → is_too_large next ≡ false
           → IsBack path rest fresh next
       goes_back next is small = record {
         behind = q ∷ h.behind;

@@ -6,15 +6,15 @@ ghost use Rattle.fol_sig.specs.Symbols.{symbols};
 ghost use Rattle.fol_formula.specs.View.{form, term};
 ghost use Rattle.fol_formula.specs.Syntax.{implication, for_all, bound};
 ghost use Rattle.fol_formula.specs.Fits.{FitsForm};
-ghost use Rattle.fol_subst.specs.Replace.{change_rel, change_fun, change_const, changed_form};
+ghost use Rattle.fol_subst.specs.Replace.{change_rel, change_fun, changed_form};
 ghost use Rattle.fol_subst.specs.Limits.{is_too_large};
-ghost use Rattle.fol_subst.specs.Outcome.{CanReplace};
 ghost use Rattle.rml_command.specs.Trees.{set_rel, set_fun, havoc};
 ghost use Rattle.rml_command.specs.View.{primitive as primitive_view};
 ghost use Rattle.rml_command.specs.Models.{FitsPrimitive, FitsPath, FitsStep};
 ghost use Rattle.fol_occurs.specs.Occurs.{the_rel, the_fun};
 ghost use Rattle.rml_command.specs.Fresh.{written, with_fresh, at_parameters as at_parameters_of};
 ghost use Rattle.rml_wp.specs.Written.{written_step, relation_havocs};
+ghost use Rattle.rml_wp.specs.Backward.{back_by};
 ghost use Rattle.rml_wp.specs.Preconditions.{back_of, precondition_of, passes_limit, target_of, premises_at};
 ghost use Rattle.rml_wp.specs.Preconditions.{premises_of};
 ghost use Rattle.rml_wp.specs.Preconditions.{where_lawful as where_lawful_of};
@@ -119,17 +119,13 @@ fn step_back(
     requires rest { FitsForm (symbols answered.now) [] (form rest.formula) }
     ensures back { IfOk result
         (λ c. form c.formula
-        ≡ back_of (symbols answered.now)
-        (premises_of premises model.now.axioms
-        (written_step (symbols model.now.signature) fresh (primitive_view primitive.now)))
-        (written_step (symbols model.now.signature) fresh (primitive_view primitive.now)) (form rest.formula)) }
+        ≡ back_by (symbols model.now.signature) (symbols answered.now) (premises_of premises model.now.axioms) fresh
+        (primitive_view primitive.now) (form rest.formula)) }
     ensures limit { IfErr result
         (Because (λ _. IsTrue
         (is_too_large
-        (back_of (symbols answered.now)
-        (premises_of premises model.now.axioms
-        (written_step (symbols model.now.signature) fresh (primitive_view primitive.now)))
-        (written_step (symbols model.now.signature) fresh (primitive_view primitive.now)) (form rest.formula))))) }
+        (back_by (symbols model.now.signature) (symbols answered.now) (premises_of premises model.now.axioms) fresh
+        (primitive_view primitive.now) (form rest.formula))))) }
 {
     match primitive {
         Primitive::Assume(sentence) => {

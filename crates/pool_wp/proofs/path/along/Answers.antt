@@ -29,17 +29,16 @@ loop-primitive-init c =
     let before = c.primitives-before.result in
     let n = c.in_ok-target.target in
     let there = c.in_ok-target.ensures.node in
-    let made : form_at ts n.0 ≡ target_of m c.args.about = ap as_formula there.1 in
     let same : c.in-Ok.node ≡ n = c.in-Ok.ensures.node in
     record {
       grows = c.target.ensures.grows;
       there = subst (λ (k : Node). HasForm ts k.0) (sym same) (is_form ts n.0 (target_of m c.args.about) there);
       back = at_end sig sig (premises_of c.args.premises m.axioms) (target_of m c.args.about)
-          (length m.signature.relations) (form_at ts n.0) path before c.relation_count-fresh.result
-          (form_at ts c.in-Ok.node.0) made c.primitives-before.ensures
+          (length m.signature.relations) path before c.relation_count-fresh.result (form_at ts c.in-Ok.node.0)
+          c.primitives-before.ensures
           (first_count m.signature path before c.relation_count-fresh.result c.primitives-before.ensures
           (c.relation_count-fresh.ensures ∙ ap (λ (d : Declared). length d.relations) c.requires.answered))
-          (ap (λ (k : Node). form_at ts k.0) same)
+          (ap (λ (k : Node). form_at ts k.0) same ∙ ap as_formula there.1)
           (ap (λ (k : Node). is_too_large (form_at ts k.0)) same ∙ c.in-Ok.ensures.within);
     }
 
