@@ -1,6 +1,6 @@
 -- Shapes that == finds the same are the same.
-use Rattle.std.proofs.Common.{◌≡◌, ℕ, Bool, true, T, eqb→eq, refl, sym, ap, subst}
-use Rattle.std.proofs.Math.Dec.{eqb_refl}
+use Rattle.std.proofs.Common.{◌≡◌, ℕ, Bool, true, refl, ap}
+use Rattle.std.proofs.lemmas.Bool.{and_parts, and_from, eqb-true, eq-eqb}
 use Rattle.std.specs.Prelude.{false, ◌==◌, ◌&&◌}
 use Rattle.fol_sig.specs.declared.RelId.{RelId}
 use Rattle.fol_sig.specs.declared.FunId.{FunId}
@@ -17,50 +17,32 @@ equal = (shape_eq.ghosts).eq
 no : {A : Type 0} → false ≡ true → A
 no h = absurd (cc h)
 
-a_number : (m n : ℕ) → (m == n) ≡ true → m ≡ n
-a_number m n h = eqb→eq m n (subst T (sym h) tt)
-
 a_node : (a b : Node) → (a.0 == b.0) ≡ true → a ≡ b
-a_node a b h = ap (λ (n : ℕ). let node : Node = record { 0 = n } in node) (a_number a.0 b.0 h)
+a_node a b h = ap (λ (n : ℕ). let node : Node = record { 0 = n } in node) (eqb-true a.0 b.0 h)
 
 a_relation : (a b : RelId) → (a.0 == b.0) ≡ true → a ≡ b
-a_relation a b h = ap (λ (n : ℕ). let r : RelId = record { 0 = n } in r) (a_number a.0 b.0 h)
+a_relation a b h = ap (λ (n : ℕ). let r : RelId = record { 0 = n } in r) (eqb-true a.0 b.0 h)
 
 a_function : (a b : FunId) → (a.0 == b.0) ≡ true → a ≡ b
-a_function a b h = ap (λ (n : ℕ). let f : FunId = record { 0 = n } in f) (a_number a.0 b.0 h)
+a_function a b h = ap (λ (n : ℕ). let f : FunId = record { 0 = n } in f) (eqb-true a.0 b.0 h)
 
 a_sort : (a b : Sort) → (a.0 == b.0) ≡ true → a ≡ b
-a_sort a b h = ap (λ (n : ℕ). let k : Sort = record { 0 = n } in k) (a_number a.0 b.0 h)
+a_sort a b h = ap (λ (n : ℕ). let k : Sort = record { 0 = n } in k) (eqb-true a.0 b.0 h)
 
-first_is : (s t : Bool) → (s && t) ≡ true → s ≡ true
-first_is true t h = refl
-first_is false t h = h
-
-second_is : (s t : Bool) → (s && t) ≡ true → t ≡ true
-second_is true t h = h
-second_is false t h = no h
+self : (n : ℕ) → (n == n) ≡ true
+self n = eq-eqb n n refl
 
 -- shapes of two parts, and of three
 two : {A B : Type 0} (f : A → B → Shape) (a x : A) (b y : B) (s t : Bool) → (s ≡ true → a ≡ x) → (t ≡ true → b ≡ y)
     → (s && t) ≡ true → f a b ≡ f x y
-two f a x b y s t p q h = (λ i. f (p (first_is s t h) i) (q (second_is s t h) i))
-
-and : (s t : Bool) → s ≡ true → t ≡ true → (s && t) ≡ true
-and true t p q = q
-and false t p q = no p
-
-self : (n : ℕ) → (n == n) ≡ true
-self n = is_true (n == n) (eqb_refl n)
-  where
-    is_true : (b : Bool) → T b → b ≡ true
-    is_true true h = refl
-    is_true false h = absurd h
+two f a x b y s t p q h = (λ i. f (p (and_parts s t h).0 i) (q (and_parts s t h).1 i))
 
 three : (a x b y c z : Node) (s t u : Bool) → (s ≡ true → a ≡ x) → (t ≡ true → b ≡ y) → (u ≡ true → c ≡ z)
     → (s && (t && u)) ≡ true → shape.Ite a b c ≡ shape.Ite x y z
 three a x b y c z s t u p q r h =
-    let rest = second_is s (t && u) h in
-    (λ i. shape.Ite (p (first_is s (t && u) h) i) (q (first_is t u rest) i) (r (second_is t u rest) i))
+    let front = and_parts s (t && u) h in
+    let rest = and_parts t u front.1 in
+    (λ i. shape.Ite (p front.0 i) (q rest.0 i) (r rest.1 i))
 
 pub same : (s t : Shape) → equal s t ≡ true → s ≡ t
 same shape.True t =
@@ -376,7 +358,7 @@ same (shape.Bound a) t =
       | shape.NoForms
           ↦ λ h. no h
       | shape.FormThen x y ↦ λ h. no h
-      | shape.Bound x ↦ λ h. ap shape.Bound (a_number a x h)
+      | shape.Bound x ↦ λ h. ap shape.Bound (eqb-true a x h)
       | shape.App x y ↦ λ h. no h
       | shape.Ite x y z ↦ λ h. no h
       | shape.NoTerms ↦ λ h. no h
@@ -478,19 +460,19 @@ same (shape.TermThen a b) t =
 pub equal_self : (s : Shape) → equal s s ≡ true
 equal_self shape.True = refl
 equal_self shape.False = refl
-equal_self (shape.Rel a b) = and _ _ (self a.0) (self b.0)
-equal_self (shape.Eq a b) = and _ _ (self a.0) (self b.0)
+equal_self (shape.Rel a b) = and_from _ _ (self a.0) (self b.0)
+equal_self (shape.Eq a b) = and_from _ _ (self a.0) (self b.0)
 equal_self (shape.Not a) = self a.0
 equal_self (shape.And a) = self a.0
 equal_self (shape.Or a) = self a.0
-equal_self (shape.Implies a b) = and _ _ (self a.0) (self b.0)
-equal_self (shape.Iff a b) = and _ _ (self a.0) (self b.0)
-equal_self (shape.Forall a b) = and _ _ (self a.0) (self b.0)
-equal_self (shape.Exists a b) = and _ _ (self a.0) (self b.0)
+equal_self (shape.Implies a b) = and_from _ _ (self a.0) (self b.0)
+equal_self (shape.Iff a b) = and_from _ _ (self a.0) (self b.0)
+equal_self (shape.Forall a b) = and_from _ _ (self a.0) (self b.0)
+equal_self (shape.Exists a b) = and_from _ _ (self a.0) (self b.0)
 equal_self shape.NoForms = refl
-equal_self (shape.FormThen a b) = and _ _ (self a.0) (self b.0)
+equal_self (shape.FormThen a b) = and_from _ _ (self a.0) (self b.0)
 equal_self (shape.Bound a) = self a
-equal_self (shape.App a b) = and _ _ (self a.0) (self b.0)
-equal_self (shape.Ite a b c) = and _ _ (self a.0) (and _ _ (self b.0) (self c.0))
+equal_self (shape.App a b) = and_from _ _ (self a.0) (self b.0)
+equal_self (shape.Ite a b c) = and_from _ _ (self a.0) (and_from _ _ (self b.0) (self c.0))
 equal_self shape.NoTerms = refl
-equal_self (shape.TermThen a b) = and _ _ (self a.0) (self b.0)
+equal_self (shape.TermThen a b) = and_from _ _ (self a.0) (self b.0)
