@@ -1,16 +1,11 @@
 -- A formula without existentials has no constants.
-use Rattle.std.proofs.Common.{◌≡◌, ℕ, ◌+◌, Bool, true, false, true≢false, List, [], ◌++◌, length, refl, ap}
-use Rattle.std.specs.Prelude.{◌||◌}
+use Rattle.std.proofs.Common.{◌≡◌, ℕ, ◌+◌, false, true≢false, List, [], ◌++◌, length, refl, ap}
+use Rattle.std.proofs.lemmas.Bool.{or_parts}
 use Rattle.fol_formula.specs.Syntax.{FormTree, FormTrees, top, bottom, rel, equal, negation}
 use Rattle.fol_formula.specs.Syntax.{conjunction, disjunction, implication, equivalence, for_all, for_some, no_forms}
 use Rattle.fol_formula.specs.Syntax.{form_then}
 use Rattle.fol_pool.specs.Facts.{has_existential, have_existential}
 use Rattle.skolem.specs.Constants.{Slot, new_sorts, all_new_sorts, skolem_form, skolem_forms, named_form, named_forms}
-
-neither : (a b : Bool) → a || b ≡ false → (a ≡ false) × (b ≡ false)
-neither false false e = (refl, refl)
-neither false true e = absurd (true≢false e)
-neither true b e = absurd (true≢false e)
 
 mutual
   pub no_sorts : (p : FormTree) → has_existential p ≡ false → new_sorts p ≡ []
@@ -29,7 +24,7 @@ mutual
   no_sorts_of : (ps : FormTrees) → have_existential ps ≡ false → all_new_sorts ps ≡ []
   no_sorts_of no_forms h = refl
   no_sorts_of (form_then p ps) h =
-      let none = neither (has_existential p) (have_existential ps) h in
+      let none = or_parts (has_existential p) (have_existential ps) h in
       λ i. no_sorts p none.0 i ++ no_sorts_of ps none.1 i
 
 module _ (scope : List Slot) where
@@ -51,5 +46,5 @@ module _ (scope : List Slot) where
         → skolem_forms next scope ps ≡ named_forms scope ps
     stay no_forms next h = refl
     stay (form_then p ps) next h =
-        let none = neither (has_existential p) (have_existential ps) h in
+        let none = or_parts (has_existential p) (have_existential ps) h in
         λ i. form_then (stays p next none.0 i) (stay ps (next + length (new_sorts p)) none.1 i)

@@ -3,6 +3,7 @@ use Rattle.std.proofs.Common.{◌≡◌, ℕ, zero, suc, ◌-◌, ◌<◌, ◌�
 use Rattle.std.proofs.Common.{ap, subst, ◌∙◌, arith, append_assoc}
 use Rattle.std.specs.Prelude.{reverse}
 use Rattle.std.proofs.lemmas.Bool.{le-ltb}
+use Rattle.base.proofs.Lists.{all_push}
 use Rattle.std.proofs.lemmas.List.{get_or-map, reverse-append, map-append}
 use Rattle.fol_formula.specs.Syntax.{TermTree, bound, list_of, term_then}
 use Rattle.fol_subst.specs.Shift.{shift_term}
@@ -18,14 +19,11 @@ module _ (ts : List Tree) where
   have_at (n ∷ rest) zero d lt h = h.0
   have_at (n ∷ rest) (suc i) d lt h = have_at rest i d (omega (arith, lt)) h.1
 
-  pub have_push : (nodes : List Node) (n : Node) → HaveTerms ts nodes → HasTerm ts n.0 → HaveTerms ts (nodes ++ n ∷ [])
-  have_push [] n h last = (last, tt)
-  have_push (m ∷ rest) n h last = (h.0, have_push rest n h.1 last)
-
   pub have_reverse : (nodes : List Node) → HaveTerms ts nodes → HaveTerms ts (reverse nodes)
   have_reverse [] h = tt
   have_reverse (n ∷ rest) h =
-      subst (HaveTerms ts) (sym (reverse-append (n ∷ []) rest)) (have_push (reverse rest) n (have_reverse rest h.1) h.0)
+      subst (HaveTerms ts) (sym (reverse-append (n ∷ []) rest))
+      (all_push (λ m. HasTerm ts m.0) (reverse rest) n (have_reverse rest h.1) h.0)
 
   pub terms_reverse : (nodes : List Node) → terms_of ts (reverse nodes) ≡ reverse (terms_of ts nodes)
   terms_reverse [] = refl

@@ -1,6 +1,7 @@
 -- What a walk knows of its nodes stays so as the pool grows.
 use Rattle.std.proofs.Common.{◌≡◌, ℕ, ◌-◌, ◌<◌, ◌≤◌, ◌==◌, ◌&&◌, if◌then◌else◌, Bool, true, false, List, length}
-use Rattle.std.proofs.Common.{get_or, max, Some, refl, sym, ap, subst, ◌∙◌, arith, T, eqb→eq}
+use Rattle.std.proofs.Common.{get_or, max, Some, refl, sym, ap, subst, ◌∙◌, arith}
+use Rattle.std.proofs.lemmas.Bool.{eqb-true}
 use Rattle.std.specs.List.{All}
 use Rattle.std.proofs.Math.Nat.{max-le}
 use Rattle.fol_formula.specs.Syntax.{top, bottom, rel, equal, negation, conjunction, disjunction}
@@ -85,9 +86,6 @@ choice q r old now new d p a b x y z tree e g more cond one two first second thi
 
 -- ---- what is noted
 
-number : (m n : ℕ) → (m == n) ≡ true → m ≡ n
-number m n h = eqb→eq m n (subst T (sym h) tt)
-
 module _ (r : Rules) (old new : List Tree) (before after : Entries) (at : Node) (depth : ℕ) (made : Node)
     (grows : Grows old new) (right : AreRight r new before) (lt : at.0 < length old)
     (is : IsAt new made.0 (tree_by r depth (tree_at old at.0)))
@@ -105,8 +103,8 @@ module _ (r : Rules) (old new : List Tree) (before after : Entries) (at : Node) 
   cases : (n d : ℕ) (m : Node) (a b : Bool) → (at.0 == n) ≡ a → (depth == d) ≡ b
       → (if a && b then Some made else kept before n d) ≡ Some m → Right n d m
   cases n d m true true p q e =
-      subst (λ (k : ℕ). Right k d m) (number at.0 n p)
-      (subst (λ (k : ℕ). Right at.0 k m) (number depth d q) (subst (λ (k : Node). Right at.0 depth k) (same e) one))
+      subst (λ (k : ℕ). Right k d m) (eqb-true at.0 n p)
+      (subst (λ (k : ℕ). Right at.0 k m) (eqb-true depth d q) (subst (λ (k : Node). Right at.0 depth k) (same e) one))
     where
       same : Some made ≡ Some m → made ≡ m
       same e = cc e
