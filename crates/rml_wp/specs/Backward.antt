@@ -1,7 +1,8 @@
 -- A path is gone back, from its end to its beginning, while its relation havocs are written out: what is known on the
 -- way, and the limit from a rest to the whole.
-use Rattle.std.specs.Prelude.{◌≡◌, ℕ, ◌+◌, ◌≤◌, ◌||◌, Bool, true, false, List, [], ◌∷◌, ◌++◌, IsTrue}
-use Rattle.std.proofs.Common.{refl, sym, ap, ◌∙◌, subst, arith, append_assoc, append-nil}
+use Rattle.std.specs.Prelude.{◌≡◌, ℕ, ◌+◌, ◌≤◌, ◌||◌, true, false, List, [], ◌∷◌, ◌++◌, IsTrue}
+use Rattle.std.proofs.Common.{sym, ap, ◌∙◌, subst, arith, append_assoc, append-nil}
+use Rattle.std.proofs.lemmas.Bool.{or_left, or_right}
 use Rattle.base.proofs.Lists.{all_back}
 use Rattle.base.specs.Because.{Because}
 use Rattle.base.specs.declared.refused.Refused.{Refused}
@@ -21,15 +22,6 @@ use Rattle.rml_wp.specs.Preconditions.{back_of, precondition_of, passes_limit}
 abbrev pub back_by : Symbols → Symbols → (PrimitiveTree → List FormTree) → ℕ → PrimitiveTree → FormTree → FormTree
 back_by own sig premises n q rest = back_of sig (premises (written_step own n q)) (written_step own n q) rest
 
--- where the second of two tests holds, one does
-later : (a b : Bool) → b ≡ true → (a || b) ≡ true
-later true b e = refl
-later false b e = e
-
--- and where the first does
-sooner : (a b : Bool) → a ≡ true → (a || b) ≡ true
-sooner a b e = ap (λ z. z || b) e
-
 -- Havocs are written out by the signature `own`, with the fresh relations from number n on; the precondition is over
 -- the signature `sig`.
 module _ (own sig : Symbols) (premises : PrimitiveTree → List FormTree) (target : FormTree) (n : ℕ) where
@@ -46,17 +38,13 @@ module _ (own sig : Symbols) (premises : PrimitiveTree → List FormTree) (targe
   abbrev pub Passes : List PrimitiveTree → FormulaLimit → Type 0
   Passes path = λ x. IsTrue (passes_limit sig premises target (written own n path))
 
-  -- each path passes the limit where the target does
-  limit_end : (qs : List PrimitiveTree) → is_too_large target ≡ true → passes_limit sig premises target qs ≡ true
-  limit_end [] e = e
-  limit_end (q ∷ qs) e = later (is_too_large (precondition_of sig premises target (q ∷ qs))) _ (limit_end qs e)
-
-  -- and where its rest does
+  -- a path passes the limit where a rest of it does
   limit_append : (front behind : List PrimitiveTree) → passes_limit sig premises target behind ≡ true
       → passes_limit sig premises target (front ++ behind) ≡ true
   limit_append [] behind e = e
   limit_append (q ∷ front) behind e =
-      later (is_too_large (precondition_of sig premises target (q ∷ (front ++ behind)))) _ (limit_append front behind e)
+      or_right (is_too_large (precondition_of sig premises target (q ∷ (front ++ behind)))) _
+      (limit_append front behind e)
 
   -- ---- laws
 
@@ -75,7 +63,9 @@ module _ (own sig : Symbols) (premises : PrimitiveTree → List FormTree) (targe
   -- or ends there
   pub stops_at_end : (given : FormTree) (path : List PrimitiveTree) (e : Refused FormulaLimit) → given ≡ target
       → Because (λ x. IsTrue (is_too_large given)) e → Because (Passes path) e
-  stops_at_end given path (For x) is h = limit_end (written own n path) (ap is_too_large (sym is) ∙ h)
+  stops_at_end given path (For x) is h =
+      ap (passes_limit sig premises target) (sym (append-nil (written own n path)))
+      ∙ limit_append (written own n path) [] (ap is_too_large (sym is) ∙ h)
   stops_at_end given path NoMemory is h = tt
 
   module _ (path before : List PrimitiveTree) (fresh : ℕ) (now : FormTree) (none : before ≡ [])
@@ -144,7 +134,7 @@ module _ (own sig : Symbols) (premises : PrimitiveTree → List FormTree) (targe
       stops_at (For x) large =
           ap (passes_limit sig premises target) written_whole
           ∙ limit_append (written own n rest) (one ∷ written own behind h.behind)
-          (sooner (is_too_large (precondition_of sig premises target (one ∷ written own behind h.behind))) _
+          (or_left (is_too_large (precondition_of sig premises target (one ∷ written own behind h.behind))) _
           (ap is_too_large made ∙ large))
       stops_at NoMemory large = tt
 
