@@ -12,9 +12,9 @@ forms_length ts ns ps h =
     sym (length-map ns (λ (n : Node). form_at ts n.0)) ∙ ap length (forms_are ts ns ps h)
 
 -- the formula of one number
-pub form_there : (ts : List Tree) (ns : List Node) (ps : List FormTree) (k : ℕ) (d : Node) → AreForms ts ns ps
+pub formula_there : (ts : List Tree) (ns : List Node) (ps : List FormTree) (k : ℕ) (d : Node) → AreForms ts ns ps
     → k < length ns → IsAt ts (get_or ns k d).0 (a_form (slice_index_or ps k top))
-form_there ts [] ps k d h lt = absurd (omega (arith, lt))
-form_there ts (n ∷ ns) [] k d h lt = absurd h
-form_there ts (n ∷ ns) (p ∷ ps) zero d h lt = h.0
-form_there ts (n ∷ ns) (p ∷ ps) (suc k) d h lt = form_there ts ns ps k d h.1 (omega (arith, lt))
+formula_there ts [] ps k d h lt = absurd (omega (arith, lt))
+formula_there ts (n ∷ ns) [] k d h lt = absurd h
+formula_there ts (n ∷ ns) (p ∷ ps) zero d h lt = h.0
+formula_there ts (n ∷ ns) (p ∷ ps) (suc k) d h lt = formula_there ts ns ps k d h.1 (omega (arith, lt))

@@ -4,7 +4,7 @@ use Rattle.rml_command.specs.declared.goal.About.TheVariants.{Conjecture}
 use Rattle.fol_pool.specs.Trees.{IsAt, a_form}
 use Rattle.rml_wp.specs.Laws.{HasTarget}
 use Rattle.rml_wp.specs.Preconditions.{target_of}
-use Rattle.pool_wp.proofs.Nodes.{forms_length, form_there}
+use Rattle.pool_wp.proofs.Nodes.{forms_length, formula_there}
 use Rattle.pool_wp.proofs.path.target.Goals as goal
 
 pub bounds-conjectures-k : goal.bounds-conjectures-k
@@ -24,6 +24,6 @@ returns-in-Conjecture-clause-node c =
     let nodes = c.args.nodes.now.conjectures.items in
     let has : k < length m.conjectures = subst (HasTarget m) c.in-Conjecture.is c.requires.about in
     let e = forms_length ts nodes m.conjectures c.requires.nodes.conjectures in
-    let there = form_there ts nodes m.conjectures k d c.requires.nodes.conjectures (omega (arith, has, e)) in
+    let there = formula_there ts nodes m.conjectures k d c.requires.nodes.conjectures (omega (arith, has, e)) in
     rw c.in-Conjecture.is (subst (λ (ns : List Node). IsAt ts (get_or ns k d).0 (a_form (target_of m (Conjecture k))))
     (sym c.as_slice-conjectures.ensures.value) there)

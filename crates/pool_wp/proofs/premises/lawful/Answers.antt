@@ -5,7 +5,7 @@ use Rattle.fol_occurs.specs.View.{named}
 use Rattle.fol_pool.specs.Trees.{a_form, some_forms}
 use Rattle.fol_pool.specs.Rows.{forms_stay}
 use Rattle.rml_wp.specs.Preconditions.{premises_at}
-use Rattle.pool_wp.proofs.Nodes.{forms_length, form_there}
+use Rattle.pool_wp.proofs.Nodes.{forms_length, formula_there}
 use Rattle.pool_wp.proofs.PremiseRows.{none}
 use Rattle.pool_wp.proofs.premises.lawful.Goals as goal
 
@@ -38,6 +38,6 @@ with_premise-requires-clause-node c =
     let k = c.loop-i.i - 1 in
     let e = forms_length start nodes axioms c.requires in
     let stood = forms_stay start now c.loop-i.invariant.grows nodes axioms c.requires in
-    let there = form_there now nodes axioms k (record { 0 = 0 }) stood (omega (arith, e)) in
+    let there = formula_there now nodes axioms k (record { 0 = 0 }) stood (omega (arith, e)) in
     let p = c.index-axioms-i.result in
     (there.0, there.1 ∙ ap a_form (get_or_default axioms k top p (omega arith) ∙ sym c.index-axioms-i.is))
