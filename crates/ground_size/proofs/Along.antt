@@ -40,7 +40,7 @@ use Rattle.fol_formula.specs.Counts.{saturated}
 use Rattle.ground_terms.specs.TermCounts.{sum_below, or_one, application_count, term_count, AreCounts}
 use Rattle.ground_size.specs.Walks.{capped_count, capped_counts}
 use Rattle.ground_size.proofs.Saturated.{sat-sat, plus-alike, or_one-alike, tuples-alike, sums-alike}
-use Rattle.ground_size.proofs.Raised.{times}
+use Rattle.ground_size.specs.Existentials.{times}
 
 pub sum-agree : (n : ℕ) (f g : ℕ → ℕ) → ((x : ℕ) → x < n → f x ≡ g x) → sum_below n f ≡ sum_below n g
 sum-agree zero f g h = refl

@@ -52,9 +52,10 @@ use Rattle.fol_nnf.specs.Laws.{FittingIsKept, IsAlwaysNormal, FragmentsAreKept, 
 use Rattle.skolem.specs.Constants.{new_sorts}
 use Rattle.skolem.specs.Laws.{EachIsSkolemised, EachExistentialIsConstant}
 use Rattle.ground_size.specs.Counting.{AreCounted}
+use Rattle.ground_size.specs.Existentials.{times, some, AreConstants}
 use Rattle.ground_size.specs.Walks.{raised_at, raised, all_raised, capped_counts}
 use Rattle.ground_size.proofs.Saturated.{sat-sat, at-saturated}
-use Rattle.ground_size.proofs.Raised.{times, some, at-raised}
+use Rattle.ground_size.proofs.Raised.{at-raised}
 use Rattle.ground_size.proofs.Along.{counts_from, counts-from, capped-along, capped-zeros}
 
 -- no count is above the greatest number of 64 bits
@@ -104,6 +105,10 @@ raised-sentence p n k lt =
     (arith, zero_there, one, none) in
     sym capped ∙ counted ∙ ap saturated sum
 
+pub constants-raised : (p : FormTree) (n : ℕ) (constants : List ℕ) → constants ≡ raised 1 0 p (replicate n 0)
+    → AreConstants n p constants
+constants-raised p n constants walked k lt = ap (λ ns. slice_index ns k) walked ∙ raised-sentence p n k lt
+
 -- the laws of the crates below
 pub record AreLaws : Type 0 where
   pub kept : SortsAreKept
@@ -121,19 +126,18 @@ module _ (laws : AreLaws) where
       ∙ (laws.witnesses true p ea.1).sorts
 
   pub counted : (sig : Declared) (p : FormTree) (order cs end : List ℕ) → IsStrata (symbols sig) order
-      → FitsForm (symbols sig) [] p → IsEa p
-      → cs ≡ raised 1 0 p (replicate sig.sorts 0) → end ≡ capped_counts (symbols sig) cs order (replicate sig.sorts 0)
+      → IsEa p → FitsForm (symbols sig) [] p → AreConstants sig.sorts p cs
+      → end ≡ capped_counts (symbols sig) cs order (replicate sig.sorts 0)
       → AreCounted sig p end
-  counted sig p order cs end strata fits ea walked e =
+  counted sig p order cs end strata ea fits are e =
       let ks = new_sorts (normal true p) in
       let more = symbols (grown sig ks) in
       let grows = (laws.skolemised sig (normal true p) (laws.fits (symbols sig) [] true p fits)).grows in
-      let are : (k : ℕ) → k < sig.sorts → slice_index cs k ≡ saturated (times k ks) = λ k lt.
-      ap (λ ns. slice_index ns k) walked ∙ raised-sentence p sig.sorts k lt ∙ ap (λ qs. saturated (times k qs))
-      (sym (constants p ea)) in
+      let each : (k : ℕ) → k < sig.sorts → slice_index cs k ≡ saturated (times k ks) = λ k lt.
+      are k lt ∙ ap (λ qs. saturated (times k qs)) (sym (constants p ea)) in
       record {
         counts = counts_from more order (replicate sig.sorts 0);
         terms = counts-from more order ((laws.kept (symbols sig) more grows.grows).strata order strata);
         capped = e ∙ ap (capped_counts (symbols sig) cs order) (sym (capped-zeros sig.sorts))
-            ∙ capped-along (symbols sig) more ks grows cs are order (replicate sig.sorts 0) strata.sorts;
+            ∙ capped-along (symbols sig) more ks grows cs each order (replicate sig.sorts 0) strata.sorts;
       }

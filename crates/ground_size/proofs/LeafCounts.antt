@@ -19,7 +19,6 @@ use Rattle.std.proofs.Common.{
   ◌++◌,
   length,
   map,
-  get_or,
   refl,
   sym,
   ap,
@@ -27,9 +26,10 @@ use Rattle.std.proofs.Common.{
   arith,
   ⊎_elim,
 }
+use Rattle.std.specs.Prelude.{slice_index}
 use Rattle.std.proofs.lemmas.Bool.{cases_eq, eq-eqb, ne_eqb, cond-false}
 use Rattle.std.proofs.lemmas.List.{length-append, length-map}
-use Rattle.std.proofs.Math.Nat.{mul-add, add-mul, suc-mul, mul-suc, mul-zero, zero-mul, mul_assoc}
+use Rattle.std.proofs.Math.Nat.{add-mul, suc-mul, mul-suc, mul-zero, zero-mul}
 use Rattle.fol_formula.specs.Syntax.{
   FormTree,
   TermTree,
@@ -69,9 +69,10 @@ use Rattle.fol_nnf.specs.Normal.{
   leaves_of_terms,
 }
 use Rattle.ground_size.specs.Sizes.{instance_nodes, all_instance_nodes}
-use Rattle.ground_size.specs.Leaves.{AreSizes, AreLeaves, nodes_of_each, condition_nodes, literal_nodes}
-use Rattle.ground_size.specs.declared.sizes.Sizes.{Sizes}
-use Rattle.ground_size.specs.declared.sizes.Leaves.{Leaves}
+use Rattle.ground_size.specs.Leaves.{AreSigned, AreLeaves, AreSizesOf, AreLeavesOf}
+use Rattle.ground_size.specs.Leaves.{nodes_of_each, condition_nodes, literal_nodes}
+use Rattle.ground_size.specs.declared.signed.SignedCount.{SignedCount}
+use Rattle.ground_size.specs.declared.leaves.LeafCount.{LeafCount}
 use Rattle.ground_size.proofs.Saturated.{sat-sat, plus-alike, times-alike}
 
 module _ (counts : List ℕ) where
@@ -259,41 +260,34 @@ module _ (counts : List ℕ) where
   capped : (x y : ℕ) → x ≡ saturated y → saturated x ≡ saturated y
   capped x y e = ap saturated e ∙ sat-sat y
 
-  pub rel-size : (s : Sizes) (l : Leaves) (p : FormTree) (r : ℕ) (args : TermTrees) → p ≡ rel r args
-      → AreLeaves l (length (leaves_of_terms args)) (conditions (leaves_of_terms args))
-      → AreSizes s (literal_nodes l.count l.conditions) (literal_nodes l.count l.conditions)
-      → AreSizes s (nodes (normal true p)) (nodes (normal false p))
-  rel-size s l p r args is h z =
-      let alike = literal-alike l.count (length (leaves_of_terms args)) l.conditions
-      (conditions (leaves_of_terms args)) (capped l.count _ h.count) (capped l.conditions _ h.conditions) in
-      let at = λ (positive : Bool). ap saturated (sym (rel-nodes positive r args)
-      ∙ ap (λ q. nodes (normal positive q)) (sym is)) in
+  pub rel-size : (s : SignedCount) (l : LeafCount) (r : ℕ) (args : TermTrees)
+      → AreLeavesOf counts (leaves_of_terms args) l
+      → AreSigned s (literal_nodes l.leaves l.conditions) (literal_nodes l.leaves l.conditions)
+      → AreSizesOf counts (rel r args) s
+  rel-size s l r args h z =
+      let alike = literal-alike l.leaves (length (leaves_of_terms args)) l.conditions
+      (conditions (leaves_of_terms args)) (capped l.leaves _ h.leaves) (capped l.conditions _ h.conditions) in
+      let at = λ (positive : Bool). ap saturated (sym (rel-nodes positive r args)) in
       record { positive = z.positive ∙ alike ∙ at true; negative = z.negative ∙ alike ∙ at false }
 
-  pub equal-size : (s : Sizes) (l m both : Leaves) (p : FormTree) (a b : TermTree) → p ≡ equal a b
-      → AreLeaves l (length (leaves a)) (conditions (leaves a)) → AreLeaves m (length (leaves b))
-      (conditions (leaves b))
-      → AreLeaves both (l.count * m.count) (l.conditions * m.count + l.count * m.conditions)
-      → AreSizes s (literal_nodes both.count both.conditions) (literal_nodes both.count both.conditions)
-      → AreSizes s (nodes (normal true p)) (nodes (normal false p))
-  equal-size s l m both p a b is h i j z =
-      let e = joined-alike l.count m.count l.conditions m.conditions _ _ _ _ (capped l.count _ h.count)
-      (capped m.count _ i.count) (capped l.conditions _ h.conditions) (capped m.conditions _ i.conditions) in
-      let alike = literal-alike both.count _ both.conditions _ (capped both.count _ j.count ∙ e.0)
+  pub equal-size : (s : SignedCount) (l m both : LeafCount) (a b : TermTree)
+      → AreLeavesOf counts (leaves a) l → AreLeavesOf counts (leaves b) m
+      → AreLeaves both (l.leaves * m.leaves) (l.conditions * m.leaves + l.leaves * m.conditions)
+      → AreSigned s (literal_nodes both.leaves both.conditions) (literal_nodes both.leaves both.conditions)
+      → AreSizesOf counts (equal a b) s
+  equal-size s l m both a b h i j z =
+      let e = joined-alike l.leaves m.leaves l.conditions m.conditions _ _ _ _ (capped l.leaves _ h.leaves)
+      (capped m.leaves _ i.leaves) (capped l.conditions _ h.conditions) (capped m.conditions _ i.conditions) in
+      let alike = literal-alike both.leaves _ both.conditions _ (capped both.leaves _ j.leaves ∙ e.0)
       (capped both.conditions _ j.conditions ∙ e.1) in
-      let at = λ (positive : Bool). ap saturated (sym (equal-nodes positive a b)
-      ∙ ap (λ q. nodes (normal positive q)) (sym is)) in
+      let at = λ (positive : Bool). ap saturated (sym (equal-nodes positive a b)) in
       record { positive = z.positive ∙ alike ∙ at true; negative = z.negative ∙ alike ∙ at false }
 
-  pub app-leaves : (l : Leaves) (t : TermTree) (f : ℕ) (args : TermTrees) → t ≡ app f args
-      → AreLeaves l (length (leaves_of_terms args)) (conditions (leaves_of_terms args))
-      → AreLeaves l (length (leaves t)) (conditions (leaves t))
-  app-leaves l t f args is h = record {
-    count = h.count
-        ∙ ap saturated (sym (length-map (leaves_of_terms args) (made (app f))) ∙ ap (λ s. length (leaves s)) (sym is));
-    conditions = h.conditions
-        ∙ ap saturated (sym (conditions-made (app f) (leaves_of_terms args))
-        ∙ ap (λ s. conditions (leaves s)) (sym is));
+  pub app-leaves : (l : LeafCount) (f : ℕ) (args : TermTrees) → AreLeavesOf counts (leaves_of_terms args) l
+      → AreLeavesOf counts (leaves (app f args)) l
+  app-leaves l f args h = record {
+    leaves = h.leaves ∙ ap saturated (sym (length-map (leaves_of_terms args) (made (app f))));
+    conditions = h.conditions ∙ ap saturated (sym (conditions-made (app f) (leaves_of_terms args)));
   }
 
   ite-count : (c : FormTree) (a b : TermTree) → length (leaves (ite c a b)) ≡ length (leaves a) + length (leaves b)
@@ -311,84 +305,44 @@ module _ (counts : List ℕ) where
       let f = conditions-given (normal false c) (leaves b) in
       omega (arith, e, d, f)
 
-  pub ite-leaves : (r l m : Leaves) (s : Sizes) (t : TermTree) (c : FormTree) (a b : TermTree) → t ≡ ite c a b
-      → AreLeaves l (length (leaves a)) (conditions (leaves a)) → AreLeaves m (length (leaves b))
-      (conditions (leaves b))
-      → AreSizes s (nodes (normal true c)) (nodes (normal false c))
-      → AreLeaves r (l.count + m.count) (l.count * s.positive + l.conditions + (m.count * s.negative + m.conditions))
-      → AreLeaves r (length (leaves t)) (conditions (leaves t))
-  ite-leaves r l m s t c a b is h i z j =
-      let lc = capped l.count _ h.count in
-      let mc = capped m.count _ i.count in
+  pub ite-leaves : (r l m : LeafCount) (s : SignedCount) (c : FormTree) (a b : TermTree) → AreSizesOf counts c s
+      → AreLeavesOf counts (leaves a) l → AreLeavesOf counts (leaves b) m
+      → AreLeaves r (l.leaves + m.leaves)
+      (l.leaves * s.positive + l.conditions + (m.leaves * s.negative + m.conditions))
+      → AreLeavesOf counts (leaves (ite c a b)) r
+  ite-leaves r l m s c a b z h i j =
+      let lc = capped l.leaves _ h.leaves in
+      let mc = capped m.leaves _ i.leaves in
       let lw = capped l.conditions _ h.conditions in
       let mw = capped m.conditions _ i.conditions in
       let sp = capped s.positive _ z.positive in
       let sn = capped s.negative _ z.negative in
       record {
-        count = j.count ∙ plus-alike l.count _ m.count _ lc mc
-            ∙ ap saturated (sym (ite-count c a b) ∙ ap (λ q. length (leaves q)) (sym is));
+        leaves = j.leaves ∙ plus-alike l.leaves _ m.leaves _ lc mc ∙ ap saturated (sym (ite-count c a b));
         conditions = j.conditions
-            ∙ plus-alike (l.count * s.positive + l.conditions) _ (m.count * s.negative + m.conditions) _
-            (plus-alike (l.count * s.positive) _ l.conditions _ (times-alike l.count _ s.positive _ lc sp) lw)
-            (plus-alike (m.count * s.negative) _ m.conditions _ (times-alike m.count _ s.negative _ mc sn) mw)
-            ∙ ap saturated (sym (ite-conditions c a b) ∙ ap (λ q. conditions (leaves q)) (sym is));
+            ∙ plus-alike (l.leaves * s.positive + l.conditions) _ (m.leaves * s.negative + m.conditions) _
+            (plus-alike (l.leaves * s.positive) _ l.conditions _ (times-alike l.leaves _ s.positive _ lc sp) lw)
+            (plus-alike (m.leaves * s.negative) _ m.conditions _ (times-alike m.leaves _ s.negative _ mc sn) mw)
+            ∙ ap saturated (sym (ite-conditions c a b));
       }
 
-  -- one more term of a row
-  regrouped : (m w n v n' v' : ℕ) → (w * n + m * v) * n' + (m * n) * v' ≡ w * (n * n') + m * (v * n' + n * v')
-  regrouped m w n v n' v' =
-      let a = add-mul (w * n) (m * v) n' in
-      let b = mul_assoc w n n' in
-      let c = mul_assoc m v n' in
-      let d = mul_assoc m n v' in
-      let e = mul-add m (v * n') (n * v') in
-      omega (arith, a, b, c, d, e)
-
-  pub turn-count : (all l next : Leaves) (t : TermTree) (ts : TermTrees) (total : ℕ)
-      → AreLeaves l (length (leaves t)) (conditions (leaves t)) → AreLeaves next (all.count * l.count)
-      (all.conditions * l.count + all.count * l.conditions)
-      → saturated (all.count * length (leaves_of_terms (term_then t ts))) ≡ total
-      → saturated (next.count * length (leaves_of_terms ts)) ≡ total
-  turn-count all l next t ts total h j inv =
-      let rest = length (leaves_of_terms ts) in
-      let e = joined-alike all.count l.count all.conditions l.conditions all.count _ all.conditions _ refl
-      (capped l.count _ h.count) refl (capped l.conditions _ h.conditions) in
-      times-alike next.count (all.count * length (leaves t)) rest rest (capped next.count _ j.count ∙ e.0) refl
-      ∙ ap saturated (mul_assoc all.count (length (leaves t)) rest
-      ∙ ap (λ n. all.count * n) (sym (length-joined term_then (leaves t) (leaves_of_terms ts))))
-      ∙ inv
-
-  pub turn-conditions : (all l next : Leaves) (t : TermTree) (ts : TermTrees) (total : ℕ)
-      → AreLeaves l (length (leaves t)) (conditions (leaves t)) → AreLeaves next (all.count * l.count)
-      (all.conditions * l.count + all.count * l.conditions)
-      → saturated (all.conditions * length (leaves_of_terms (term_then t ts)) + all.count * conditions
-      (leaves_of_terms (term_then t ts))) ≡ total
-      → saturated (next.conditions * length (leaves_of_terms ts) + next.count * conditions (leaves_of_terms ts)) ≡ total
-  turn-conditions all l next t ts total h j inv =
-      let rest = length (leaves_of_terms ts) in
-      let more = conditions (leaves_of_terms ts) in
-      let e = joined-alike all.count l.count all.conditions l.conditions all.count _ all.conditions _ refl
-      (capped l.count _ h.count) refl (capped l.conditions _ h.conditions) in
-      (joined-alike next.count rest next.conditions more (all.count * length (leaves t)) rest
-      (all.conditions * length (leaves t) + all.count * conditions (leaves t)) more
-      (capped next.count _ j.count ∙ e.0) refl (capped next.conditions _ j.conditions ∙ e.1) refl).1
-      ∙ ap saturated (regrouped all.count all.conditions (length (leaves t)) (conditions (leaves t)) rest more)
-      ∙ ap (λ n. saturated
-      (all.conditions * n + all.count * (conditions (leaves t) * rest + length (leaves t) * more)))
-      (sym (length-joined term_then (leaves t) (leaves_of_terms ts)))
-      ∙ ap (λ n. saturated (all.conditions * length (leaves_of_terms (term_then t ts)) + all.count * n))
-      (sym (conditions-joined term_then (leaves t) (leaves_of_terms ts)))
-      ∙ inv
-
-  pub some-size : (s z : Sizes) (n k : ℕ) (p q : FormTree) → p ≡ for_some k q → n ≡ get_or counts k 0
-      → AreSizes s (nodes (normal true q)) (nodes (normal false q)) → AreSizes z s.positive (n * s.negative + 1)
-      → AreSizes z (nodes (normal true p)) (nodes (normal false p))
-  some-size s z n k p q is e h j =
-      let at = λ (positive : Bool). ap (λ r. saturated (nodes (normal positive r))) (sym is) in
+  -- a term in front of a row
+  pub then-leaves : (r l m : LeafCount) (t : TermTree) (ts : TermTrees)
+      → AreLeavesOf counts (leaves t) l → AreLeavesOf counts (leaves_of_terms ts) m
+      → AreLeaves r (l.leaves * m.leaves) (l.conditions * m.leaves + l.leaves * m.conditions)
+      → AreLeavesOf counts (leaves_of_terms (term_then t ts)) r
+  then-leaves r l m t ts h i j =
+      let e = joined-alike l.leaves m.leaves l.conditions m.conditions _ _ _ _ (capped l.leaves _ h.leaves)
+      (capped m.leaves _ i.leaves) (capped l.conditions _ h.conditions) (capped m.conditions _ i.conditions) in
       record {
-        positive = j.positive ∙ capped s.positive _ h.positive ∙ at true;
-        negative = j.negative
-            ∙ plus-alike (n * s.negative) (get_or counts k 0 * nodes (normal false q)) 1 1
-            (times-alike n _ s.negative _ (ap saturated e) (capped s.negative _ h.negative)) refl
-            ∙ at false;
+        leaves = j.leaves ∙ e.0 ∙ ap saturated (sym (length-joined term_then (leaves t) (leaves_of_terms ts)));
+        conditions = j.conditions ∙ e.1
+            ∙ ap saturated (sym (conditions-joined term_then (leaves t) (leaves_of_terms ts)));
       }
+
+  -- under a quantifier of as many terms as its sort has
+  pub over : (k n x many z : ℕ) (q : FormTree) → n ≡ slice_index counts k → x ≡ saturated (nodes q)
+      → many ≡ saturated (n * x) → z ≡ saturated (many + 1) → z ≡ saturated (slice_index counts k * nodes q + 1)
+  over k n x many z q is e f g =
+      let all = times-alike n (slice_index counts k) x (nodes q) (ap saturated is) (capped x (nodes q) e) in
+      omega (arith, f, g, all)

@@ -1,4 +1,5 @@
 mod Saturated
+mod OfParts
 mod Raised
 mod Turns
 mod RowSums

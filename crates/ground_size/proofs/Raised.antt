@@ -1,28 +1,6 @@
 -- The walk over a sentence counts the existentials of its normal form.
-use Rattle.std.proofs.Common.{
-  ◌≡◌,
-  ℕ,
-  ◌+◌,
-  ◌*◌,
-  ◌<◌,
-  Bool,
-  true,
-  false,
-  ◌==◌,
-  cond,
-  List,
-  [],
-  ◌∷◌,
-  ◌++◌,
-  length,
-  refl,
-  sym,
-  ap,
-  ◌∙◌,
-  subst,
-  arith,
-  ⊎_elim,
-}
+use Rattle.std.proofs.Common.{◌≡◌, ℕ, ◌+◌, ◌*◌, ◌<◌, true, false, ◌==◌, cond, List, length, refl, sym, ap, ◌∙◌}
+use Rattle.std.proofs.Common.{subst, arith, ⊎_elim}
 use Rattle.std.specs.Prelude.{slice_index}
 use Rattle.std.proofs.lemmas.Bool.{cases_eq, eq-eqb, ne_eqb}
 use Rattle.std.proofs.lemmas.List.{length-set, get_or-set_same, get_or-set_other}
@@ -45,37 +23,10 @@ use Rattle.fol_formula.specs.Syntax.{
   form_then,
 }
 use Rattle.fol_formula.specs.Counts.{saturated}
-use Rattle.fol_formula.specs.NormalForms.{normal_form, normal_forms}
-use Rattle.fol_formula.specs.Witnesses.{some_sorts, some_sorts_of}
+use Rattle.ground_size.specs.Existentials.{some, some_of_all}
 use Rattle.ground_size.specs.Walks.{raised_at, raised, all_raised}
+use Rattle.ground_size.proofs.OfParts.{of_parts}
 use Rattle.ground_size.proofs.Saturated.{sat-sat, plus-alike, times-alike}
-
--- how often a sort stands in a list
-abbrev pub times : ℕ → List ℕ → ℕ
-times k [] = 0
-times k (q ∷ qs) = cond (q == k) 1 0 + times k qs
-
-times-append : (k : ℕ) (qs rs : List ℕ) → times k (qs ++ rs) ≡ times k qs + times k rs
-times-append k [] rs = omega arith
-times-append k (q ∷ qs) rs = let h = times-append k qs rs in omega (arith, h)
-
--- the existentials of a sort in normal form
-abbrev pub some : ℕ → Bool → FormTree → ℕ
-some k positive p = times k (some_sorts (normal_form positive p))
-
-abbrev pub some_of_all : ℕ → Bool → FormTrees → ℕ
-some_of_all k positive ps = times k (some_sorts_of (normal_forms positive ps))
-
-times-two : (k : ℕ) (a b : List ℕ) → times k (a ++ (b ++ [])) ≡ times k a + times k b
-times-two k a b = let e = times-append k a (b ++ []) in let f = times-append k b [] in omega (arith, e, f)
-
-times-four : (k : ℕ) (a b c d : List ℕ) → times k ((a ++ (b ++ [])) ++ ((c ++ (d ++ [])) ++ []))
-    ≡ (times k a + times k b) + (times k c + times k d)
-times-four k a b c d =
-    let e = times-two k (a ++ (b ++ [])) (c ++ (d ++ [])) in
-    let f = times-two k a b in
-    let g = times-two k c d in
-    omega (arith, e, f, g)
 
 -- sums of products
 none : (c y n : ℕ) → saturated c ≡ saturated (c + (y * 0 + n * 0))
@@ -94,7 +45,7 @@ next x z c y n a b d e h i =
 
 both_ways : (x z c y n a b d e : ℕ) → saturated x ≡ saturated (z + (saturated (y + n) * a + saturated (y + n) * b))
     → saturated z ≡ saturated (c + (saturated (y + n) * d + saturated (y + n) * e)) → saturated x
-    ≡ saturated (c + (y * ((d + a) + (e + b)) + n * ((d + b) + (e + a))))
+    ≡ saturated (c + (y * ((d + e) + (a + b)) + n * ((d + e) + (a + b))))
 both_ways x z c y n a b d e h i =
     let t = saturated (y + n) in
     let same : (m : ℕ) → saturated (t * m) ≡ saturated ((y + n) * m) = λ m. times-alike t (y + n) m m
@@ -107,12 +58,12 @@ both_ways x z c y n a b d e h i =
     let fb = add-mul y n b in
     let fd = add-mul y n d in
     let fe = add-mul y n e in
-    let g1 = mul-add y (d + a) (e + b) in
-    let g2 = mul-add y d a in
-    let g3 = mul-add y e b in
-    let g4 = mul-add n (d + b) (e + a) in
-    let g5 = mul-add n d b in
-    let g6 = mul-add n e a in
+    let g1 = mul-add y (d + e) (a + b) in
+    let g2 = mul-add y d e in
+    let g3 = mul-add y a b in
+    let g4 = mul-add n (d + e) (a + b) in
+    let g5 = mul-add n d e in
+    let g6 = mul-add n a b in
     let first : saturated (z + (t * a + t * b)) ≡ saturated (z + ((y * a + n * a) + (y * b + n * b))) =
     plus-alike z z (t * a + t * b) ((y * a + n * a) + (y * b + n * b)) refl
     (plus-alike (t * a) (y * a + n * a) (t * b) (y * b + n * b) (ea ∙ ap saturated fa) (eb ∙ ap saturated fb)) in
@@ -201,9 +152,9 @@ module _ (k : ℕ) where
         next (slice_index (raised y n q behind) k) (slice_index behind k) (slice_index counts k) y n (some k true q)
         (some k false q) (some k false p) (some k true p) (at-raised y n q behind lt') first
         ∙ ap (λ m. saturated (slice_index counts k + (y * m + n * (some k true p + some k false q))))
-        (sym (times-two k (some_sorts (normal_form false p)) (some_sorts (normal_form true q))))
+        (sym (of_parts.of_implication k true p q))
         ∙ ap (λ m. saturated (slice_index counts k + (y * some k true (implication p q) + n * m)))
-        (sym (times-two k (some_sorts (normal_form true p)) (some_sorts (normal_form false q))))
+        (sym (of_parts.of_implication k false p q))
     at-raised y n (equivalence p q) counts lt =
         let t = saturated (y + n) in
         let behind = raised t t p counts in
@@ -212,13 +163,10 @@ module _ (k : ℕ) where
         (some k true q) (some k false q) (some k true p) (some k false p) (at-raised t t q behind lt')
         (at-raised t t p counts lt)
         ∙ ap (λ m. saturated
-        (slice_index counts k +
-        (y * m + n * ((some k true p + some k false q) + (some k false p + some k true q)))))
-        (sym (times-four k (some_sorts (normal_form true p)) (some_sorts (normal_form true q))
-        (some_sorts (normal_form false p)) (some_sorts (normal_form false q))))
+        (slice_index counts k + (y * m + n * ((some k true p + some k false p) + (some k true q + some k false q)))))
+        (sym (of_parts.of_equivalence k true p q))
         ∙ ap (λ m. saturated (slice_index counts k + (y * some k true (equivalence p q) + n * m)))
-        (sym (times-four k (some_sorts (normal_form true p)) (some_sorts (normal_form false q))
-        (some_sorts (normal_form false p)) (some_sorts (normal_form true q))))
+        (sym (of_parts.of_equivalence k false p q))
     at-raised y n (for_all j p) counts lt =
         let behind = raised_at counts j n in
         let lt' : k < length behind = subst (λ m. k < m) (sym (length-raised_at counts j n)) lt in
@@ -242,6 +190,6 @@ module _ (k : ℕ) where
         (some_of_all k true ps) (some_of_all k false ps) (some k true p) (some k false p)
         (at-all_raised y n ps behind lt') (at-raised y n p counts lt)
         ∙ ap (λ m. saturated (slice_index counts k + (y * m + n * (some k false p + some_of_all k false ps))))
-        (sym (times-append k (some_sorts (normal_form true p)) (some_sorts_of (normal_forms true ps))))
+        (sym (of_parts.of_row k true p ps))
         ∙ ap (λ m. saturated (slice_index counts k + (y * some_of_all k true (form_then p ps) + n * m)))
-        (sym (times-append k (some_sorts (normal_form false p)) (some_sorts_of (normal_forms false ps))))
+        (sym (of_parts.of_row k false p ps))

@@ -4,17 +4,17 @@ use Rattle.fol_formula.specs.Syntax.{FormTree, FormTrees}
 use Rattle.fol_formula.specs.Counts.{saturated}
 use Rattle.fol_nnf.specs.Normal.{Leaf, normal, normals}
 use Rattle.ground_size.specs.Sizes.{instance_nodes, all_instance_nodes}
-use Rattle.ground_size.specs.declared.sizes.Sizes.{Sizes}
-use Rattle.ground_size.specs.declared.sizes.Leaves.{Leaves}
+use Rattle.ground_size.specs.declared.signed.SignedCount.{SignedCount}
+use Rattle.ground_size.specs.declared.leaves.LeafCount.{LeafCount}
 
--- the sizes of a normal form and of that of the negation, which stop at the greatest number of 64 bits
-pub record AreSizes (s : Sizes) (as_is negated : ℕ) : Type 0 where
+-- the counts of a normal form and of that of the negation, which stop at the greatest number of 64 bits
+pub record AreSigned (s : SignedCount) (as_is negated : ℕ) : Type 0 where
   pub positive : s.positive ≡ saturated as_is
   pub negative : s.negative ≡ saturated negated
 
 -- how many leaves, and the nodes of their conditions
-pub record AreLeaves (l : Leaves) (many nodes : ℕ) : Type 0 where
-  pub count : l.count ≡ saturated many
+pub record AreLeaves (l : LeafCount) (many nodes : ℕ) : Type 0 where
+  pub leaves : l.leaves ≡ saturated many
   pub conditions : l.conditions ≡ saturated nodes
 
 -- the nodes of these conditions
@@ -28,17 +28,17 @@ condition_nodes counts [] = 0
 condition_nodes counts (l ∷ ls) = nodes_of_each counts l.0 + condition_nodes counts ls
 
 -- the sizes of a formula
-abbrev pub AreSizesOf : Sizes → List ℕ → FormTree → Type 0
-AreSizesOf s counts p = AreSizes s (instance_nodes counts (normal true p)) (instance_nodes counts (normal false p))
+abbrev pub AreSizesOf : List ℕ → FormTree → SignedCount → Type 0
+AreSizesOf counts p s = AreSigned s (instance_nodes counts (normal true p)) (instance_nodes counts (normal false p))
 
 -- the sizes of some formulas together
-abbrev pub AreSizesOfAll : Sizes → List ℕ → FormTrees → Type 0
-AreSizesOfAll s counts ps = AreSizes s (all_instance_nodes counts (normals true ps))
+abbrev pub AreSizesOfAll : List ℕ → FormTrees → SignedCount → Type 0
+AreSizesOfAll counts ps s = AreSigned s (all_instance_nodes counts (normals true ps))
     (all_instance_nodes counts (normals false ps))
 
 -- these leaves, counted
-abbrev pub AreLeavesOf : {A : Type 0} → Leaves → List ℕ → List (Leaf A) → Type 0
-AreLeavesOf l counts ls = AreLeaves l (length ls) (condition_nodes counts ls)
+abbrev pub AreLeavesOf : {A : Type 0} → List ℕ → List (Leaf A) → LeafCount → Type 0
+AreLeavesOf counts ls l = AreLeaves l (length ls) (condition_nodes counts ls)
 
 -- an Or over the leaves of an And of the conditions and a literal; a literal without `ite` stays
 abbrev pub literal_nodes : ℕ → ℕ → ℕ

@@ -4,3 +4,4 @@ pub mod Sizes
 pub mod Laws
 pub mod Walks
 pub mod Leaves
+pub mod Existentials

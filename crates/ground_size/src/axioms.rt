@@ -1,16 +1,30 @@
 // How many axioms of equality there are over so many ground terms.
-ghost use Rattle.std.specs.Prelude.{◌≡◌, ◌+◌, ◌*◌, slice_index};
+ghost use Rattle.std.specs.Prelude.{◌≡◌, List, ℕ, true, map, slice_index};
 ghost use Rattle.fol_sig.specs.Symbols.{symbols};
 ghost use Rattle.fol_sig.specs.Tables.{numbers};
+ghost use Rattle.fol_formula.specs.Syntax.{FormTree};
 ghost use Rattle.fol_formula.specs.Counts.{saturated};
+ghost use Rattle.fol_nnf.specs.Normal.{normal};
 ghost use Rattle.ground_terms.specs.TermCounts.{sum_below};
 ghost use Rattle.ground_size.specs.Sizes.{equivalence_axioms, congruence_axioms, axiom_count};
+ghost use Rattle.ground_size.specs.Sizes.{instance_nodes, size_of};
 
+use crate::Counts;
 use crate::counts::{count_of, tuples};
 use fol_sig::{FunId, RelId, Signature, Sort};
 
-/// How many axioms of equality there are.
-pub(crate) fn axioms(signature: &Signature, counts: &[u64]) -> u64
+/// The size of a sentence's ground formulas, where its instance has so many nodes: with the axioms of equality. A size
+/// that 64 bits do not hold is the greatest that they hold.
+pub fn with_axioms(signature: &Signature, counts: &Counts, nodes: u64) -> u64
+    ensures { (terms : List ℕ) (p : FormTree) → counts.now ≡ map saturated terms
+        → nodes ≡ saturated (instance_nodes counts.now (normal true p))
+        → result ≡ saturated (size_of signature.now terms p) }
+{
+    nodes.saturating_add(axioms(signature, &counts.terms))
+}
+
+// How many axioms of equality there are.
+fn axioms(signature: &Signature, counts: &[u64]) -> u64
     ensures { result ≡ saturated (axiom_count (symbols signature.now) counts.now) }
 {
     let congruence = axioms_of_relations(signature, counts).saturating_add(axioms_of_functions(

@@ -2,11 +2,14 @@
 ghost use Rattle.std.specs.Prelude.{◌≡◌, ◌+◌, ◌<◌, [], length, map, replicate, sum_by, All, IfOk};
 ghost use Rattle.fol_sig.specs.Symbols.{symbols};
 ghost use Rattle.fol_sig.specs.Strata.{IsStrata};
+ghost use Rattle.fol_formula.specs.Syntax.{FormTree};
 ghost use Rattle.fol_formula.specs.Counts.{saturated};
 ghost use Rattle.fol_formula.specs.Fits.{FitsForm};
+ghost use Rattle.fol_formula.specs.Fragments.{IsEa};
 ghost use Rattle.ground_terms.specs.TermCounts.{or_one};
 ghost use Rattle.ground_size.specs.Counting.{AreCounted};
-ghost use Rattle.ground_size.specs.Walks.{raised, capped_counts, own_count};
+ghost use Rattle.ground_size.specs.Existentials.{AreConstants};
+ghost use Rattle.ground_size.specs.Walks.{capped_counts, own_count};
 
 use crate::counts::{Counts, count_of, set_count, tuples};
 use crate::existentials::add_existentials;
@@ -23,18 +26,34 @@ pub fn count(alloc: Global, signature: &Signature, strata: &Strata, sentence: &E
     requires fits { FitsForm (symbols signature.now) [] sentence.now }
     ensures { IfOk result (AreCounted signature.now sentence.now) }
 {
+    let mut constants = vec![in alloc; 0u64; signature.sorts() as usize]?;
+    add_existentials(&mut constants, sentence.sentence().formula(), 1, 0);
+    let counts = count_with(alloc, signature, strata, &constants)?;
+    Ok(counts)
+}
+
+/// Counts the ground terms of the signature with so many constants of each sort besides, which are those of each
+/// sentence that has as many existentials in normal form. An error is want of memory: a number is kept for each sort.
+pub fn count_with(
+    alloc: Global,
+    signature: &Signature,
+    strata: &Strata,
+    constants: &[u64],
+) -> Mem<Counts>
+    requires { IsStrata (symbols signature.now) strata.now }
+    ensures { IfOk result (λ counts. (p : FormTree) → IsEa p → FitsForm (symbols signature.now) [] p
+        → AreConstants signature.now.sorts p constants.now → AreCounted signature.now p counts) }
+{
     fol_sig::growth_laws();
     fol_nnf::exactness();
     skolem::exactness();
     skolem::witnesses();
-    let mut constants = vec![in alloc; 0u64; signature.sorts() as usize]?;
-    add_existentials(&mut constants, sentence.sentence().formula(), 1, 0);
-    let terms = counts_along(alloc, signature, strata, &constants)?;
+    let terms = counts_along(alloc, signature, strata, constants)?;
     Ok(Counts { terms })
 }
 
-/// The terms of each sort from those of the sorts before it.
-pub(crate) fn counts_along(
+// The terms of each sort from those of the sorts before it.
+fn counts_along(
     alloc: Global,
     signature: &Signature,
     strata: &Strata,

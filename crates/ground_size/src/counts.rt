@@ -1,5 +1,5 @@
 // How many ground terms each sort has, in 64 bits.
-ghost use Rattle.std.specs.Prelude.{◌≡◌, ◌+◌, List, ℕ, map, replicate, sum, slice_index, slice_set, IfOk};
+ghost use Rattle.std.specs.Prelude.{◌≡◌, List, ℕ, map, replicate, sum, slice_index, slice_set, IfOk};
 ghost use Rattle.fol_sig.specs.Tables.{tuple_count, numbers};
 ghost use Rattle.fol_formula.specs.Counts.{saturated};
 
@@ -31,6 +31,13 @@ impl Counts {
         Ok(Counts {
             terms: vec![in alloc; 1u64; signature.sorts() as usize]?,
         })
+    }
+
+    /// How many terms a sort has; a sort that there is not has none.
+    pub fn of_sort(&self, sort: Sort) -> u64
+        ensures { result ≡ slice_index self.now sort.0 }
+    {
+        count_of(&self.terms, sort)
     }
 
     /// How many ground terms there are in all, counted like each.

@@ -6,11 +6,16 @@ mod counting;
 mod counts;
 mod existentials;
 mod laws;
+mod leaves;
 mod parts;
+mod signed;
 mod sizes;
 
-pub use counting::count;
+pub use axioms::with_axioms;
+pub use counting::{count, count_with};
 pub use counts::Counts;
-pub use laws::size_laws;
+pub use laws::{existential_laws, size_laws};
+pub use leaves::LeafCount;
 pub use parts::{Part, count_parts, ground_size_of_parts};
+pub use signed::SignedCount;
 pub use sizes::ground_size;

@@ -13,8 +13,8 @@ ghost use Rattle.ground_size.specs.Sizes.{all_instance_nodes, size_of};
 ghost use Rattle.ground_size.specs.Walks.{all_raised};
 
 use crate::Counts;
-use crate::axioms::axioms;
-use crate::counting::counts_along;
+use crate::axioms::with_axioms;
+use crate::counting::count_with;
 use crate::existentials::add_existentials;
 use crate::sizes::sizes_of;
 use base::Mem;
@@ -46,14 +46,10 @@ pub fn count_parts(
     requires fits { FitsForm (symbols signature.now) [] (and_of parts.now) }
     ensures { IfOk result (AreCounted signature.now (and_of parts.now)) }
 {
-    fol_sig::growth_laws();
-    fol_nnf::exactness();
-    skolem::exactness();
-    skolem::witnesses();
     let mut constants = vec![in alloc; 0u64; signature.sorts() as usize]?;
     add_existentials_of_parts(&mut constants, parts);
-    let terms = counts_along(alloc, signature, strata, &constants)?;
-    Ok(Counts { terms })
+    let counts = count_with(alloc, signature, strata, &constants)?;
+    Ok(counts)
 }
 
 fn add_existentials_of_parts(counts: &mut [u64], parts: &[Part])
@@ -87,18 +83,12 @@ pub fn ground_size_of_parts(signature: &Signature, counts: &Counts, parts: &[Par
     ensures { (terms : List ℕ) → counts.now ≡ map saturated terms
         → result ≡ saturated (size_of signature.now terms (and_of parts.now)) }
 {
-    size_of_parts(signature, &counts.terms, parts)
-}
-
-fn size_of_parts(signature: &Signature, counts: &[u64], parts: &[Part]) -> u64
-    ensures { result ≡ saturated (size_of signature.now counts.now (and_of parts.now)) }
-{
-    let instance = nodes_of_parts(counts, parts).saturating_add(1);
-    instance.saturating_add(axioms(signature, counts))
+    let nodes = nodes_of_parts(counts, parts).saturating_add(1);
+    with_axioms(signature, counts, nodes)
 }
 
 // The nodes of the instances of the parts' normal forms.
-fn nodes_of_parts(counts: &[u64], parts: &[Part]) -> u64
+fn nodes_of_parts(counts: &Counts, parts: &[Part]) -> u64
     ensures { result ≡ saturated (all_instance_nodes counts.now (normals true (forms_of (parts_of parts.now)))) }
 {
     let mut nodes = 0u64;
@@ -108,7 +98,7 @@ fn nodes_of_parts(counts: &[u64], parts: &[Part]) -> u64
     nodes
 }
 
-fn nodes_of_part(counts: &[u64], part: &Part) -> u64
+fn nodes_of_part(counts: &Counts, part: &Part) -> u64
     ensures { result ≡ saturated (all_instance_nodes counts.now (normals true (forms_of (forms_at part.now)))) }
 {
     match part {
@@ -118,7 +108,7 @@ fn nodes_of_part(counts: &[u64], part: &Part) -> u64
     }
 }
 
-fn nodes_of_each(counts: &[u64], sentences: &[Sentence]) -> u64
+fn nodes_of_each(counts: &Counts, sentences: &[Sentence]) -> u64
     ensures { result ≡ saturated (all_instance_nodes counts.now (normals true (forms_of sentences.now))) }
 {
     let mut nodes = 0u64;
