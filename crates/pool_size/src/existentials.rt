@@ -4,13 +4,15 @@ ghost use Rattle.std.specs.Prelude.{◌≡◌, ◌<◌, ◌==◌, if◌then◌el
 ghost use Rattle.fol_formula.specs.Counts.{saturated};
 ghost use Rattle.fol_pool.specs.Trees.{HasForm, HasForms, form_at, forms_at, tree_at};
 ghost use Rattle.fol_pool.specs.Shapes.{tree_of, IsOver, PartsAreBelow};
-ghost use Rattle.pool_size.specs.Counted.{AreSigned, AreRight};
-ghost use Rattle.pool_size.specs.Existentials.{some, some_of_all, AreSome, AreConstants};
+ghost use Rattle.ground_size.specs.Leaves.{AreSigned};
+ghost use Rattle.ground_size.specs.Existentials.{some, some_of_all, AreConstants};
+ghost use Rattle.pool_size.specs.Counted.{AreRight};
+ghost use Rattle.pool_size.specs.Existentials.{AreSome};
 
-use crate::signed::SignedCount;
 use base::Mem;
 use fol_pool::{Node, Pool, Shape};
 use fol_sig::{Signature, Sort};
+use ground_size::SignedCount;
 use std::alloc::Global;
 
 // How many existentials of each sort of the signature the normal form of the sentence has.
@@ -58,6 +60,7 @@ fn found_in(pool: &Pool, table: &[SignedCount], sort: Sort, shape: Shape) -> Sig
     requires right { AreRight (AreSome sort.0) pool.now table.now }
     ensures { AreSome sort.0 (tree_of pool.now shape) result }
 {
+    ground_size::existential_laws();
     match shape {
         Shape::Not(p) => of_form(pool, table, sort, p).opposite(),
         Shape::And(ps) => of_row(pool, table, sort, ps),

@@ -3,14 +3,9 @@
 //! said by `ground_size`, of trees.
 #![tactic(auto)]
 
-mod axioms;
-mod counting;
-mod counts;
 mod existentials;
 mod instance;
-mod leaves;
 mod measure;
-mod signed;
 mod size;
 
 pub use size::{GroundSize, ground_size};

@@ -1,6 +1,5 @@
 // What is counted at a node.
-use crate::leaves::LeafCount;
-use crate::signed::SignedCount;
+use ground_size::{LeafCount, SignedCount};
 
 // Of a formula or a row of formulas the sizes, and of a term or a row of terms the leaves.
 #[derive(Clone, Copy)]

@@ -1,5 +1,5 @@
 // All together.
-ghost use Rattle.std.specs.Prelude.{◌≡◌, ◌<◌, [], length, IfOk};
+ghost use Rattle.std.specs.Prelude.{[], IfOk};
 ghost use Rattle.fol_sig.specs.Symbols.{symbols};
 ghost use Rattle.fol_sig.specs.Strata.{IsStrata};
 ghost use Rattle.fol_formula.specs.Fits.{FitsForm};
@@ -7,9 +7,6 @@ ghost use Rattle.fol_formula.specs.Fragments.{IsEa};
 ghost use Rattle.fol_pool.specs.Trees.{HasForm, form_at};
 ghost use Rattle.pool_size.specs.Sizes.{IsGroundSize};
 
-use crate::axioms::axioms;
-use crate::counting::term_counts;
-use crate::counts::total;
 use crate::existentials::constants;
 use crate::instance::instance_nodes;
 use base::Mem;
@@ -42,15 +39,11 @@ pub fn ground_size(
     requires fits { FitsForm (symbols signature.now) [] (form_at pool.now sentence.0) }
     ensures { IfOk result (IsGroundSize signature.now (form_at pool.now sentence.0)) }
 {
-    fol_sig::growth_laws();
-    fol_nnf::exactness();
-    skolem::exactness();
-    skolem::witnesses();
     let constants = constants(alloc, signature, pool, sentence)?;
-    let counts = term_counts(alloc, signature, strata, &constants)?;
+    let counts = ground_size::count_with(alloc, signature, strata, &constants)?;
     let nodes = instance_nodes(alloc, pool, &counts, sentence)?;
     Ok(GroundSize {
-        terms: total(&counts),
-        size: nodes.saturating_add(axioms(signature, &counts)),
+        terms: counts.total(),
+        size: ground_size::with_axioms(signature, &counts, nodes),
     })
 }
