@@ -14,7 +14,7 @@ ghost use Rattle.fol_nnf.specs.Laws.{KeepsMeaning, Negates};
 
 use base::Mem;
 use fol_formula::{Ae, Ea, Formula, Normal, Sentence};
-pub use laws::exactness;
+pub use laws::{exactness, plainness};
 use std::alloc::Global;
 use walk::normal_formula;
 
