@@ -27,7 +27,7 @@ module _ (old new : List Tree) (grows : Grows old new) where
         (stays_at old new grows node.0 (normal_tree s.positive (tree_at old s.node.0)) h.1),
   )
 
-  pub right_stays : (es : List (Signed × Node)) → AreRight old es → AreRight new es
+  right_stays : (es : List (Signed × Node)) → AreRight old es → AreRight new es
   right_stays [] h = tt
   right_stays (e ∷ es) h = (normal_stays e.0 e.1 h.0, right_stays es h.1)
 
@@ -94,13 +94,18 @@ module _ (ts : List Tree) where
 abbrev pub node_equal : Node → Node → Bool
 node_equal a b = a.0 == b.0
 
-pub plain_stay : (old new : List Tree) → Grows old new → (ns : List Node) → ArePlain old ns → ArePlain new ns
+plain_stay : (old new : List Tree) → Grows old new → (ns : List Node) → ArePlain old ns → ArePlain new ns
 plain_stay old new grows [] h = tt
 plain_stay old new grows (n ∷ ns) h = (
   below old new grows n.0 h.0,
   subst IsIteFree (sym (read_stays old new grows as_term n.0 h.0)) h.1,
   plain_stay old new grows ns h.2,
 )
+
+-- what is kept beside the pool
+pub kept_stays : (old new : List Tree) → Grows old new → (es : List (Signed × Node)) (ns : List Node)
+    → AreRight old es × ArePlain old ns → AreRight new es × ArePlain new ns
+kept_stays old new grows es ns h = (right_stays old new grows es h.0, plain_stay old new grows ns h.1)
 
 module _ (ts : List Tree) where
   -- a term that is found is plain

@@ -2,4 +2,3 @@ mod Entries
 mod Rows
 mod Joining
 mod Walking
-mod PlainAtoms

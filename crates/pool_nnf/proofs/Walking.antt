@@ -1,19 +1,19 @@
 -- What a walk makes of the parts of a node, one after the other, is what is made of the node.
-use Rattle.std.proofs.Common.{◌≡◌, ℕ, ◌<◌, Bool, true, false, List, [], ◌∷◌, ◌++◌, length, map, sym, ap, subst}
-use Rattle.std.proofs.Common.{◌∙◌, arith}
+use Rattle.std.proofs.Common.{◌≡◌, ℕ, ◌<◌, Bool, true, false, List, [], ◌∷◌, ◌++◌, map, sym, ap, subst}
+use Rattle.std.proofs.Common.{◌∙◌}
 use Rattle.std.specs.Prelude.{not}
 use Rattle.fol_formula.specs.NormalForms.{both}
-use Rattle.fol_formula.specs.Syntax.{FormTree, FormTrees, TermTree, TermTrees, ite, term_then, equal, form_then}
+use Rattle.fol_formula.specs.Syntax.{FormTree, FormTrees, TermTree, TermTrees, ite, term_then, equal}
 use Rattle.fol_formula.specs.Syntax.{forms_then, forms_of, disjunction, equivalence}
 use Rattle.fol_nnf.specs.Normal.{Leaf as LeafOf, given, made, joined, normal, normals, leaves, leaves_of_terms}
 use Rattle.fol_nnf.specs.Normal.{one_of, equal_literal, two}
-use Rattle.fol_pool.specs.Trees.{Tree, IsAt, Grows, a_form, some_forms, tree_at, as_formula, as_formulas, as_term}
+use Rattle.fol_pool.specs.Trees.{Tree, IsAt, Grows, a_form, tree_at, as_formula, as_term}
 use Rattle.fol_pool.specs.Trees.{as_terms, form_at, forms_at, term_at, terms_at, HasForm, HasForms, HasTerm, HasTerms}
 use Rattle.fol_pool.specs.Shapes.{tree_of}
 use Rattle.fol_pool.specs.declared.shape.Node.{Node}
 use Rattle.fol_pool.specs.declared.shape.Shape.{Shape}
 use Rattle.fol_pool.specs.declared.shape.Shape.TheVariants as shape
-use Rattle.fol_pool.specs.Growing.{tree_stays as stays, stays_at, read_stays, grows_on}
+use Rattle.fol_pool.specs.Growing.{stays_at, read_stays, grows_on}
 use Rattle.fol_pool.specs.Rows.{AreForms, formulas, forms_stay, forms_push, then_push, row_front, row_end}
 use Rattle.fol_pool.specs.Rows.{lent_formulas}
 

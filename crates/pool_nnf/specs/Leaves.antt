@@ -3,7 +3,7 @@ use Rattle.std.specs.Prelude.{List, map}
 use Rattle.std.specs.List.{AllZip}
 use Rattle.fol_formula.specs.Syntax.{FormTree, TermTree, TermTrees, forms_of, list_of_forms}
 use Rattle.fol_nnf.specs.Normal.{Leaf as LeafOf}
-use Rattle.fol_pool.specs.Trees.{Tree, a_form, some_forms, a_term, some_terms, IsAt, tree_at, form_at, forms_at}
+use Rattle.fol_pool.specs.Trees.{Tree, a_form, some_forms, a_term, some_terms, IsAt, tree_at, forms_at}
 use Rattle.fol_pool.specs.Trees.{as_formula, as_term, as_terms}
 use Rattle.pool_nnf.specs.declared.leaf.Leaf.{Leaf}
 

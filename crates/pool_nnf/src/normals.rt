@@ -3,9 +3,11 @@
 // The entries are behind the view: a caller sees the trees of the nodes alone, and that each entry is right holds of
 // every value.
 ghost use Rattle.std.specs.Prelude.{◌≡◌, ◌<◌, length, IfOk, IfSome, IsTrue};
+ghost use Rattle.fol_formula.specs.Syntax.{forms_of};
 ghost use Rattle.fol_formula.specs.Fragments.{IsIteFree};
-ghost use Rattle.fol_pool.specs.Trees.{IsAt, Grows, tree_at, term_at};
+ghost use Rattle.fol_pool.specs.Trees.{IsAt, Grows, some_forms, tree_at, term_at};
 ghost use Rattle.fol_pool.specs.Shapes.{tree_of, IsOver, PartsAreBelow};
+ghost use Rattle.fol_pool.specs.Rows.{AreForms, formulas};
 ghost use Rattle.pool_nnf.specs.Normals.{normal_tree};
 
 use crate::signed::Signed;
@@ -76,6 +78,17 @@ impl Normals {
         ensures grows { Grows self.old self.new }
     {
         let node = self.pool.add(shape)?;
+        Ok(node)
+    }
+
+    /// The node of the row of these formulas. Err: out of memory, and each node that was there is as before.
+    pub fn row_of(&mut self, parts: &[Node]) -> Mem<Node>
+        requires { AreForms self.old parts.now (formulas self.old parts.now) }
+        ensures node { IfOk result
+            (λ node. IsAt self.new node.0 (some_forms (forms_of (formulas self.old parts.now)))) }
+        ensures grows { Grows self.old self.new }
+    {
+        let node = self.pool.row_of(parts)?;
         Ok(node)
     }
 

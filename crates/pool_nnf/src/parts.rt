@@ -6,7 +6,6 @@ ghost use Rattle.fol_formula.specs.NormalForms.{both};
 ghost use Rattle.fol_nnf.specs.Normal.{constant, gathered, quantified, literal, relation_literal, equal_literal, two};
 ghost use Rattle.fol_pool.specs.Trees.{IsAt, Grows, HasForm, HasForms, HasTerm, HasTerms, a_form, some_forms, form_at};
 ghost use Rattle.fol_pool.specs.Trees.{forms_at, term_at, terms_at};
-ghost use Rattle.fol_pool.specs.Rows.{AreForms, formulas};
 
 use crate::normals::Normals;
 use base::Mem;
@@ -137,20 +136,6 @@ impl Normals {
         let second = self.gathered_two(true, r, s)?;
         let node = self.gathered_two(false, first, second)?;
         Ok(node)
-    }
-
-    /// The row of these formulas, from the last on.
-    pub fn row_of(&mut self, parts: &[Node]) -> Mem<Node>
-        requires { AreForms self.old parts.now (formulas self.old parts.now) }
-        ensures node { IfOk result
-            (λ node. IsAt self.new node.0 (some_forms (forms_of (formulas self.old parts.now)))) }
-        ensures grows { Grows self.old self.new }
-    {
-        let mut row = self.add(Shape::NoForms)?;
-        for i in (0..parts.len()).rev() {
-            row = self.add(Shape::FormThen(parts[i], row))?;
-        }
-        Ok(row)
     }
 
     /// One row before another. The first is walked by calls, and is as long as `Ite` is nested.

@@ -87,7 +87,6 @@ impl Normals {
     }
 
     /// The normal form of an atom without `Ite`, or of its negation.
-    #[tactic(auto, using(crate::proofs::PlainAtoms::plain_stays))]
     pub fn plain_literal(&mut self, positive: bool, atom: Node) -> Mem<Node>
         requires form { HasForm self.old atom.0 }
         requires atom { IsAtom (form_at self.old atom.0) }
@@ -96,6 +95,7 @@ impl Normals {
             (λ node. IsAt self.new node.0 (a_form (normal positive (form_at self.old atom.0)))) }
         ensures grows { Grows self.old self.new }
     {
+        fol_nnf::plainness();
         let node = self.literal(positive, atom)?;
         Ok(node)
     }
@@ -107,6 +107,7 @@ impl Normals {
         ensures leaves { IfOk result (λ ls. AreLeaves a_term self.new ls.items (leaves (term_at self.old at.0))) }
         ensures grows { Grows self.old self.new }
     {
+        fol_nnf::plainness();
         let all = self.bare(alloc, at)?;
         Ok(all)
     }
