@@ -4,7 +4,7 @@ ghost use Rattle.fol_sig.specs.Symbols.{symbols};
 ghost use Rattle.fol_sig.specs.Strata.{IsStrata};
 ghost use Rattle.fol_formula.specs.Fits.{FitsForm};
 ghost use Rattle.fol_formula.specs.Fragments.{IsNormalForm};
-ghost use Rattle.ground_terms.specs.Terms.{AreClosed};
+ghost use Rattle.ground_terms.specs.Universe.{symbols_in};
 ghost use Rattle.ground_size.specs.Counting.{skolem_signature};
 ghost use Rattle.ea_decide.specs.GroundForm.{skolem_sentence};
 ghost use Rattle.ea_decide.specs.Passing.{ceilings, Passes};
@@ -17,11 +17,10 @@ use crate::measuring::measure;
 use crate::searching::{Searched, search};
 use crate::steps::{model_law, refutation_law, room_law, strata_law};
 use base::Mem;
-use fol_formula::Ea;
+use fol_formula::{Ea, Universal};
 use fol_sig::{Signature, Strata};
-use ground_terms::Terms;
+use ground_terms::{Herbrand, Terms};
 use lrat_log::Limits;
-use skolem::Skolemised;
 use std::alloc::Global;
 use structure_back::read;
 
@@ -77,38 +76,49 @@ fn decide_within(
     prepare(signature, strata, sentence, limits);
     let made = skolemise(alloc, signature, sentence)?;
     let terms = Terms::new(alloc, &made.signature, strata)?;
-    let decided = decide_over(alloc, signature, strata, sentence, &made, &terms, limits)?;
+    let universe = Herbrand {
+        signature: &made.signature,
+        terms: &terms,
+    };
+    let decided = decide_over(
+        alloc,
+        signature,
+        strata,
+        sentence,
+        &made.sentence,
+        &universe,
+        limits,
+    )?;
     Ok(decided)
 }
 
-// Decides a sentence, given its form with constants and the ground terms.
+// Decides a sentence, given its form with constants, and the signature with these and its ground terms.
 fn decide_over(
     alloc: Global,
     signature: &Signature,
     strata: &Strata,
     sentence: &Ea,
-    made: &Skolemised,
-    terms: &Terms,
+    form: &Universal,
+    universe: &Herbrand,
     limits: &Limits,
 ) -> Mem<Decided>
     requires groundable { IsGroundable signature.now sentence.now strata.now }
     requires room { HasRoom signature.now sentence.now }
-    requires signature { made.now.signature ≡ skolem_signature signature.now sentence.now }
-    requires form { made.now.sentence ≡ skolem_sentence signature.now sentence.now }
-    requires fits { FitsForm (symbols made.now.signature) [] made.now.sentence }
-    requires normal { IsNormalForm made.now.sentence }
-    requires closed { AreClosed (symbols made.now.signature) terms.now }
+    requires signature { universe.now.signature.now ≡ skolem_signature signature.now sentence.now }
+    requires form { form.now ≡ skolem_sentence signature.now sentence.now }
+    requires fits { FitsForm (symbols_in universe.now) [] form.now }
+    requires normal { IsNormalForm form.now }
     ensures { IfOk result (IsSearchedFor (ceilings limits.now) signature.now sentence.now) }
 {
     refutation_law();
     model_law();
-    let (cnf, atoms) = clauses(alloc, &made.signature, terms, &made.sentence)?;
+    let (cnf, atoms) = clauses(alloc, universe, form)?;
     match search(alloc, cnf, limits.conflicts)? {
         Searched::Refuted(proof) => Ok(Decided::Refuted(proof)),
         Searched::Spent => Ok(Decided::Over(Passed::Conflicts(limits.conflicts))),
         Searched::Satisfied(values) => {
             let assignment = atoms.assign(alloc, &values)?;
-            let structure = read(alloc, &made.signature, terms, &assignment)?;
+            let structure = read(alloc, universe, &assignment)?;
             Ok(Decided::Satisfied(structure))
         }
     }

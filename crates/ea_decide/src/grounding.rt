@@ -6,7 +6,7 @@ ghost use Rattle.fol_formula.specs.Fragments.{IsNormalForm};
 ghost use Rattle.fol_nnf.specs.Normal.{normal};
 ghost use Rattle.skolem.specs.Constants.{new_sorts};
 ghost use Rattle.skolem.specs.Laws.{IsSkolemised, IsNormalUniversal};
-ghost use Rattle.ground_terms.specs.Terms.{AreClosed};
+ghost use Rattle.ground_terms.specs.Universe.{symbols_in};
 ghost use Rattle.ground_terms.specs.Trees.{trees_of};
 ghost use Rattle.ground_terms.specs.Calls.{calls_of_all};
 ghost use Rattle.clause_form.specs.Clauses.{clause_form};
@@ -23,7 +23,7 @@ use fol_formula::{Ea, Universal};
 use fol_nnf::normal;
 use fol_sig::Signature;
 use ground_expand::expand_into;
-use ground_terms::Terms;
+use ground_terms::Herbrand;
 use skolem::{Skolemised, constants};
 use std::alloc::Global;
 
@@ -41,26 +41,21 @@ pub fn skolemise(alloc: Global, signature: &Signature, sentence: &Ea) -> Mem<Sko
     Ok(made)
 }
 
-/// The clauses of the instance of a universal sentence and of the axioms of equality, over closed lists of terms. No
+/// The clauses of the instance of a universal sentence and of the axioms of equality, over all ground terms. No
 /// ground formula is kept: each is written out as it is made.
-pub fn clauses(
-    alloc: Global,
-    signature: &Signature,
-    terms: &Terms,
-    sentence: &Universal,
-) -> Mem<(Cnf, AtomMap)>
-    requires closed { AreClosed (symbols signature.now) terms.now }
-    requires fits { FitsForm (symbols signature.now) [] sentence.now }
+pub fn clauses(alloc: Global, universe: &Herbrand, sentence: &Universal) -> Mem<(Cnf, AtomMap)>
+    requires fits { FitsForm (symbols_in universe.now) [] sentence.now }
     requires normal { IsNormalForm sentence.now }
-    requires few { (clause_form (trees_of (formulas_over signature.now sentence.now terms.now))).variables ≤
-        2147483647 }
+    requires few { (clause_form
+        (trees_of (formulas_over universe.now.signature.now sentence.now universe.now.terms.now))).variables
+        ≤ 2147483647 }
     ensures cnf { IfOk result (λ made. made.0
-        ≡ clause_form (trees_of (formulas_over signature.now sentence.now terms.now))) }
+        ≡ clause_form (trees_of (formulas_over universe.now.signature.now sentence.now universe.now.terms.now))) }
     ensures atoms { IfOk result (λ made. made.1
-        ≡ atoms_of (trees_of (formulas_over signature.now sentence.now terms.now))) }
+        ≡ atoms_of (trees_of (formulas_over universe.now.signature.now sentence.now universe.now.terms.now))) }
 {
-    let mut clauser = Clauser::new(alloc, signature, terms.counts())?;
-    write_all(alloc, signature, terms, sentence, &mut clauser)?;
+    let mut clauser = Clauser::new(alloc, universe.signature, universe.terms.counts())?;
+    write_all(alloc, universe, sentence, &mut clauser)?;
     let made = clauser.finish()?;
     Ok(made)
 }
@@ -68,18 +63,16 @@ pub fn clauses(
 // The instance, and behind it the axioms.
 fn write_all(
     alloc: Global,
-    signature: &Signature,
-    terms: &Terms,
+    universe: &Herbrand,
     sentence: &Universal,
     clauser: &mut Clauser,
 ) -> Mem<()>
-    requires closed { AreClosed (symbols signature.now) terms.now }
-    requires fits { FitsForm (symbols signature.now) [] sentence.now }
+    requires fits { FitsForm (symbols_in universe.now) [] sentence.now }
     requires normal { IsNormalForm sentence.now }
-    ensures { OnOk result (Stands clauser.old []
-        → Stands clauser.new (calls_of_all (trees_of (formulas_over signature.now sentence.now terms.now)))) }
+    ensures { OnOk result (Stands clauser.old [] → Stands clauser.new
+        (calls_of_all (trees_of (formulas_over universe.now.signature.now sentence.now universe.now.terms.now)))) }
 {
-    expand_into(alloc, signature, terms, sentence, clauser)?;
-    axioms_into(alloc, signature, terms, clauser)?;
+    expand_into(alloc, universe, sentence, clauser)?;
+    axioms_into(alloc, universe, clauser)?;
     Ok(())
 }

@@ -16,7 +16,7 @@ use base::Mem;
 use cnf_base::Cnf;
 use fol_formula::Ea;
 use fol_sig::{Signature, Strata};
-use ground_terms::Terms;
+use ground_terms::{Herbrand, Terms};
 use lrat_log::Limits;
 use std::alloc::Global;
 
@@ -57,7 +57,11 @@ fn write(
     prepare(signature, strata, sentence, limits);
     let made = skolemise(alloc, signature, sentence)?;
     let terms = Terms::new(alloc, &made.signature, strata)?;
-    let (cnf, _) = clauses(alloc, &made.signature, &terms, &made.sentence)?;
+    let universe = Herbrand {
+        signature: &made.signature,
+        terms: &terms,
+    };
+    let (cnf, _) = clauses(alloc, &universe, &made.sentence)?;
     let _clauses = cnf.clauses();
     Ok(cnf)
 }

@@ -85,21 +85,33 @@ impl Terms {
     {
         &self.lists[sort.0 as usize]
     }
+}
 
+/// A signature and its ground terms, of each sort all: its Herbrand universe.
+#[derive(Clone, Copy)]
+pub struct Herbrand<'a> {
+    pub signature: &'a Signature,
+    pub terms: &'a Terms,
+    ghost closed: { AreClosed (symbols signature.now) terms.now },
+}
+
+impl<'a> Herbrand<'a> {
     /// The place of a function's application to terms, in the list of the function's sort.
-    pub fn place(&self, signature: &Signature, function: FunId, arguments: &[u32]) -> u32
-        requires closed { AreClosed (symbols signature.now) self.now }
-        requires known { function.0 < length signature.now.functions }
-        requires in_range { InRange (term_counts self.now) ((symbols signature.now).from_of function.0) arguments.now }
-        ensures value { result ≡ (numbering (symbols signature.now) self.now).place function.0 arguments.now }
-        ensures placed { IsPlaced (symbols signature.now) self.now function.0 arguments.now }
+    pub fn place(&self, function: FunId, arguments: &[u32]) -> u32
+        requires known { function.0 < length self.now.signature.now.functions }
+        requires in_range { InRange (term_counts self.now.terms.now)
+            ((symbols self.now.signature.now).from_of function.0) arguments.now }
+        ensures value { result
+            ≡ (numbering (symbols self.now.signature.now) self.now.terms.now).place function.0 arguments.now }
+        ensures placed { IsPlaced (symbols self.now.signature.now) self.now.terms.now function.0 arguments.now }
     {
         tuple_laws();
-        let _sorts = signature.sorts();
+        let _sorts = self.signature.sorts();
+        let terms = self.terms;
         place_in(
-            &self.counts,
-            &self.firsts,
-            signature.from_of(function),
+            &terms.counts,
+            &terms.firsts,
+            self.signature.from_of(function),
             function,
             arguments,
         )

@@ -1,8 +1,6 @@
 // A sentence's instance over its ground terms, and the axioms of equality over these.
 ghost use Rattle.std.specs.Prelude.{◌≡◌, IfOk, OnOk};
 ghost use Rattle.fol_formula.specs.View.{form};
-ghost use Rattle.fol_sig.specs.Symbols.{symbols};
-ghost use Rattle.ground_terms.specs.Terms.{AreClosed};
 ghost use Rattle.show_symbols.specs.Samples.{no_symbols, two_variables, alone, all_alone};
 
 use base::Mem;
@@ -10,7 +8,7 @@ use equality_axioms::axioms;
 use fol_formula::{Formula, Sentence, Term, Universal};
 use fol_sig::{RelId, Signature, Sort, Sorts, strata};
 use ground_expand::expand;
-use ground_terms::{Atom, Junction, SinkCall, Terms};
+use ground_terms::{Atom, Herbrand, Junction, SinkCall, Terms};
 use std::alloc::Global;
 use std::io;
 
@@ -107,17 +105,11 @@ fn tell_calls<R: Print>(rt: &R, alloc: Global, calls: &[SinkCall]) -> io::Result
     Ok(())
 }
 
-fn tell_instance<R: Print>(
-    rt: &R,
-    alloc: Global,
-    signature: &Signature,
-    terms: &Terms,
-) -> io::Result<()>
-    requires symbols { signature.now ≡ two_variables }
-    requires closed { AreClosed (symbols signature.now) terms.now }
+fn tell_instance<R: Print>(rt: &R, alloc: Global, universe: &Herbrand) -> io::Result<()>
+    requires { universe.now.signature.now ≡ two_variables }
 {
     let sentence = Universal::new(Sentence::of(sentence(alloc)?));
-    let instance = expand(alloc, signature, terms, &sentence);
+    let instance = expand(alloc, universe, &sentence);
     drop(sentence);
     let instance = instance?;
     let told = tell_calls(rt, alloc, &instance);
@@ -125,33 +117,20 @@ fn tell_instance<R: Print>(
     told
 }
 
-fn tell_axioms<R: Print>(
-    rt: &R,
-    alloc: Global,
-    signature: &Signature,
-    terms: &Terms,
-) -> io::Result<()>
-    requires { AreClosed (symbols signature.now) terms.now }
-{
-    let axioms = axioms(alloc, signature, terms)?;
+fn tell_axioms<R: Print>(rt: &R, alloc: Global, universe: &Herbrand) -> io::Result<()> {
+    let axioms = axioms(alloc, universe)?;
     let told = tell_calls(rt, alloc, &axioms);
     drop(axioms);
     told
 }
 
-fn tell_both<R: Print>(
-    rt: &R,
-    alloc: Global,
-    signature: &Signature,
-    terms: &Terms,
-) -> io::Result<()>
-    requires symbols { signature.now ≡ two_variables }
-    requires closed { AreClosed (symbols signature.now) terms.now }
+fn tell_both<R: Print>(rt: &R, alloc: Global, universe: &Herbrand) -> io::Result<()>
+    requires { universe.now.signature.now ≡ two_variables }
 {
     println!(rt; "Instance of: forall x. forall y. not r0(x) or x = y, over two constants")?;
-    tell_instance(rt, alloc, signature, terms)?;
+    tell_instance(rt, alloc, universe)?;
     println!(rt; "Axioms of equality:")?;
-    tell_axioms(rt, alloc, signature, terms)
+    tell_axioms(rt, alloc, universe)
 }
 
 // The signature has no function of arguments, so it has strata.
@@ -164,7 +143,11 @@ fn tell_over<R: Print>(rt: &R, alloc: Global, signature: &Signature) -> io::Resu
     let terms = Terms::new(alloc, signature, &strata);
     drop(strata);
     let terms = terms?;
-    let told = tell_both(rt, alloc, signature, &terms);
+    let universe = Herbrand {
+        signature,
+        terms: &terms,
+    };
+    let told = tell_both(rt, alloc, &universe);
     drop(terms);
     told
 }

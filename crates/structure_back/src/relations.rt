@@ -3,6 +3,7 @@ ghost use Rattle.std.specs.Prelude.{◌≡◌, ◌<◌, ◌≤◌, ◌↔◌, Is
 ghost use Rattle.fol_sig.specs.Symbols.{symbols, FitsStructure};
 ghost use Rattle.fol_sig.specs.Tables.{InRange, numbers, rel_at};
 ghost use Rattle.ground_terms.specs.Terms.{term_counts};
+ghost use Rattle.ground_terms.specs.Universe.{symbols_in};
 ghost use Rattle.ground_terms.specs.Same.{holds_in};
 ghost use Rattle.ground_terms.specs.Values.{elements_of};
 ghost use Rattle.ground_terms.specs.declared.atom.Atom.TheVariants.{Rel};
@@ -12,34 +13,39 @@ ghost use Rattle.structure_back.specs.Tables.{AreInClasses, SetsAtom, AreRelatio
 use crate::classes::TermClasses;
 use crate::per_sort::PerSort;
 use fol_sig::{RelId, Signature, Sort, Structure, Tuple, range_laws};
-use ground_terms::{Assignment, Atom, Terms, atom_laws};
+use ground_terms::{Assignment, Atom, Herbrand, atom_laws};
 use std::alloc::Global;
 
 /// Makes the relations true at the classes of the terms of each true atom. An atom that names a relation or a term
 /// that there is not is passed over.
 pub fn set_relations(
     alloc: Global,
-    signature: &Signature,
-    terms: &Terms,
+    universe: &Herbrand,
     assignment: &Assignment,
     classes: &TermClasses,
     structure: &mut Structure,
 )
-    requires sorts { length terms.now ≡ signature.now.sorts }
-    requires classes { AreInClasses (symbols signature.now)
-        (term_counts terms.now) classes.now.sizes.items classes.now.numbers }
-    requires fits { FitsStructure (symbols signature.now) structure.old }
+    requires classes { AreInClasses (symbols_in universe.now)
+        (term_counts universe.now.terms.now) classes.now.sizes.items classes.now.numbers }
+    requires fits { FitsStructure (symbols_in universe.now) structure.old }
     requires sizes { structure.old.sizes ≡ classes.now.sizes.items }
     requires blank { (r : ℕ) (xs : List ℕ) → rel_at structure.old r xs ≡ false }
-    ensures fits { FitsStructure (symbols signature.now) structure.new }
+    ensures fits { FitsStructure (symbols_in universe.now) structure.new }
     ensures sizes { structure.new.sizes ≡ classes.now.sizes.items }
-    ensures read { AreRelationsRead (symbols signature.now) (term_counts terms.now) (holds_in assignment.now)
-        (looked_up classes.now.numbers) structure.new }
+    ensures read { AreRelationsRead (symbols_in universe.now) (term_counts universe.now.terms.now)
+        (holds_in assignment.now) (looked_up classes.now.numbers) structure.new }
 {
     atom_laws();
-    let _sorts = signature.sorts();
+    let _sorts = universe.signature.sorts();
     for atom in assignment.as_slice() {
-        set_atom(alloc, signature, terms.counts(), atom, classes, structure);
+        set_atom(
+            alloc,
+            universe.signature,
+            universe.terms.counts(),
+            atom,
+            classes,
+            structure,
+        );
     }
 }
 

@@ -11,25 +11,25 @@ returns-in-Refuted c =
     let searched = subst (IsSearched cnf c.args.limits.now.conflicts) c.in-Refuted.is c.in_ok-proof.ensures in
     let sig = c.args.signature.now in
     let p = c.args.sentence.now in
-    let more = c.args.made.now.signature in
-    let q = c.args.made.now.sentence in (
-      no-model sig p more q c.requires.signature c.requires.form c.args.strata.now c.args.terms.now cnf
-          c.refutation_law.ensures c.requires.groundable c.requires.closed
+    let more = c.args.universe.now.signature.now in
+    let q = c.args.form.now in (
+      no-model sig p more q c.requires.signature c.requires.form c.args.strata.now c.args.universe.now.terms.now cnf
+          c.refutation_law.ensures c.requires.groundable c.args.universe.now.closed
           c.in_ok-cnf.ensures.cnf searched.1,
       subst (IsClauseForm sig p) (sym searched.0) (clause-form sig p more q c.requires.signature c.requires.form
-          c.args.terms.now cnf c.requires.closed c.in_ok-cnf.ensures.cnf),
+          c.args.universe.now.terms.now cnf c.args.universe.now.closed c.in_ok-cnf.ensures.cnf),
     )
 
-pub read-requires-clause-equality : goal.read-requires-clause-equality
-read-requires-clause-equality c =
+pub read-requires : goal.read-requires
+read-requires c =
     let cnf = c.in_ok-cnf.cnf in
     let model = subst (IsSearched cnf c.args.limits.now.conflicts) c.in-Satisfied.is c.in_ok-proof.ensures in
     let sig = c.args.signature.now in
     let p = c.args.sentence.now in
-    let more = c.args.made.now.signature in
-    let q = c.args.made.now.sentence in
-    equal sig p more q c.requires.signature c.requires.form c.args.strata.now c.args.terms.now cnf
-    c.in-Satisfied.values c.model_law.ensures c.requires.groundable c.requires.closed
+    let more = c.args.universe.now.signature.now in
+    let q = c.args.form.now in
+    equal sig p more q c.requires.signature c.requires.form c.args.strata.now c.args.universe.now.terms.now cnf
+    c.in-Satisfied.values c.model_law.ensures c.requires.groundable c.args.universe.now.closed
     c.in_ok-cnf.ensures.cnf model c.in_ok-assignment-in-Satisfied.assignment
     (c.in_ok-assignment-in-Satisfied.ensures ∙ ap (true_atoms c.in-Satisfied.values) c.in_ok-cnf.ensures.atoms)
 
@@ -39,10 +39,10 @@ returns c =
     let model = subst (IsSearched cnf c.args.limits.now.conflicts) c.in-Satisfied.is c.in_ok-proof.ensures in
     let sig = c.args.signature.now in
     let p = c.args.sentence.now in
-    let more = c.args.made.now.signature in
-    let q = c.args.made.now.sentence in
-    small sig p more q c.requires.signature c.requires.form c.args.strata.now c.args.terms.now cnf
-    c.in-Satisfied.values c.model_law.ensures c.requires.groundable c.requires.closed
+    let more = c.args.universe.now.signature.now in
+    let q = c.args.form.now in
+    small sig p more q c.requires.signature c.requires.form c.args.strata.now c.args.universe.now.terms.now cnf
+    c.in-Satisfied.values c.model_law.ensures c.requires.groundable c.args.universe.now.closed
     c.in_ok-cnf.ensures.cnf model c.in_ok-assignment-in-Satisfied.assignment
     c.in_ok-structure-in-Satisfied.structure c.requires.room
     (c.in_ok-assignment-in-Satisfied.ensures ∙ ap (true_atoms c.in-Satisfied.values) c.in_ok-cnf.ensures.atoms)

@@ -4,7 +4,7 @@ use Rattle.ea_decide.proofs.grounding.clauses.Goals as goal
 
 pub finish-requires : goal.finish-requires
 finish-requires c = (
-  trees_of (formulas_over c.args.signature.now c.args.sentence.now c.args.terms.now),
+  trees_of (formulas_over c.args.universe.now.signature.now c.args.sentence.now c.args.universe.now.terms.now),
   c.in_ok-write_all.ensures
       c.in_ok-clauser.ensures,
   c.requires.few,
@@ -12,10 +12,12 @@ finish-requires c = (
 
 pub returns-clause-cnf : goal.returns-clause-cnf
 returns-clause-cnf c =
-    (c.in_ok-made.ensures (trees_of (formulas_over c.args.signature.now c.args.sentence.now c.args.terms.now))
+    let sig = c.args.universe.now.signature.now in
+    (c.in_ok-made.ensures (trees_of (formulas_over sig c.args.sentence.now c.args.universe.now.terms.now))
     (c.in_ok-write_all.ensures c.in_ok-clauser.ensures) c.requires.few).0
 
 pub returns-clause-atoms : goal.returns-clause-atoms
 returns-clause-atoms c =
-    (c.in_ok-made.ensures (trees_of (formulas_over c.args.signature.now c.args.sentence.now c.args.terms.now))
+    let sig = c.args.universe.now.signature.now in
+    (c.in_ok-made.ensures (trees_of (formulas_over sig c.args.sentence.now c.args.universe.now.terms.now))
     (c.in_ok-write_all.ensures c.in_ok-clauser.ensures) c.requires.few).1

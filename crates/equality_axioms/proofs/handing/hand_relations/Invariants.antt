@@ -1,7 +1,6 @@
-use Rattle.fol_sig.specs.Symbols.{symbols}
 use Rattle.fol_sig.specs.Tuples.{join_below}
-use Rattle.ground_terms.specs.Numberings.{numbering}
 use Rattle.ground_terms.specs.Taking.{TakesAll, calls_of_each}
+use Rattle.ground_terms.specs.Universe.{symbols_in, names_in}
 use Rattle.equality_axioms.specs.Axioms.{relation_axioms}
 use Rattle.equality_axioms.proofs.handing.hand_relations.Given as goal
 
@@ -9,4 +8,4 @@ abbrev pub invariant-loop-r : goal.invariant-loop-r
 invariant-loop-r g l =
     TakesAll (g.S.GroundSink.stands l.fn.sink) (g.S.GroundSink.stands l.sink)
     (calls_of_each
-    (join_below l.r (relation_axioms (symbols l.signature) (numbering (symbols l.signature) l.terms))))
+    (join_below l.r (relation_axioms (symbols_in l.universe) (names_in l.universe))))

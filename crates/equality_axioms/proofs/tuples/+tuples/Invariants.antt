@@ -1,10 +1,9 @@
 use Rattle.std.proofs.Common.{◌+◌, ◌*◌, ◌∷◌, ◌++◌, length}
-use Rattle.fol_sig.specs.Symbols.{symbols}
 use Rattle.fol_sig.specs.Tables.{numbers}
 use Rattle.fol_sig.specs.Tuples.{join_below}
 use Rattle.ground_terms.specs.Terms.{term_counts}
-use Rattle.ground_terms.specs.Numberings.{numbering}
 use Rattle.ground_terms.specs.Taking.{TakesAll, calls_of_each}
+use Rattle.ground_terms.specs.Universe.{symbols_in, names_in}
 use Rattle.equality_axioms.specs.Axioms.{axioms_at, join_tuples}
 use Rattle.equality_axioms.proofs.tuples.+tuples.Given as goal
 
@@ -12,8 +11,8 @@ abbrev pub invariant-hand_longer-loop-term : goal.invariant-hand_longer-loop-ter
 invariant-hand_longer-loop-term g l =
     TakesAll (g.S.GroundSink.stands l.fn.sink) (g.S.GroundSink.stands l.sink)
     (calls_of_each
-    (join_below l.term (λ x. join_tuples (term_counts l.terms) (numbers l.rest)
-    (λ xs. axioms_at (symbols l.signature) (numbering (symbols l.signature) l.terms) l.scheme
+    (join_below l.term (λ x. join_tuples (term_counts l.universe.terms.now) (numbers l.rest)
+    (λ xs. axioms_at (symbols_in l.universe) (names_in l.universe) l.scheme
     (l.tuple ++ (x ∷ xs))))))
 
 abbrev pub decreases-hand_tuples : goal.decreases-hand_tuples

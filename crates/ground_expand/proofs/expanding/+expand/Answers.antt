@@ -1,14 +1,13 @@
 use Rattle.std.proofs.Common.{◌≡◌, ◌+◌, List, [], ◌∷◌, get_or, drop, length, sym, ap, ◌∙◌, subst, arith}
 use Rattle.std.proofs.lemmas.List.{append-nil}
-use Rattle.fol_sig.specs.Symbols.{symbols}
 use Rattle.fol_sig.specs.Tuples.{join_below}
 use Rattle.fol_formula.specs.View.{form, forms}
 use Rattle.ground_terms.specs.declared.ground.Junction.TheVariants.{And}
-use Rattle.ground_terms.specs.Numberings.{numbering}
 use Rattle.ground_terms.specs.Trees.{node}
 use Rattle.ground_terms.specs.Calls.{Call, a_node, calls_of, calls_of_all}
 use Rattle.ground_terms.specs.Taking.{Takes, TakesAll, TakesSome, calls_of_each, refused, begins, cut, step, stop}
 use Rattle.ground_terms.specs.Taking.{each_taken, some_taken}
+use Rattle.ground_terms.specs.Universe.{symbols_in, names_in}
 use Rattle.ground_expand.specs.Instance.{instance, instances}
 use Rattle.ground_expand.specs.Scopes.{sorts_in, terms_in}
 use Rattle.ground_expand.specs.Groundable.{AreGroundable}
@@ -19,8 +18,8 @@ pub expand_parts-returns-in_err-hand_node : goal.expand_parts-returns-in_err-han
 expand_parts-returns-in_err-hand_node g t c =
     let P : List Call → Type 0 = g.S.GroundSink.stands c.args.sink.now in
     let Q : List Call → Type 0 = g.S.GroundSink.stands c.hand_node.new.sink in
-    let sig = symbols c.args.signature.now in
-    let names = numbering sig c.args.terms.now in
+    let sig = symbols_in c.args.universe.now in
+    let names = names_in c.args.universe.now in
     let parts = instances sig names (sorts_in c.args.scope.now) (forms c.args.ps.now) (terms_in c.args.scope.now) in
     refused P Q c.from_residual.result (calls_of (node c.args.junction parts)) c.from_residual.ensures.0
     (subst (λ n. TakesSome P Q (a_node c.args.junction n ∷ calls_of_all parts))
@@ -31,8 +30,8 @@ pub expand_parts-loop-p-init : goal.expand_parts-loop-p-init
 expand_parts-loop-p-init g t c =
     let P : List Call → Type 0 = g.S.GroundSink.stands c.args.sink.now in
     let Q : List Call → Type 0 = g.S.GroundSink.stands c.hand_node.new.sink in
-    let sig = symbols c.args.signature.now in
-    let names = numbering sig c.args.terms.now in
+    let sig = symbols_in c.args.universe.now in
+    let names = names_in c.args.universe.now in
     let parts = instances sig names (sorts_in c.args.scope.now) (forms c.args.ps.now) (terms_in c.args.scope.now) in
     record {
       known = c.requires.known;
@@ -47,8 +46,8 @@ expand_parts-loop-p-preserved g t c =
     let P : List Call → Type 0 = g.S.GroundSink.stands c.args.sink.now in
     let Q : List Call → Type 0 = g.S.GroundSink.stands c.loop-p.sink in
     let R : List Call → Type 0 = g.S.GroundSink.stands c.expand.new.sink in
-    let sig = symbols c.args.signature.now in
-    let names = numbering sig c.args.terms.now in
+    let sig = symbols_in c.args.universe.now in
+    let names = names_in c.args.universe.now in
     let sorts = sorts_in c.args.scope.now in
     let env = terms_in c.args.scope.now in
     let h = c.loop-p.invariant in
@@ -68,8 +67,8 @@ expand_parts-returns-in_err-expand g t c =
     let P : List Call → Type 0 = g.S.GroundSink.stands c.args.sink.now in
     let Q : List Call → Type 0 = g.S.GroundSink.stands c.loop-p.sink in
     let R : List Call → Type 0 = g.S.GroundSink.stands c.expand.new.sink in
-    let sig = symbols c.args.signature.now in
-    let names = numbering sig c.args.terms.now in
+    let sig = symbols_in c.args.universe.now in
+    let names = names_in c.args.universe.now in
     let sorts = sorts_in c.args.scope.now in
     let env = terms_in c.args.scope.now in
     let h = c.loop-p.invariant in
@@ -86,8 +85,8 @@ pub expand_each-returns-in_err-hand_node : goal.expand_each-returns-in_err-hand_
 expand_each-returns-in_err-hand_node g t c =
     let P : List Call → Type 0 = g.S.GroundSink.stands c.args.sink.now in
     let Q : List Call → Type 0 = g.S.GroundSink.stands c.hand_node.new.sink in
-    let sig = symbols c.args.signature.now in
-    let names = numbering sig c.args.terms.now in
+    let sig = symbols_in c.args.universe.now in
+    let names = names_in c.args.universe.now in
     let sorts = sorts_in c.args.scope.now in
     let env = terms_in c.args.scope.now in
     let n = get_or c.counts.result.now c.args.sort.0 0 in
@@ -103,8 +102,8 @@ expand_each-loop-term-preserved g t c =
     let P : List Call → Type 0 = g.S.GroundSink.stands c.args.sink.now in
     let Q : List Call → Type 0 = g.S.GroundSink.stands c.loop-term.sink in
     let R : List Call → Type 0 = g.S.GroundSink.stands c.expand.new.sink in
-    let sig = symbols c.args.signature.now in
-    let names = numbering sig c.args.terms.now in
+    let sig = symbols_in c.args.universe.now in
+    let names = names_in c.args.universe.now in
     let f = instance_at sig names (sorts_in c.args.scope.now) c.args.sort.0 (form c.args.p.now)
     (terms_in c.args.scope.now) in
     each_taken P Q R (a_node And (get_or c.counts.result.now c.args.sort.0 0) ∷ []) (λ x. f x ∷ []) c.loop-term.term
@@ -116,8 +115,8 @@ expand_each-returns-in_err-expand g t c =
     let P : List Call → Type 0 = g.S.GroundSink.stands c.args.sink.now in
     let Q : List Call → Type 0 = g.S.GroundSink.stands c.loop-term.sink in
     let R : List Call → Type 0 = g.S.GroundSink.stands c.expand.new.sink in
-    let sig = symbols c.args.signature.now in
-    let names = numbering sig c.args.terms.now in
+    let sig = symbols_in c.args.universe.now in
+    let names = names_in c.args.universe.now in
     let sorts = sorts_in c.args.scope.now in
     let env = terms_in c.args.scope.now in
     let n = get_or c.counts.result.now c.args.sort.0 0 in
@@ -133,8 +132,8 @@ pub expand_each-returns : goal.expand_each-returns
 expand_each-returns g t c =
     let P : List Call → Type 0 = g.S.GroundSink.stands c.args.sink.now in
     let Q : List Call → Type 0 = g.S.GroundSink.stands c.loop-term.sink in
-    let sig = symbols c.args.signature.now in
-    let names = numbering sig c.args.terms.now in
+    let sig = symbols_in c.args.universe.now in
+    let names = names_in c.args.universe.now in
     let sorts = sorts_in c.args.scope.now in
     let env = terms_in c.args.scope.now in
     let n = get_or c.counts.result.now c.args.sort.0 0 in

@@ -1,8 +1,7 @@
 use Rattle.std.proofs.Common.{◌≡◌, ℕ, ◌<◌, length, get_or, sym, subst, ◌∙◌}
 use Rattle.std.proofs.lemmas.List.{length-set}
-use Rattle.fol_sig.specs.Symbols.{symbols}
 use Rattle.fol_sig.specs.Tuples.{tuple_at}
-use Rattle.ground_terms.specs.Numberings.{numbering}
+use Rattle.ground_terms.specs.Universe.{symbols_in, names_in}
 use Rattle.structure_back.specs.Rows.{looked_up}
 use Rattle.structure_back.specs.Tables.{value_at}
 use Rattle.structure_back.proofs.Filling.{set-each}
@@ -10,8 +9,8 @@ use Rattle.structure_back.proofs.functions.function_cells.Goals as goal
 
 pub loop-number-preserved : goal.loop-number-preserved
 loop-number-preserved c =
-    let sig = symbols c.args.signature.now in
-    let names = numbering sig c.args.terms.now in
+    let sig = symbols_in c.args.universe.now in
+    let names = names_in c.args.universe.now in
     let f = c.args.function.0 in
     let sizes = c.args.classes.now.sizes.items in
     let cells = c.loop-number.cells.items in

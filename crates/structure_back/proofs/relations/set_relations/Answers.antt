@@ -1,8 +1,8 @@
 use Rattle.std.proofs.Common.{◌+◌, drop, subst}
 use Rattle.base.proofs.Lists.{drop_read}
-use Rattle.fol_sig.specs.Symbols.{symbols}
 use Rattle.ground_terms.specs.Terms.{term_counts}
 use Rattle.ground_terms.specs.Same.{holds_in}
+use Rattle.ground_terms.specs.Universe.{symbols_in}
 use Rattle.structure_back.specs.Rows.{looked_up}
 use Rattle.structure_back.specs.Tables.{SetsAtom}
 use Rattle.structure_back.proofs.Setting.{AreSetTo, more-set}
@@ -10,8 +10,8 @@ use Rattle.structure_back.proofs.relations.set_relations.Goals as goal
 
 pub loop-atom-preserved : goal.loop-atom-preserved
 loop-atom-preserved c =
-    let sig = symbols c.args.signature.now in
-    let counts = term_counts c.args.terms.now in
+    let sig = symbols_in c.args.universe.now in
+    let counts = term_counts c.args.universe.now.terms.now in
     let a = holds_in c.args.assignment.now in
     let v = looked_up c.args.classes.now.numbers in
     let items = c.as_slice-atom-items.result.now in
