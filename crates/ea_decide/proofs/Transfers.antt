@@ -1,5 +1,5 @@
 -- What is known of a sentence's form with constants, told of the sentence.
-use Rattle.std.proofs.Common.{◌≡◌, ◌≤◌, ℕ, Bool, true, List, [], sum, sym, ap, ◌∙◌, subst}
+use Rattle.std.proofs.Common.{◌≡◌, ◌≤◌, ℕ, Bool, true, List, sum, sym, ap, ◌∙◌, subst}
 use Rattle.fol_sig.specs.Tables.{Declared, Tables}
 use Rattle.fol_sig.specs.Symbols.{symbols}
 use Rattle.fol_formula.specs.Syntax.{FormTree}
