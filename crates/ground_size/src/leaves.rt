@@ -14,6 +14,7 @@ pub struct LeafCount {
 }
 
 impl LeafCount {
+    /// Of a term without `Ite`.
     pub const ONE: LeafCount = LeafCount {
         leaves: 1,
         conditions: 0,

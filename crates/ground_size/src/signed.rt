@@ -11,11 +11,13 @@ pub struct SignedCount {
 }
 
 impl SignedCount {
+    /// Of no formula.
     pub const NONE: SignedCount = SignedCount {
         positive: 0,
         negative: 0,
     };
 
+    /// Of a formula whose normal forms have one node each.
     pub const ONE: SignedCount = SignedCount {
         positive: 1,
         negative: 1,
@@ -32,6 +34,7 @@ impl SignedCount {
         }
     }
 
+    /// Those of both together.
     pub fn beside(self, other: SignedCount) -> SignedCount
         ensures { AreSigned result (self.positive + other.positive) (self.negative + other.negative) }
     {
@@ -48,6 +51,7 @@ impl SignedCount {
         self.beside(SignedCount::ONE)
     }
 
+    /// Those of the negation.
     pub fn opposite(self) -> SignedCount
         ensures positive { result.positive ≡ self.negative }
         ensures negative { result.negative ≡ self.positive }
