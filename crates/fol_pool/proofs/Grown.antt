@@ -40,7 +40,7 @@ pub length_grown : (xs : List Shape) → length (grown [] xs) ≡ length xs
 length_grown xs = length_from [] xs ∙ omega arith
 
 -- the nodes that were there stand in front
-front : (ts : List Tree) (xs : List Shape) → (more : List Tree) × (grown ts xs ≡ ts ++ more)
+pub front : (ts : List Tree) (xs : List Shape) → (more : List Tree) × (grown ts xs ≡ ts ++ more)
 front ts [] = ([], sym (append-nil ts))
 front ts (x ∷ xs) =
     let t = tree_of ts x in

@@ -1,4 +1,5 @@
 mod Same
 mod Nodes
 mod Grown
+mod Cut
 mod Growing

@@ -1,5 +1,5 @@
 // The nodes, each found by its shape.
-ghost use Rattle.std.specs.Prelude.{◌≡◌, ◌<◌, ◌⊎◌, ◌++◌, ◌∷◌, [], length, OnOk, IfOk, OnErr};
+ghost use Rattle.std.specs.Prelude.{◌≡◌, ◌<◌, ◌⊎◌, ◌++◌, ◌∷◌, [], length, take, OnOk, IfOk, OnErr};
 ghost use Rattle.std.specs.Prelude.{if◌then◌else◌, vec_len, vec_capacity, IsOk};
 ghost use Rattle.fol_pool.specs.Trees.{IsAt, EachOnce, Grows, tree_at};
 ghost use Rattle.fol_pool.specs.Shapes.{tree_of, IsOver, PartsAreBelow};
@@ -81,6 +81,14 @@ impl Pool {
         let (place, is_new) = self.shapes.insert_full(shape)?;
         push_where(&mut self.facts, is_new, known)?;
         Ok(Node(place as u32))
+    }
+
+    /// Forgets the nodes from this number on.
+    pub fn truncate(&mut self, count: usize)
+        ensures { self.new ≡ take count self.old }
+    {
+        self.shapes.truncate(count);
+        self.facts.truncate(count);
     }
 
     // What is known of the tree at a node.
