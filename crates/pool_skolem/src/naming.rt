@@ -22,6 +22,10 @@ impl<'a> NodeRules for Naming<'a> {
 
     ghost stays = { λ _ _ _ _ _. (tt, refl) };
 
+    fn leaves(&self, _node: Node) -> bool {
+        false
+    }
+
     fn index(&self, pool: &mut Pool, depth: u32, index: u32) -> Mem<Node> {
         if index >= depth {
             if let Some(constant) = constant_at(self.scope, index - depth) {

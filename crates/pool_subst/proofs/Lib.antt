@@ -1,3 +1,4 @@
 mod Walking
 mod Arguments
 mod Unraised
+mod Unmentioned

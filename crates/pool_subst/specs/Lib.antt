@@ -3,3 +3,4 @@ pub mod Walks
 pub mod Nodes
 pub mod Staying
 pub mod Replacements
+pub mod Mentions

@@ -26,6 +26,10 @@ impl NodeRules for Shift {
 
     ghost stays = { λ _ _ _ _ _. (tt, refl) };
 
+    fn leaves(&self, _node: Node) -> bool {
+        false
+    }
+
     fn index(&self, pool: &mut Pool, depth: u32, index: u32) -> Mem<Node> {
         if index < depth {
             let node = pool.add(Shape::Bound(index))?;
@@ -63,6 +67,10 @@ impl<'a> NodeRules for Put<'a> {
     ghost stands = { λ s ts. HaveTerms ts s.args.now };
 
     ghost stays = { λ s. putting_stays s.args.now };
+
+    fn leaves(&self, _node: Node) -> bool {
+        false
+    }
 
     fn index(&self, pool: &mut Pool, depth: u32, index: u32) -> Mem<Node> {
         if index < depth {

@@ -5,6 +5,7 @@
 
 mod indices;
 mod memo;
+mod mentions;
 mod replacement;
 mod walk;
 
@@ -18,6 +19,7 @@ use base::Mem;
 use fol_pool::{Node, Pool};
 use indices::Shift;
 pub use memo::Memo;
+use mentions::mentioned;
 pub use replacement::Replacement;
 use replacement::Replacing;
 use std::alloc::Global;
@@ -33,7 +35,13 @@ pub fn replace(alloc: Global, pool: &mut Pool, within: Node, change: Replacement
         (a_form (changed_form (change_in pool.old change) 0 (form_at pool.old within.0)))) }
     ensures grows { Grows pool.old pool.new }
 {
-    let node = changed(alloc, pool, &Replacing { alloc, change }, 0, within)?;
+    let mentioned = mentioned(alloc, pool, change, within)?;
+    let rules = Replacing {
+        alloc,
+        change,
+        mentioned: &mentioned,
+    };
+    let node = changed(alloc, pool, &rules, 0, within)?;
     Ok(node)
 }
 

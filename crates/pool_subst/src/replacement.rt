@@ -5,7 +5,8 @@ ghost use Rattle.fol_formula.specs.Syntax.{list_of};
 ghost use Rattle.fol_subst.specs.Replace.{changing, putting};
 ghost use Rattle.fol_pool.specs.Trees.{IsAt, Grows, HasTerms, terms_at, tree_at};
 ghost use Rattle.pool_subst.specs.Nodes.{HaveTerms, terms_of};
-ghost use Rattle.pool_subst.specs.Replacements.{HasReplacement, change_in, replacement_stays};
+ghost use Rattle.pool_subst.specs.Mentions.{HasReplacing, replacing_stays};
+ghost use Rattle.pool_subst.specs.Replacements.{change_in};
 ghost use Rattle.pool_subst.specs.Walks.{tree_by};
 
 use crate::indices::Put;
@@ -24,19 +25,25 @@ pub enum Replacement {
     Const(FunId, u32),
 }
 
-// The rules of a replacement.
+// The rules of a replacement, with a table of where its symbol occurs.
 #[derive(Clone, Copy)]
-pub struct Replacing {
+pub struct Replacing<'a> {
     pub alloc: Global,
     pub change: Replacement,
+    pub mentioned: &'a [bool],
 }
 
-impl NodeRules for Replacing {
+impl<'a> NodeRules for Replacing<'a> {
     ghost becomes = { λ r ts. changing (change_in ts r.change) };
 
-    ghost stands = { λ r ts. HasReplacement ts r.change };
+    ghost stands = { λ r ts. HasReplacing ts r.change r.mentioned.now };
 
-    ghost stays = { λ r. replacement_stays r.change };
+    ghost stays = { λ r. replacing_stays r.change r.mentioned.now };
+
+    fn leaves(&self, node: Node) -> bool {
+        let place = node.0 as usize;
+        place < self.mentioned.len() && !self.mentioned[place]
+    }
 
     fn index(&self, pool: &mut Pool, _depth: u32, index: u32) -> Mem<Node> {
         let node = pool.add(Shape::Bound(index))?;

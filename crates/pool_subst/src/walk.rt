@@ -1,6 +1,6 @@
 // The walk of all changes by rules. It goes from a node to its parts, so it nests as deep as the formula. A row of
 // formulas may be long, and is walked by a loop; one of terms, the arguments of a symbol, is walked as other nodes are.
-ghost use Rattle.std.specs.Prelude.{◌≡◌, ℕ, ◌<◌, List, length, suc, IfOk};
+ghost use Rattle.std.specs.Prelude.{◌≡◌, ℕ, ◌<◌, List, length, suc, IfOk, IsTrue};
 ghost use Rattle.fol_subst.specs.Rules.{Rules};
 ghost use Rattle.fol_pool.specs.Trees.{Tree, IsAt, Grows, HasTerms, a_form, a_term, tree_at, terms_at};
 ghost use Rattle.fol_pool.specs.Shapes.{tree_of, IsOver};
@@ -21,6 +21,11 @@ pub trait NodeRules {
 
     // the rules' own nodes are in the pool
     ghost stands: { Self → List Tree → Type 0 };
+
+    /// Whether it is known that what stands at the node stays as it is.
+    fn leaves(&self, node: Node) -> bool
+        ensures { (ts : List Tree) → stands self.now ts → node.0 < length ts → IsTrue result
+            → (depth : ℕ) → tree_by (becomes self.now ts) depth (tree_at ts node.0) ≡ tree_at ts node.0 };
 
     fn index(&self, pool: &mut Pool, depth: u32, index: u32) -> Mem<Node>
         requires { stands self.now pool.old }
@@ -85,6 +90,9 @@ pub fn change<R: NodeRules>(
     ensures grows { Grows pool.old pool.new }
     ensures right { AreRight (R.becomes rules.now pool.old) pool.new memo.new }
 {
+    if rules.leaves(at) {
+        return Ok(at);
+    }
     if let Some(made) = memo.find(at, depth) {
         return Ok(made);
     }
