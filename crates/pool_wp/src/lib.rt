@@ -5,11 +5,10 @@
 
 mod goal;
 mod model_nodes;
+mod model_pool;
 mod path;
 mod premises;
 mod refuted;
 mod steps;
 
-pub use goal::precondition;
-pub use model_nodes::ModelNodes;
-pub use refuted::refuting;
+pub use model_pool::ModelPool;

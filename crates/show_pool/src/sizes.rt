@@ -9,7 +9,7 @@ use base::{Mem, Refused};
 use fol_pool::{Node, Pool};
 use fol_sig::Signature;
 use pool_size::{GroundSize, ground_size};
-use pool_wp::{ModelNodes, refuting};
+use pool_wp::ModelPool;
 use rml_command::{About, Checked, Goal, Stage};
 use rml_wp::Premises;
 use std::alloc::{AllocError, Global};
@@ -34,17 +34,21 @@ pub fn first_goal(checked: &Checked) -> Option<Goal>
 pub fn size_of_goal(alloc: Global, model: &Checked, goal: &Goal) -> Mem<String>
     requires { IsGoal model.now goal.now }
 {
-    let mut pool = Pool::new(alloc);
-    let nodes = ModelNodes::new(alloc, &mut pool, model.model())?;
-    match refuting(alloc, &mut pool, &nodes, model, Premises::All, goal, &[]) {
+    let mut shared = ModelPool::new(alloc, model.model())?;
+    let own = shared.pool().len();
+    match shared.refuting(alloc, model, Premises::All, goal, &[]) {
         Ok((answered, node)) => {
-            let found = measured(alloc, &pool, model, goal, &answered, node)?;
+            let pool = shared.pool();
+            let found = measured(alloc, pool, model, goal, &answered, node)?;
             let terms = found.terms;
             let size = found.size;
             let tree = pool.nodes(node);
             let kept = pool.len();
+            shared.forget();
+            let left = shared.pool().len();
             format!(in alloc;
-                "{terms} terms, ground size {size}, {tree} nodes as a tree, {kept} nodes in the pool"
+                "{terms} terms, ground size {size}, {tree} nodes as a tree, {kept} nodes in the pool, \
+                 {own} of them the model's, {left} left"
             )
         }
         Err(Refused::NoMemory) => Err(AllocError),
