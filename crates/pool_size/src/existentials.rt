@@ -1,13 +1,11 @@
-// The existentials that a sentence has in normal form, sort by sort, without the normal form. The parts of a node have
-// smaller numbers, so the nodes are gone through in order, and what was counted of the parts is looked up.
-ghost use Rattle.std.specs.Prelude.{◌≡◌, ◌<◌, ◌==◌, if◌then◌else◌, length, true, false, IfOk};
-ghost use Rattle.fol_formula.specs.Counts.{saturated};
-ghost use Rattle.fol_pool.specs.Trees.{HasForm, HasForms, form_at, forms_at, tree_at};
-ghost use Rattle.fol_pool.specs.Shapes.{tree_of, IsOver, PartsAreBelow};
-ghost use Rattle.ground_size.specs.Leaves.{AreSigned};
-ghost use Rattle.ground_size.specs.Existentials.{some, some_of_all, AreConstants};
-ghost use Rattle.pool_size.specs.Counted.{AreRight};
-ghost use Rattle.pool_size.specs.Existentials.{AreSome};
+// The existentials that a sentence has in normal form, sort by sort, without the normal form. Each part stands in the
+// sentence some times as it is and some times negated; in an equivalence it stands both ways. The parts of a node have
+// smaller numbers, so the nodes are gone through from the sentence down: all that hold a node are done before it.
+ghost use Rattle.std.specs.Prelude.{◌≡◌, ◌<◌, ◌≤◌, length, replicate, IfOk};
+ghost use Rattle.fol_pool.specs.Trees.{HasForm, form_at, tree_at};
+ghost use Rattle.ground_size.specs.Existentials.{AreConstants};
+ghost use Rattle.ground_size.specs.Walks.{raised_at};
+ghost use Rattle.pool_size.specs.Existentials.{nowhere, both_ways, with_more, with_parts, with_quantifier, IsSharedOut};
 
 use base::Mem;
 use fol_pool::{Node, Pool, Shape};
@@ -21,99 +19,113 @@ pub fn constants(alloc: Global, signature: &Signature, pool: &Pool, sentence: No
     ensures { IfOk result
         (λ constants. AreConstants signature.now.sorts (form_at pool.now sentence.0) constants.items) }
 {
-    let mut constants = Vec::new(alloc);
-    for k in 0..signature.sorts() {
-        let found = existentials(alloc, pool, sentence, Sort(k))?;
-        constants.push(found)?;
-    }
-    Ok(constants)
-}
-
-// How many existentials of one sort it has.
-fn existentials(alloc: Global, pool: &Pool, sentence: Node, sort: Sort) -> Mem<u64>
-    requires { HasForm pool.now sentence.0 }
-    ensures { IfOk result (λ found. found ≡ saturated (some sort.0 true (form_at pool.now sentence.0))) }
-{
+    let mut counts = vec![in alloc; 0u64; signature.sorts() as usize]?;
     let mut table = Vec::new(alloc);
-    for i in 0..sentence.0 {
-        let found = found_at(pool, &table, sort, Node(i));
-        table.push(found)?;
-    }
-    let found = found_at(pool, &table, sort, sentence);
-    Ok(found.positive)
+    table.resize(sentence.0 as usize, SignedCount::NONE)?;
+    count_down(&mut counts, &mut table, pool, sentence);
+    Ok(counts)
 }
 
-// What is counted at a node, where the nodes before it are counted.
-fn found_at(pool: &Pool, table: &[SignedCount], sort: Sort, node: Node) -> SignedCount
-    requires there { node.0 < length pool.now }
-    requires before { length table.now ≡ node.0 }
-    requires right { AreRight (AreSome sort.0) pool.now table.now }
-    ensures { AreSome sort.0 (tree_at pool.now node.0) result }
+// From the sentence down, where nothing is counted yet.
+fn count_down(counts: &mut [u64], table: &mut [SignedCount], pool: &Pool, sentence: Node)
+    requires form { HasForm pool.now sentence.0 }
+    requires sorts { counts.old ≡ replicate (length counts.old) 0 }
+    requires nodes { table.old ≡ replicate sentence.0 nowhere }
+    ensures sorts { length counts.new ≡ length counts.old }
+    ensures constants { AreConstants (length counts.old) (form_at pool.now sentence.0) counts.new }
 {
-    let shape = pool.shape(node);
-    found_in(pool, table, sort, shape)
+    let once = SignedCount {
+        positive: 1,
+        negative: 0,
+    };
+    share_out(counts, table, pool, sentence, once);
+    for i in (0..sentence.0).rev() {
+        let times = table[i as usize];
+        share_out(counts, table, pool, Node(i), times);
+    }
 }
 
-fn found_in(pool: &Pool, table: &[SignedCount], sort: Sort, shape: Shape) -> SignedCount
-    requires over { IsOver pool.now shape }
-    requires below { PartsAreBelow (length table.now) shape }
-    requires right { AreRight (AreSome sort.0) pool.now table.now }
-    ensures { AreSome sort.0 (tree_of pool.now shape) result }
+// Of a node that stands so many times, the quantifier is counted, and the parts stand so many times more.
+fn share_out(
+    counts: &mut [u64],
+    table: &mut [SignedCount],
+    pool: &Pool,
+    node: Node,
+    times: SignedCount,
+)
+    requires there { node.0 < length pool.now }
+    requires before { node.0 ≤ length table.old }
+    ensures sorts { length counts.new ≡ length counts.old }
+    ensures nodes { length table.new ≡ length table.old }
+    ensures shared { IsSharedOut pool.now node.0 (tree_at pool.now node.0) times
+        counts.old table.old counts.new table.new }
 {
     ground_size::existential_laws();
+    let shape = pool.shape(node);
+    count_quantifier(counts, shape, times);
+    add_parts(table, shape, times);
+}
+
+// A universal is an existential where it is negated.
+fn count_quantifier(counts: &mut [u64], shape: Shape, times: SignedCount)
+    ensures { counts.new ≡ with_quantifier shape times counts.old }
+{
     match shape {
-        Shape::Not(p) => of_form(pool, table, sort, p).opposite(),
-        Shape::And(ps) => of_row(pool, table, sort, ps),
-        Shape::Or(ps) => of_row(pool, table, sort, ps),
+        Shape::Forall(sort, _) => raise(counts, sort, times.negative),
+        Shape::Exists(sort, _) => raise(counts, sort, times.positive),
+        _ => {}
+    }
+}
+
+// The parts of a node stand so many times more; what is negated, and a premise, the other way round.
+fn add_parts(table: &mut [SignedCount], shape: Shape, times: SignedCount)
+    ensures { table.new ≡ with_parts shape times table.old }
+{
+    match shape {
+        Shape::Not(p) => add(table, p, times.opposite()),
+        Shape::And(ps) => add(table, ps, times),
+        Shape::Or(ps) => add(table, ps, times),
         Shape::Implies(p, q) => {
-            let premise = of_form(pool, table, sort, p).opposite();
-            premise.beside(of_form(pool, table, sort, q))
+            add(table, p, times.opposite());
+            add(table, q, times);
         }
         Shape::Iff(p, q) => {
-            let side = of_form(pool, table, sort, p);
-            side.equivalent(of_form(pool, table, sort, q), 0)
+            add(table, p, both_ways(times));
+            add(table, q, both_ways(times));
         }
-        Shape::Forall(k, p) => {
-            let quantifier = one_of(k, sort).opposite();
-            quantifier.beside(of_form(pool, table, sort, p))
-        }
-        Shape::Exists(k, p) => one_of(k, sort).beside(of_form(pool, table, sort, p)),
+        Shape::Forall(_, p) => add(table, p, times),
+        Shape::Exists(_, p) => add(table, p, times),
         Shape::FormThen(p, ps) => {
-            let first = of_form(pool, table, sort, p);
-            first.beside(of_row(pool, table, sort, ps))
+            add(table, p, times);
+            add(table, ps, times);
         }
-        _ => SignedCount::NONE,
+        _ => {}
     }
 }
 
-// An existential over the one sort, as one of the other.
-fn one_of(quantified: Sort, sort: Sort) -> SignedCount
-    ensures positive { result.positive ≡ (if quantified.0 == sort.0 then 1 else 0) }
-    ensures negative { result.negative ≡ 0 }
+// So many existentials more; a sort that there is not has none.
+fn raise(counts: &mut [u64], sort: Sort, by: u64)
+    ensures { counts.new ≡ raised_at counts.old sort.0 by }
 {
-    let positive = if quantified.0 == sort.0 { 1 } else { 0 };
-    SignedCount {
-        positive,
-        negative: 0,
+    let place = sort.0 as usize;
+    if place < counts.len() {
+        counts[place] = counts[place].saturating_add(by);
     }
 }
 
-fn of_form(pool: &Pool, table: &[SignedCount], sort: Sort, node: Node) -> SignedCount
-    requires form { HasForm pool.now node.0 }
-    requires below { node.0 < length table.now }
-    requires right { AreRight (AreSome sort.0) pool.now table.now }
-    ensures { AreSigned result
-        (some sort.0 true (form_at pool.now node.0)) (some sort.0 false (form_at pool.now node.0)) }
+// A node stands so many times more. Each part has its place in the table; a node beyond that would not be counted.
+fn add(table: &mut [SignedCount], node: Node, more: SignedCount)
+    ensures { table.new ≡ with_more table.old node.0 more }
 {
-    table[node.0 as usize]
+    let place = node.0 as usize;
+    if place < table.len() {
+        table[place] = table[place].beside(more);
+    }
 }
 
-fn of_row(pool: &Pool, table: &[SignedCount], sort: Sort, row: Node) -> SignedCount
-    requires row { HasForms pool.now row.0 }
-    requires below { row.0 < length table.now }
-    requires right { AreRight (AreSome sort.0) pool.now table.now }
-    ensures { AreSigned result
-        (some_of_all sort.0 true (forms_at pool.now row.0)) (some_of_all sort.0 false (forms_at pool.now row.0)) }
+// A side of an equivalence stands as it is and negated, each as often as the equivalence in all.
+fn both_ways(times: SignedCount) -> SignedCount
+    ensures { result ≡ both_ways times }
 {
-    table[row.0 as usize]
+    SignedCount::of_both(times.positive.saturating_add(times.negative))
 }
