@@ -33,7 +33,7 @@ use fol_formula::{Ea, Sentence};
 use fol_sig::Signature;
 pub use laws::{axioms_law, parts_law, passing_law};
 use lrat_log::Limits;
-pub use measuring::{measure_by, measure_where};
+pub use measuring::{measure, measure_by};
 use parts::restricted;
 pub use parts::with_parts;
 use rml_command::{Checked, Goal};

@@ -5,9 +5,11 @@ ghost use Rattle.std.specs.List.{AllByRecursion};
 ghost use Rattle.fol_sig.specs.Symbols.{symbols};
 ghost use Rattle.fol_formula.specs.Fits.{FitsForm};
 ghost use Rattle.fol_formula.specs.Fragments.{IsEa};
+ghost use Rattle.fol_pool.specs.Trees.{IsAt, a_form};
 ghost use Rattle.rml_command.specs.Goals.{IsGoal};
 ghost use Rattle.rml_wp.specs.Preconditions.{answered as answered_of, goal_precondition, goal_passes_limit};
 ghost use Rattle.rml_wp.specs.Added.{refuting_all};
+ghost use Rattle.pool_wp.specs.Sharing.{IsPoolOf};
 ghost use Rattle.ground_size.specs.Conjoined.{forms_at};
 ghost use Rattle.ea_decide.specs.Passing.{ceilings};
 ghost use Rattle.obligation_decide.specs.Costs.{IsSentenceMeasured, IsRestrictedMeasured, held_before};
@@ -15,41 +17,57 @@ ghost use Rattle.obligation_decide.specs.Costs.{IsSentenceMeasured, IsRestricted
 use crate::cause_of;
 use crate::decision::Measured;
 use base::{Mem, Refused};
-use ea_decide::measure_parts;
+use ea_decide::{measure_node, measure_parts};
 use fol_formula::{Ae, Sentence};
+use fol_pool::{Node, Pool};
 use fol_sig::Signature;
 use ground_size::Part;
 use lrat_log::Limits;
+use pool_wp::ModelPool;
 use rml_command::{Checked, Goal, Stage};
 use rml_report::Cause;
-use rml_wp::precondition;
+use rml_wp::Premises;
 use std::alloc::{AllocError, Global};
 
-/// What it would cost to decide whether a goal of the model has a counterexample in a structure that satisfies further
-/// sentences: the size of the ground formulas, or the limit that is passed before anything is decided.
-pub fn measure_where(
+/// What it would cost to decide a goal of the model: the size of the ground formulas, or the limit that is passed
+/// before anything is decided. The refuting sentence is made in the model's pool, where each part is kept, changed and
+/// counted once, so a path that doubles a formula at each of its steps wants memory for its steps, and none for the
+/// tree. It is forgotten behind this.
+pub fn measure(
     alloc: Global,
+    shared: &mut ModelPool,
     checked: &Checked,
     goal: &Goal,
-    more: &[Sentence],
     limits: &Limits,
 ) -> Mem<Measured>
+    requires shared { IsPoolOf checked.now shared.old }
     requires goal { IsGoal checked.now goal.now }
-    requires fragment { AllByRecursion IsEa more.now }
-    requires fits { AllByRecursion (FitsForm (symbols checked.now.signature) []) more.now }
-    ensures { IfOk result (IsRestrictedMeasured (ceilings limits.now) checked.now more.now goal.now) }
+    ensures measured { IfOk result (IsRestrictedMeasured (ceilings limits.now) checked.now [] goal.now) }
+    ensures shared { IsPoolOf checked.now shared.new }
 {
-    match precondition(alloc, checked, goal) {
-        Ok((answered, precondition)) => {
-            let measured = measure_by(
-                alloc,
-                checked,
-                goal,
-                &answered,
-                &precondition,
-                more,
-                limits,
-            )?;
+    let measured = measure_in(alloc, shared, checked, goal, limits);
+    shared.forget();
+    let measured = measured?;
+    Ok(measured)
+}
+
+// The same, with what is made of the sentence left in the pool.
+fn measure_in(
+    alloc: Global,
+    shared: &mut ModelPool,
+    checked: &Checked,
+    goal: &Goal,
+    limits: &Limits,
+) -> Mem<Measured>
+    requires shared { IsPoolOf checked.now shared.old }
+    requires goal { IsGoal checked.now goal.now }
+    ensures measured { IfOk result (IsRestrictedMeasured (ceilings limits.now) checked.now [] goal.now) }
+    ensures shared { IsPoolOf checked.now shared.new }
+{
+    match shared.refuting(alloc, checked, Premises::All, goal, &[]) {
+        Ok((answered, sentence)) => {
+            let pool = shared.pool();
+            let measured = measure_shared(alloc, checked, goal, &answered, pool, sentence, limits)?;
             Ok(measured)
         }
         Err(Refused::NoMemory) => Err(AllocError),
@@ -57,8 +75,34 @@ pub fn measure_where(
     }
 }
 
-/// The same of a goal that does not pass the limit of formulas, given its precondition and the signature that it is
-/// over.
+// By the node of its refuting sentence.
+fn measure_shared(
+    alloc: Global,
+    checked: &Checked,
+    goal: &Goal,
+    answered: &Signature,
+    pool: &Pool,
+    sentence: Node,
+    limits: &Limits,
+) -> Mem<Measured>
+    requires goal { IsGoal checked.now goal.now }
+    requires answered { answered.now ≡ answered_of checked.now goal.now }
+    requires sentence { IsAt pool.now sentence.0
+        (a_form (refuting_all checked.now checked.now.conjectures [] goal.now)) }
+    ensures { IfOk result (IsSentenceMeasured (ceilings limits.now) answered.now
+        (refuting_all checked.now checked.now.conjectures [] goal.now)) }
+{
+    rml_wp::sentence_law();
+    rml_wp::answered_goal(checked, goal);
+    let _model = checked.model();
+    match measure_node(alloc, answered, checked.strata(), pool, sentence, limits)? {
+        ea_decide::Measured::Within(size) => Ok(Measured::Within(size)),
+        ea_decide::Measured::Over(passed) => Ok(Measured::Over(cause_of(passed))),
+    }
+}
+
+/// The same, in structures that satisfy further sentences, of a goal that does not pass the limit of formulas, given
+/// its precondition and the signature that it is over.
 pub fn measure_by(
     alloc: Global,
     checked: &Checked,
