@@ -1,8 +1,10 @@
-// Which limit a goal passes by its size. Its refuting sentence is counted, whole or lean, and nothing is decided.
+// Which limit a goal passes by its size. Its refuting sentence is counted, whole in the model's pool or lean, and
+// nothing is decided.
 ghost use Rattle.std.specs.Prelude.{◌≡◌, false, IfOk};
 ghost use Rattle.rml_command.specs.Goals.{IsGoal};
 ghost use Rattle.rml_wp.specs.declared.premises.Premises.TheVariants.{Affected};
 ghost use Rattle.rml_wp.specs.Preconditions.{answered as answered_of, goal_passes_limit_by};
+ghost use Rattle.pool_wp.specs.Sharing.{IsPoolOf};
 ghost use Rattle.ea_decide.specs.Passing.{ceilings};
 ghost use Rattle.lean_decide.specs.Lean.{affected_refuting};
 ghost use Rattle.lean_decide.specs.Settled.{IsPassing};
@@ -12,7 +14,8 @@ use base::{Mem, Refused};
 use fol_formula::Ea;
 use fol_sig::Signature;
 use lrat_log::Limits;
-use obligation_decide::{Measured, cause_of, measure_where};
+use obligation_decide::{Measured, cause_of, measure};
+use pool_wp::ModelPool;
 use rml_command::{Checked, Goal};
 use rml_report::Cause;
 use rml_wp::{Premises, refuting_by};
@@ -21,15 +24,18 @@ use std::alloc::{AllocError, Global};
 /// By the counts of its whole refuting sentence.
 pub fn whole_passed(
     alloc: Global,
+    shared: &mut ModelPool,
     checked: &Checked,
     goal: &Goal,
     limits: &Limits,
 ) -> Mem<Option<Cause>>
+    requires shared { IsPoolOf checked.now shared.old }
     requires goal { IsGoal checked.now goal.now }
-    ensures { IfOk result (IsPassing Whole (ceilings limits.now) checked.now goal.now) }
+    ensures passed { IfOk result (IsPassing Whole (ceilings limits.now) checked.now goal.now) }
+    ensures shared { IsPoolOf checked.now shared.new }
 {
     rml_wp::sentence_law();
-    match measure_where(alloc, checked, goal, &[], limits)? {
+    match measure(alloc, shared, checked, goal, limits)? {
         Measured::Over(cause) => Ok(Some(cause)),
         Measured::Within(_) => Ok(None),
     }
