@@ -32,8 +32,8 @@ pub data GoalAnswer : Type 0 where
   failing : Failure → GoalAnswer
   left_open : Cause → GoalAnswer
 
--- what the answer says is so; a goal is left open where it passes a limit, or where a log of just so many clauses as the
--- budget allows exists
+-- what the answer says is so; a goal is left open where it passes a limit, or where a log of just so many clauses as
+-- the budget allows exists
 abbrev pub IsGoalAnswer : Counted → Ceilings → ModelTree → Goal → GoalAnswer → Type 0
 IsGoalAnswer counted limits m goal safe = FirstPassed counted limits m goal None × HasNone m goal
 IsGoalAnswer counted limits m goal (failing f) =

@@ -3,6 +3,7 @@ ghost use Rattle.std.specs.Prelude.{◌≡◌, map, IfOk};
 ghost use Rattle.std.specs.List.{AllByRecursion, list_all, list_any};
 ghost use Rattle.rml_command.specs.Goals.{HasAbout, groups_of};
 ghost use Rattle.rml_report.specs.Reports.{head_of, says_holds, says_fails, verdict_of};
+ghost use Rattle.pool_wp.specs.Sharing.{IsPoolOf};
 ghost use Rattle.ea_decide.specs.Passing.{ceilings};
 ghost use Rattle.verdicts.specs.Answers.{IsGroupNow, IsReportBy};
 
@@ -10,6 +11,7 @@ use crate::deciding::decide_group;
 use base::{Mem, Row};
 use lean_decide::{Counted, settle_axioms};
 use lrat_log::Limits;
+use pool_wp::ModelPool;
 use progress::{Progress, Work};
 use rml_command::{Checked, Head, goal_law, heads};
 use rml_report::{Answer, Group, Report, Verdict};
@@ -18,19 +20,22 @@ use std::alloc::Global;
 // The groups of these heads, each with its answer.
 fn decide_all<P: Progress>(
     alloc: Global,
+    shared: &mut ModelPool,
     checked: &Checked,
     counted: Counted,
     limits: &Limits,
     heads: &[Head],
     progress: &mut P,
 ) -> Mem<Vec<Group>>
-    requires { AllByRecursion (λ h. HasAbout checked.now h.stage h.about) heads.now }
+    requires shared { IsPoolOf checked.now shared.old }
+    requires heads { AllByRecursion (λ h. HasAbout checked.now h.stage h.about) heads.now }
     ensures now { IfOk result (λ gs. AllByRecursion (IsGroupNow counted (ceilings limits.now) checked.now) gs.items) }
     ensures heads { IfOk result (λ gs. map head_of gs.items ≡ heads.now) }
+    ensures shared { IsPoolOf checked.now shared.new }
 {
     let mut groups = Vec::new(alloc);
     for head in heads {
-        groups.push(decide_group(alloc, checked, counted, limits, *head)?)?;
+        groups.push(decide_group(alloc, shared, checked, counted, limits, *head)?)?;
         progress.tell(Work::Groups, groups.len() as u64, heads.len() as u64);
     }
     Ok(groups)
@@ -39,17 +44,20 @@ fn decide_all<P: Progress>(
 // All groups in order.
 fn all_groups<P: Progress>(
     alloc: Global,
+    shared: &mut ModelPool,
     checked: &Checked,
     counted: Counted,
     limits: &Limits,
     progress: &mut P,
 ) -> Mem<Vec<Group>>
+    requires shared { IsPoolOf checked.now shared.old }
     ensures now { IfOk result (λ gs. AllByRecursion (IsGroupNow counted (ceilings limits.now) checked.now) gs.items) }
     ensures heads { IfOk result (λ gs. map head_of gs.items ≡ groups_of checked.now) }
+    ensures shared { IsPoolOf checked.now shared.new }
 {
     goal_law();
     let heads = heads(alloc, checked)?;
-    let groups = decide_all(alloc, checked, counted, limits, &heads, progress)?;
+    let groups = decide_all(alloc, shared, checked, counted, limits, &heads, progress)?;
     Ok(groups)
 }
 
@@ -96,7 +104,10 @@ pub fn report<P: Progress>(
 ) -> Mem<Report>
     ensures { IfOk result (IsReportBy counted (ceilings limits.now) checked.now) }
 {
-    let groups = all_groups(alloc, checked, counted, limits, progress)?;
+    let mut shared = ModelPool::new(alloc, checked.model())?;
+    let groups = all_groups(alloc, &mut shared, checked, counted, limits, progress);
+    drop(shared);
+    let groups = groups?;
     let axioms = settle_axioms(alloc, checked, limits)?;
     let verdict = verdict_for(&groups);
     Ok(Report {

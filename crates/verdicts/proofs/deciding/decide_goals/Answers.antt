@@ -15,13 +15,13 @@ use Rattle.verdicts.proofs.deciding.decide_goals.Goals.{in-Holds, in-Undecided}
 abbrev none : Goal
 none = record { stage = stage.Init; path = 0; about = about.Abort }
 
-pub returns-in-Fails : goal.returns-in-Fails
-returns-in-Fails c =
+pub returns-in-Fails-clause-answered : goal.returns-in-Fails-clause-answered
+returns-in-Fails-clause-answered c =
     let limits = ceilings c.args.limits.now in
     let here = next c.args.counted limits c.args.checked.now c.args.paths c.args.goals.now c.loop-goal.earliest
     c.loop-goal.goal-index
     none c.loop-goal-test.true c.loop-goal.invariant.whole in
-    let decided = rw c.in-Fails.is at c.in_ok-settle.ensures in
+    let decided = rw c.in-Fails.is at c.in_ok-settle.ensures.settled in
     let sized = c.in_ok-shown-in-Fails.ensures in
     let f : Failure = record { shown = c.in_ok-shown-in-Fails.shown; least = c.in_ok-shown-in-Fails.least } in
     at_failing c.args.counted limits c.args.checked.now c.args.paths c.args.goals.now c.loop-goal.earliest _ _ f here
@@ -37,11 +37,12 @@ loop-goal-preserved c =
     none
     c.loop-goal-test.true c.loop-goal.invariant.whole in
     record {
+      shared = c.in_ok-settle.ensures.shared;
       each = next_each c.args.counted limits m c.args.paths c.args.goals.now
           (IsGoal m) c.loop-goal.goal-index none c.loop-goal-test.true c.loop-goal.invariant.each;
       whole = elim c.match-branch-2.branch [
         | in-Holds w ↦
-            let is = rw w.in-Holds.is at c.in_ok-settle.ensures in
+            let is = rw w.in-Holds.is at c.in_ok-settle.ensures.settled in
             subst (λ (e : Option OpenGoal). Completes c.args.counted limits m c.args.paths c.args.goals.now e rest)
             (sym w.earliest-is)
             (behind_safe c.args.counted limits m c.args.paths c.args.goals.now c.loop-goal.earliest next_goal rest
@@ -51,12 +52,12 @@ loop-goal-preserved c =
             (sym (w.earliest-is ∙ w.earlier_of-earliest.ensures))
             (behind_open c.args.counted limits m c.args.paths c.args.goals.now c.loop-goal.earliest next_goal rest
             w.in-Undecided.cause
-            here (rw w.in-Undecided.is at c.in_ok-settle.ensures))
+            here (rw w.in-Undecided.is at c.in_ok-settle.ensures.settled))
       ];
     }
 
-pub returns : goal.returns
-returns c =
+pub returns-clause-answered : goal.returns-clause-answered
+returns-clause-answered c =
     subst (λ (a : Answer). IsAnswerTo c.args.counted (ceilings c.args.limits.now) c.args.checked.now c.args.paths
     c.args.goals.now a)
     (sym c.answer_of.ensures)

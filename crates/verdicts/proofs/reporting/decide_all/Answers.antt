@@ -17,6 +17,7 @@ loop-head-preserved g c =
     let new = c.push.new.self.items in
     let group = c.in_ok-decide_group.field-0 in
     record {
+      shared = c.in_ok-decide_group.ensures.shared;
       known = left_all (λ (h : Head). HasAbout c.args.checked.now h.stage h.about) c.args.heads.now
           c.loop-head.head-index any c.loop-head-test.true c.loop-head.invariant.known;
       heads = next_head head_of c.args.heads.now c.loop-head.head-index _ old new group c.loop-head-test.true
