@@ -2,13 +2,14 @@
 // lean sentence where that decides, or under limits on that. Along a walk that is infeasible it is counted alone.
 ghost use Rattle.std.specs.Prelude.{◌≡◌, true, false, IfOk};
 ghost use Rattle.ea_decide.specs.Passing.{ceilings};
-ghost use Rattle.rml_command.specs.Goals.{IsCounterexample};
+ghost use Rattle.rml_command.specs.Goals.{IsCounterexample, IsGoal};
 ghost use Rattle.rml_command.specs.Paths.{has_abort};
 ghost use Rattle.walks.specs.Walks.{joined};
 ghost use Rattle.walks.specs.Runs.{HasNoRun};
 ghost use Rattle.walks.specs.Laws.{AreLegs, IsWalk};
 ghost use Rattle.walk_model.specs.WalkModels.{walk_model, stopped_model, walk_goal};
 ghost use Rattle.walk_model.specs.Laws.{HasNoOutcome};
+ghost use Rattle.lean_decide.specs.Settled.{IsSettled, IsPassing};
 ghost use Rattle.rml_bmc.specs.Decisions.{IsWalkDecision};
 ghost use Rattle.rml_bmc.specs.Infeasible.{IsKnownGoal};
 ghost use Rattle.rml_bmc.specs.Shown.{IsRunAlong};
@@ -18,6 +19,7 @@ use crate::following::follow_legs;
 use base::Mem;
 use lean_decide::{Counted, Settled, first_passed, settle};
 use lrat_log::Limits;
+use pool_wp::ModelPool;
 use rml_command::{About, Checked, Goal, Stage};
 use rml_exec::Counterexample;
 use rml_report::Cause;
@@ -54,6 +56,42 @@ fn goal_of(about: About) -> Goal
         path: 1,
         about,
     }
+}
+
+// Decides a goal of a walk's model, in a pool of that model.
+fn settle_in(
+    alloc: Global,
+    model: &Checked,
+    goal: &Goal,
+    counted: Counted,
+    limits: &Limits,
+) -> Mem<Settled>
+    requires goal { IsGoal model.now goal.now }
+    ensures { IfOk result (IsSettled counted (ceilings limits.now) model.now goal.now) }
+{
+    let mut shared = ModelPool::new(alloc, model.model())?;
+    let settled = settle(alloc, &mut shared, model, goal, counted, limits);
+    drop(shared);
+    let settled = settled?;
+    Ok(settled)
+}
+
+// The first limit that it passes by its size, if it passes one.
+fn passed_in(
+    alloc: Global,
+    model: &Checked,
+    goal: &Goal,
+    counted: Counted,
+    limits: &Limits,
+) -> Mem<Option<Cause>>
+    requires goal { IsGoal model.now goal.now }
+    ensures { IfOk result (IsPassing counted (ceilings limits.now) model.now goal.now) }
+{
+    let mut shared = ModelPool::new(alloc, model.model())?;
+    let passed = first_passed(alloc, &mut shared, model, goal, counted, limits);
+    drop(shared);
+    let passed = passed?;
+    Ok(passed)
 }
 
 // The run that a counterexample of the goal in the walk's model is.
@@ -100,7 +138,7 @@ fn decide_in(
     walk_model_law();
     let _checked = checked.model();
     let goal = goal_of(walk.about);
-    let settled = settle(alloc, model, &goal, counted, limits)?;
+    let settled = settle_in(alloc, model, &goal, counted, limits)?;
     match settled {
         Settled::Holds => Ok(WalkDecision::NoRun),
         Settled::Fails(shown) => {
@@ -128,7 +166,7 @@ fn count_in(
     walk_model_law();
     let _checked = checked.model();
     let goal = goal_of(walk.about);
-    match first_passed(alloc, model, &goal, counted, limits)? {
+    match passed_in(alloc, model, &goal, counted, limits)? {
         Some(cause) => Ok(WalkDecision::Undecided(cause)),
         None => Ok(WalkDecision::NoRun),
     }
@@ -198,7 +236,7 @@ fn is_stopped_in(
     stopped_model_law();
     let _checked = checked.model();
     let goal = goal_of(About::Abort);
-    match settle(alloc, model, &goal, counted, limits)? {
+    match settle_in(alloc, model, &goal, counted, limits)? {
         Settled::Holds => Ok(true),
         Settled::Undecided(_) => Ok(false),
         Settled::Fails(shown) => {

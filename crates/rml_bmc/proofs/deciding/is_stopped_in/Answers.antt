@@ -6,8 +6,8 @@ use Rattle.rml_command.specs.declared.goal.About.TheVariants as about
 use Rattle.walk_model.specs.WalkModels.{walk_goal}
 use Rattle.rml_bmc.proofs.deciding.is_stopped_in.Goals as goal
 
-pub settle-requires : goal.settle-requires
-settle-requires c =
+pub settle_in-requires : goal.settle_in-requires
+settle_in-requires c =
     let is = c.stopped_model_law.ensures c.args.checked.now c.args.legs.now c.model-checked.ensures.checked
     c.requires.legs c.requires.goes_on in
     record {
@@ -21,4 +21,4 @@ returns-in-Holds c = λ e.
     c.requires.legs c.requires.goes_on in
     is.none (subst (λ (w : ModelTree). HasNone w (walk_goal about.Abort)) c.requires.model
     (subst (λ (g : Goal). HasNone c.args.model.now g) c.goal_of-goal.ensures
-    (rw c.in-Holds.is at c.in_ok-settle.ensures).1))
+    (rw c.in-Holds.is at c.in_ok-settle_in.ensures).1))
