@@ -36,8 +36,14 @@ def main(clone, names):
     kept.drop = lambda path: None
     for crate in crates:
         below = {it.name for it in crate.below()}
-        shutil.rmtree(f"{crate.folder}/out/rlib", ignore_errors=True)
-        if below & lacking or not kept.give(crate, False, kept.key(crate)):
+        made, own = f"{crate.folder}/out/rlib", f"{crate.folder}/out/own"
+        if os.path.isdir(made):
+            os.replace(made, own)
+        is_laid = not below & lacking and kept.give(crate, False, kept.key(crate))
+        if os.path.isdir(own):
+            # (what the clone made itself stays where the gate kept nothing)
+            shutil.rmtree(own) if is_laid else os.replace(own, made)
+        if not is_laid:
             lacking.add(crate.name)
             continue
         with open(f"{crate.folder}/out/rlib/stamp", "w") as it:

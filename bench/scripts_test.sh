@@ -304,6 +304,14 @@ IVYVIEW=$room/bin/cuber bench hazards.py --scale 0.02 --view --command bmc 'bloc
 expect 'hazards: more than double is told' wrote ' | more than double |'
 expect 'hazards: and ends it' ended 1
 
+# --- depths.py, on a stand-in that wants more stack than the system gives
+
+printf '#!/bin/bash\n[ "$(ulimit -s)" -gt 9000 ] || kill -SEGV $$\n' >"$room/bin/deep"
+chmod +x "$room/bin/deep"
+IVYCHECK=$room/bin/deep IVYVIEW=$room/bin/deep bench depths.py parentheses
+expect 'depths: no depth is taken' wrote '| parentheses | 49 | ivycheck check | 0 | none | over 8192 |'
+expect 'depths: and ends it' ended 1
+
 # --- gate.py, solve.sh, lrat.sh and room.py, with a stand-in for rt
 
 cat >"$room/tools/rt" <<'END'
@@ -587,6 +595,9 @@ if [ -z "$program" ] || [ -z "$viewer" ]; then
     echo 'skipped, since there is no ivyview of these sources: what runs it'
 else
     export IVYVIEW=$viewer
+    bench depths.py parentheses
+    expect 'depths: a line each' wrote '| parentheses | 49 | ivyview why | 3 | 49 | '
+    expect 'depths: 8 MB are enough' ended 0
     bench views.py
     expect 'views: the rows that stand there' diff "$room/out" "$here/crates/rows/data/views.txt"
     if command -v cc >/dev/null; then
