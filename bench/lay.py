@@ -4,7 +4,8 @@
     bench/lay.py CLONE [NAME ..]        lays the libraries below the crates of these names, or of all crates
 
 `rt check` takes what another check kept, and never what the gate kept: without this it proves each library below anew.
-What is laid serves work alone; no verdict of the gate rests on it. Prints the crates of which nothing is kept.
+What is laid serves work alone; no verdict of the gate rests on it. Prints the crates of which nothing is kept. Some
+kits keep nothing of what `rt ci` passed: the script then says so, and ends with status 2.
 """
 import importlib.machinery
 import importlib.util
@@ -24,6 +25,9 @@ def kit():
 def main(clone, names):
     """Lays the libraries below these crates, lowest first."""
     rt = kit()
+    if not hasattr(rt, "Kept"):
+        print("this kit keeps nothing of what rt ci passed, so there is nothing to lay", file=sys.stderr)
+        sys.exit(2)
     os.chdir(clone)
     root = os.getcwd()
     rt.Crate.cuts_libraries = True

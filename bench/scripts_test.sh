@@ -387,7 +387,7 @@ bench times.py --root "$room/proved" none
 expect 'times: where nothing was proved it says so' ended 1
 mkdir -p "$room/no_tree"
 bench lay.py "$room/no_tree"
-expect 'lay: a folder that is no tree' ended 2
+expect 'lay: a folder that is no tree, or a kit that keeps nothing' ended 2
 echo 'rt: low proved' >"$room/no_log"
 bench plant.py "$room/no_log"
 expect 'plant: a log without a proof of the crate' said 'has no proof of'
