@@ -59,6 +59,7 @@ fn push_equations(
 }
 
 /// The equation of each leaf of a term with each of another.
+#[inline(never)]
 pub fn joined_equations(
     alloc: Global,
     positive: bool,
@@ -77,6 +78,7 @@ pub fn joined_equations(
 }
 
 /// The relation of each leaf of its arguments, or its negation.
+#[inline(never)]
 pub fn relations(
     alloc: Global,
     positive: bool,
@@ -164,6 +166,7 @@ fn any_of(alloc: Global, leaves: Vec<AtomLeaf>) -> Mem<Formula>
 }
 
 /// The Or over the leaves. A literal without `Ite` stays.
+#[inline(never)]
 pub fn one_of(alloc: Global, leaves: Vec<AtomLeaf>) -> Mem<Formula>
     ensures { IfOk result (λ f. form f ≡ one_of (map atom_leaf leaves.items)) }
 {

@@ -1,5 +1,8 @@
 // Along the formula: negations are pushed down to the atoms, and each atom becomes the Or over its
 // leaves. An atom without `Ite` has one leaf and is copied.
+//
+// Few atoms have an `Ite`. What makes the leaves of these is kept out of line, here and in `join`, so that a compiler
+// cannot make the walk larger by it. The three kilobytes that the walk takes at each entry are those of its own arms.
 ghost use Rattle.std.specs.Prelude.{◌≡◌, IfOk, map};
 ghost use Rattle.fol_formula.specs.View.{form, forms, term as term_view, terms as terms_view};
 ghost use Rattle.fol_formula.specs.NormalForms.{both};
@@ -157,6 +160,7 @@ fn normal_formulas(alloc: Global, ps: &[Formula], positive: bool) -> Mem<Vec<For
 }
 
 #[cycle(normal)]
+#[inline(never)]
 fn leaves_of(alloc: Global, t: &Term) -> Mem<Vec<TermLeaf>>
     ensures { IfOk result (λ ls. map term_leaf ls.items ≡ leaves (term_view t.now)) }
 {
@@ -189,6 +193,7 @@ fn leaves_of(alloc: Global, t: &Term) -> Mem<Vec<TermLeaf>>
 
 // From the last argument on.
 #[cycle(normal)]
+#[inline(never)]
 fn leaves_of_all(alloc: Global, ts: &[Term]) -> Mem<Vec<TermsLeaf>>
     ensures { IfOk result (λ ls. map terms_leaf ls.items ≡ leaves_of_terms (terms_view ts.now)) }
 {
