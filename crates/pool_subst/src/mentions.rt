@@ -1,5 +1,5 @@
 // Where the symbol that is replaced occurs: at each node that is read off its parts, which have smaller numbers.
-ghost use Rattle.std.specs.Prelude.{◌≡◌, ◌<◌, ◌||◌, length, IfOk};
+ghost use Rattle.std.specs.Prelude.{◌≡◌, ◌+◌, ◌<◌, ◌||◌, length, IfOk};
 ghost use Rattle.fol_occurs.specs.Occurs.{is_relation, is_function};
 ghost use Rattle.fol_pool.specs.Trees.{tree_at};
 ghost use Rattle.fol_pool.specs.Shapes.{tree_of, IsOver, PartsAreBelow};
@@ -14,9 +14,10 @@ use std::alloc::Global;
 // For this node and each one before it, whether the symbol that is replaced occurs there.
 pub fn mentioned(alloc: Global, pool: &Pool, change: Replacement, at: Node) -> Mem<Vec<bool>>
     requires { at.0 < length pool.now }
-    ensures { IfOk result (λ table. TellsOf (replaced change) pool.now table.items) }
+    ensures whole { IfOk result (λ table. length table.items ≡ at.0 + 1) }
+    ensures tells { IfOk result (λ table. TellsOf (replaced change) pool.now table.items) }
 {
-    let mut table = Vec::new(alloc);
+    let mut table = Vec::with_capacity(alloc, at.0 as usize + 1)?;
     for i in 0..at.0 {
         let occurs = occurs_at(pool, &table, change, Node(i));
         table.push(occurs)?;
