@@ -24,7 +24,7 @@ pub fn instance_nodes(alloc: Global, pool: &Pool, counts: &Counts, sentence: Nod
     ensures { IfOk result
         (λ nodes. nodes ≡ saturated (instance_nodes_of counts.now (normal true (form_at pool.now sentence.0)))) }
 {
-    let mut table = Vec::new(alloc);
+    let mut table = Vec::with_capacity(alloc, sentence.0 as usize + 1)?;
     for i in 0..sentence.0 {
         let measure = measure_at(pool, &table, counts, Node(i));
         table.push(measure)?;

@@ -24,8 +24,8 @@ pub struct GroundSize {
 }
 
 /// The size of the ground formulas of the sentence at a node. Nothing is built. Each node with a number up to that of
-/// the sentence is looked at twice, also where it is no part of the sentence. Err: out of memory; a few numbers are kept
-/// for each of these nodes, and for each sort.
+/// the sentence is looked at twice, also where it is no part of the sentence. Err: out of memory; a few numbers are
+/// kept for each of these nodes, and for each sort.
 pub fn ground_size(
     alloc: Global,
     signature: &Signature,
