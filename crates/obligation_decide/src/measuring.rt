@@ -26,7 +26,6 @@ use lrat_log::Limits;
 use pool_wp::ModelPool;
 use rml_command::{Checked, Goal, Stage};
 use rml_report::Cause;
-use rml_wp::Premises;
 use std::alloc::{AllocError, Global};
 
 /// What it would cost to decide a goal of the model: the size of the ground formulas, or the limit that is passed
@@ -64,7 +63,7 @@ fn measure_in(
     ensures measured { IfOk result (IsRestrictedMeasured (ceilings limits.now) checked.now [] goal.now) }
     ensures shared { IsPoolOf checked.now shared.new }
 {
-    match shared.refuting(alloc, checked, Premises::All, goal, &[]) {
+    match shared.refuting(alloc, checked, goal) {
         Ok((answered, sentence)) => {
             let pool = shared.pool();
             let measured = measure_shared(alloc, checked, goal, &answered, pool, sentence, limits)?;

@@ -1,5 +1,5 @@
 pub mod Nodes
-pub mod PremiseRows
+pub mod Allowed
 pub mod Before
 pub mod Backward
 mod Own

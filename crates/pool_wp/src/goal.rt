@@ -3,7 +3,7 @@ ghost use Rattle.std.specs.Prelude.{◌≡◌, false, IfOk, IfErr, OnOk, IsTrue}
 ghost use Rattle.base.specs.Because.{Because};
 ghost use Rattle.fol_pool.specs.Trees.{IsAt, Grows, a_form};
 ghost use Rattle.rml_command.specs.Goals.{IsGoal};
-ghost use Rattle.rml_wp.specs.Preconditions.{answered, goal_precondition_by, goal_passes_limit_by};
+ghost use Rattle.rml_wp.specs.Preconditions.{answered, goal_precondition, goal_passes_limit};
 ghost use Rattle.pool_wp.specs.Standing.{AreNodesOf};
 
 use crate::model_nodes::ModelNodes;
@@ -13,10 +13,10 @@ use fol_pool::{Node, Pool};
 use fol_sig::Signature;
 use fol_subst::FormulaLimit;
 use rml_command::{Checked, Goal};
-use rml_wp::{Premises, answered_signature};
+use rml_wp::answered_signature;
 use std::alloc::Global;
 
-/// The node of the precondition of a goal's path, where these axioms are premises behind a step, and the signature that
+/// The node of the precondition of a goal's path, with all axioms as premises behind each step, and the signature that
 /// it is over: what `rml_wp::precondition_by` answers as a tree. It is refused where that of some rest of the path, the
 /// empty one too, has over 1,000,000 nodes as a tree, or is over 1,000 deep. The pool needs but a node for each part
 /// that differs. The walks nest as deep as the formulas.
@@ -25,24 +25,21 @@ pub fn precondition(
     pool: &mut Pool,
     nodes: &ModelNodes,
     checked: &Checked,
-    premises: Premises,
     goal: &Goal,
 ) -> Result<(Signature, Node), Refused<FormulaLimit>>
     requires nodes { AreNodesOf checked.now pool.old nodes.now }
     requires goal { IsGoal checked.now goal.now }
     ensures signature { IfOk result (λ r. r.0 ≡ answered checked.now goal.now) }
     ensures node { IfOk result
-        (λ r. IsAt pool.new r.1.0 (a_form (goal_precondition_by premises checked.now goal.now))) }
-    ensures within { OnOk result (goal_passes_limit_by premises checked.now goal.now ≡ false) }
-    ensures limit { IfErr result (Because (λ _. IsTrue (goal_passes_limit_by premises checked.now goal.now))) }
+        (λ r. IsAt pool.new r.1.0 (a_form (goal_precondition checked.now goal.now))) }
+    ensures within { OnOk result (goal_passes_limit checked.now goal.now ≡ false) }
+    ensures limit { IfErr result (Because (λ _. IsTrue (goal_passes_limit checked.now goal.now))) }
     ensures grows { Grows pool.old pool.new }
 {
     let answered = answered_signature(alloc, checked, goal)?;
     let model = checked.model();
     let path = checked.path(goal);
-    match along(
-        alloc, pool, nodes, model, premises, &answered, goal.about, &path,
-    ) {
+    match along(alloc, pool, nodes, model, &answered, goal.about, &path) {
         Ok(node) => Ok((answered, node)),
         Err(refused) => Err(refused),
     }

@@ -7,7 +7,6 @@ mod goal;
 mod model_nodes;
 mod model_pool;
 mod path;
-mod premises;
 mod refuted;
 mod steps;
 

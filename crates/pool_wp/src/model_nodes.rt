@@ -1,12 +1,13 @@
 // The nodes of a model's sentences.
 ghost use Rattle.std.specs.Prelude.{IfOk};
-ghost use Rattle.fol_pool.specs.Trees.{Grows};
+ghost use Rattle.fol_pool.specs.Trees.{IsAt, Grows, a_form};
 ghost use Rattle.fol_pool.specs.Rows.{AreForms};
+ghost use Rattle.rml_command.specs.Outcomes.{all_of};
 ghost use Rattle.pool_wp.specs.Standing.{AreNodesOf};
 
 use base::Mem;
 use fol_formula::Sentence;
-use fol_pool::{Node, Pool};
+use fol_pool::{Node, Pool, Shape};
 use rml_command::Model;
 use std::alloc::Global;
 
@@ -14,8 +15,11 @@ use std::alloc::Global;
 /// the model are made of them.
 #[derive(Drop)]
 pub struct ModelNodes {
-    pub(crate) axioms: Vec<Node>,
+    // The And of the axioms.
+    pub(crate) lawful: Node,
     pub(crate) conjectures: Vec<Node>,
+    // The And of the conjectures.
+    pub(crate) held: Node,
 }
 
 impl ModelNodes {
@@ -25,17 +29,30 @@ impl ModelNodes {
         ensures nodes { IfOk result (λ nodes. AreNodesOf model.now pool.new nodes) }
         ensures grows { Grows pool.old pool.new }
     {
-        let axioms = take_all(alloc, pool, model.axioms())?;
-        let conjectures = take_all(alloc, pool, model.conjectures())?;
+        let (_, lawful) = take_all(alloc, pool, model.axioms())?;
+        let (conjectures, held) = take_all(alloc, pool, model.conjectures())?;
         Ok(ModelNodes {
-            axioms,
+            lawful,
             conjectures,
+            held,
         })
     }
 }
 
+// The nodes of sentences, in order, and that of the And of all.
+fn take_all(alloc: Global, pool: &mut Pool, sentences: &[Sentence]) -> Mem<(Vec<Node>, Node)>
+    ensures nodes { IfOk result (λ taken. AreForms pool.new taken.0.items sentences.now) }
+    ensures all { IfOk result (λ taken. IsAt pool.new taken.1.0 (a_form (all_of sentences.now))) }
+    ensures grows { Grows pool.old pool.new }
+{
+    let nodes = take_each(alloc, pool, sentences)?;
+    let row = pool.row_of(&nodes)?;
+    let all = pool.add(Shape::And(row))?;
+    Ok((nodes, all))
+}
+
 // The nodes of sentences, in order.
-pub(crate) fn take_all(alloc: Global, pool: &mut Pool, sentences: &[Sentence]) -> Mem<Vec<Node>>
+fn take_each(alloc: Global, pool: &mut Pool, sentences: &[Sentence]) -> Mem<Vec<Node>>
     ensures nodes { IfOk result (λ nodes. AreForms pool.new nodes.items sentences.now) }
     ensures grows { Grows pool.old pool.new }
 {

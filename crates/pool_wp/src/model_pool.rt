@@ -1,22 +1,20 @@
 // The pool of a model.
-ghost use Rattle.std.specs.Prelude.{◌≡◌, false, IfOk, IfErr, OnOk, IsTrue};
+ghost use Rattle.std.specs.Prelude.{◌≡◌, [], false, take, IfOk, IfErr, OnOk, IsTrue};
 ghost use Rattle.base.specs.Because.{Because};
 ghost use Rattle.fol_pool.specs.Trees.{IsAt, a_form};
 ghost use Rattle.rml_command.specs.Models.{ModelTree};
 ghost use Rattle.rml_command.specs.Goals.{IsGoal};
-ghost use Rattle.rml_wp.specs.Preconditions.{answered, goal_passes_limit_by};
-ghost use Rattle.rml_wp.specs.Added.{refuting_all_by};
+ghost use Rattle.rml_wp.specs.Preconditions.{answered, goal_passes_limit};
+ghost use Rattle.rml_wp.specs.Added.{refuting_all};
 ghost use Rattle.pool_wp.specs.Sharing.{IsPoolOf};
 
 use crate::model_nodes::ModelNodes;
 use crate::refuted::refuting;
 use base::{Mem, Refused};
-use fol_formula::Sentence;
 use fol_pool::{Node, Pool};
 use fol_sig::Signature;
 use fol_subst::FormulaLimit;
 use rml_command::{Checked, Goal, Model};
-use rml_wp::Premises;
 use std::alloc::Global;
 
 /// A pool with the axioms and the conjectures of a model, which are taken in once. The sentence of each of its goals is
@@ -49,40 +47,31 @@ impl ModelPool {
     }
 
     /// The node of the sentence that a structure satisfies exactly where the goal has a counterexample from it, with
-    /// further sentences as parts behind its own, and the signature that it is over. It is refused where the
-    /// precondition is.
+    /// all axioms as premises behind each step, and the signature that it is over. It is refused where the precondition
+    /// is.
     pub fn refuting(
         &mut self,
         alloc: Global,
         checked: &Checked,
-        premises: Premises,
         goal: &Goal,
-        more: &[Sentence],
     ) -> Result<(Signature, Node), Refused<FormulaLimit>>
         requires shared { IsPoolOf checked.now self.old }
         requires goal { IsGoal checked.now goal.now }
         ensures signature { IfOk result (λ r. r.0 ≡ answered checked.now goal.now) }
         ensures node { IfOk result
             (λ r. IsAt self.new.pool r.1.0
-            (a_form (refuting_all_by premises checked.now checked.now.conjectures more.now goal.now))) }
-        ensures within { OnOk result (goal_passes_limit_by premises checked.now goal.now ≡ false) }
-        ensures limit { IfErr result (Because (λ _. IsTrue (goal_passes_limit_by premises checked.now goal.now))) }
+            (a_form (refuting_all checked.now checked.now.conjectures [] goal.now))) }
+        ensures within { OnOk result (goal_passes_limit checked.now goal.now ≡ false) }
+        ensures limit { IfErr result (Because (λ _. IsTrue (goal_passes_limit checked.now goal.now))) }
         ensures shared { IsPoolOf checked.now self.new }
     {
-        refuting(
-            alloc,
-            &mut self.pool,
-            &self.nodes,
-            checked,
-            premises,
-            goal,
-            more,
-        )
+        refuting(alloc, &mut self.pool, &self.nodes, checked, goal)
     }
 
     /// Forgets what was made of the model's sentences.
     pub fn forget(&mut self)
-        ensures { (m : ModelTree) → IsPoolOf m self.old → IsPoolOf m self.new }
+        ensures forgotten { self.new.pool ≡ take self.old.own self.old.pool }
+        ensures shared { (m : ModelTree) → IsPoolOf m self.old → IsPoolOf m self.new }
     {
         self.pool.truncate(self.own);
     }

@@ -9,6 +9,7 @@ ghost use Rattle.rml_command.specs.Models.{FitsPrimitive, FitsPath};
 ghost use Rattle.rml_command.specs.Fresh.{written, with_fresh};
 ghost use Rattle.rml_wp.specs.Laws.{HasTarget};
 ghost use Rattle.rml_wp.specs.Backward.{back_by};
+ghost use Rattle.rml_wp.specs.declared.premises.Premises.TheVariants.{All};
 ghost use Rattle.rml_wp.specs.Preconditions.{precondition_of, passes_limit, target_of, premises_of};
 ghost use Rattle.pool_wp.specs.Standing.{AreNodesOf};
 
@@ -19,7 +20,7 @@ use fol_pool::{Node, Pool, Shape};
 use fol_sig::Signature;
 use fol_subst::{FormulaLimit, MOST_DEPTH, MOST_NODES};
 use rml_command::{About, Model, Path, Primitive};
-use rml_wp::{Premises, fresh_before};
+use rml_wp::fresh_before;
 use std::alloc::Global;
 
 // The precondition of a path for what a goal is about, with its relation havocs written out as updates to the fresh
@@ -29,7 +30,6 @@ pub fn along(
     pool: &mut Pool,
     nodes: &ModelNodes,
     model: &Model,
-    premises: Premises,
     answered: &Signature,
     about: About,
     path: &Path,
@@ -40,15 +40,15 @@ pub fn along(
     requires answered { answered.now ≡ with_fresh model.now.signature path.now }
     ensures node { IfOk result
         (λ node. IsAt pool.new node.0
-        (a_form (precondition_of (symbols model.now.signature) (premises_of premises model.now.axioms)
+        (a_form (precondition_of (symbols model.now.signature) (premises_of All model.now.axioms)
         (target_of model.now about)
         (written (symbols model.now.signature) (length model.now.signature.relations) path.now)))) }
     ensures within { OnOk result
-        (passes_limit (symbols model.now.signature) (premises_of premises model.now.axioms) (target_of model.now about)
+        (passes_limit (symbols model.now.signature) (premises_of All model.now.axioms) (target_of model.now about)
         (written (symbols model.now.signature) (length model.now.signature.relations) path.now) ≡ false) }
     ensures limit { IfErr result
         (Because (λ _. IsTrue
-        (passes_limit (symbols model.now.signature) (premises_of premises model.now.axioms) (target_of model.now about)
+        (passes_limit (symbols model.now.signature) (premises_of All model.now.axioms) (target_of model.now about)
         (written (symbols model.now.signature) (length model.now.signature.relations) path.now)))) }
     ensures grows { Grows pool.old pool.new }
 {
@@ -61,7 +61,7 @@ pub fn along(
     let mut before = path.primitives();
     while let Some(primitive) = before.next_back() {
         fresh = fresh_before(primitive, fresh);
-        now = match step_within(alloc, pool, nodes, model, premises, primitive, fresh, now) {
+        now = match step_within(alloc, pool, nodes, model, primitive, fresh, now) {
             Ok(node) => node,
             Err(refused) => return Err(refused),
         };
@@ -107,7 +107,6 @@ fn step_within(
     pool: &mut Pool,
     nodes: &ModelNodes,
     model: &Model,
-    premises: Premises,
     primitive: &Primitive,
     fresh: u32,
     rest: Node,
@@ -118,20 +117,20 @@ fn step_within(
     ensures node { IfOk result
         (λ node. IsAt pool.new node.0
         (a_form (back_by (symbols model.now.signature) (symbols model.now.signature)
-        (premises_of premises model.now.axioms) fresh (primitive_view primitive.now) (form_at pool.old rest.0)))) }
+        (premises_of All model.now.axioms) fresh (primitive_view primitive.now) (form_at pool.old rest.0)))) }
     ensures within { OnOk result
         (is_too_large
         (back_by (symbols model.now.signature) (symbols model.now.signature)
-        (premises_of premises model.now.axioms) fresh (primitive_view primitive.now) (form_at pool.old rest.0))
+        (premises_of All model.now.axioms) fresh (primitive_view primitive.now) (form_at pool.old rest.0))
         ≡ false) }
     ensures limit { IfErr result
         (Because (λ _. IsTrue
         (is_too_large
         (back_by (symbols model.now.signature) (symbols model.now.signature)
-        (premises_of premises model.now.axioms) fresh (primitive_view primitive.now) (form_at pool.old rest.0))))) }
+        (premises_of All model.now.axioms) fresh (primitive_view primitive.now) (form_at pool.old rest.0))))) }
     ensures grows { Grows pool.old pool.new }
 {
-    let node = step_back(alloc, pool, nodes, model, premises, primitive, fresh, rest)?;
+    let node = step_back(alloc, pool, nodes, model, primitive, fresh, rest)?;
     let within = within_limit(pool, node)?;
     Ok(within)
 }

@@ -11,7 +11,6 @@ use fol_sig::Signature;
 use pool_size::{GroundSize, ground_size};
 use pool_wp::ModelPool;
 use rml_command::{About, Checked, Goal, Stage};
-use rml_wp::Premises;
 use std::alloc::{AllocError, Global};
 
 /// The goal of a model's first action, its first path and its first conjecture, if the model has it.
@@ -36,7 +35,7 @@ pub fn size_of_goal(alloc: Global, model: &Checked, goal: &Goal) -> Mem<String>
 {
     let mut shared = ModelPool::new(alloc, model.model())?;
     let own = shared.pool().len();
-    match shared.refuting(alloc, model, Premises::All, goal, &[]) {
+    match shared.refuting(alloc, model, goal) {
         Ok((answered, node)) => {
             let pool = shared.pool();
             let found = measured(alloc, pool, model, goal, &answered, node)?;

@@ -4,6 +4,7 @@ use Rattle.base.specs.Because.{Because}
 use Rattle.fol_pool.specs.Trees.{a_form}
 use Rattle.rml_command.specs.Fresh.{with_fresh}
 use Rattle.rml_command.specs.Models.{ModelTree}
+use Rattle.rml_wp.specs.declared.premises.Premises.TheVariants.{All}
 use Rattle.rml_wp.specs.Preconditions.{path_or_none}
 use Rattle.pool_wp.proofs.Backward.{goal_tree, goal_limit}
 use Rattle.pool_wp.proofs.goal.precondition.Goals as goal
@@ -18,18 +19,18 @@ pub returns-in-Ok-clause-node : goal.returns-in-Ok-clause-node
 returns-in-Ok-clause-node c =
     let there = c.in-Ok.ensures.node in (
       there.0,
-      there.1 ∙ ap a_form (goal_tree c.args.premises c.model-model.result.now c.args.checked.now c.args.goal.now
+      there.1 ∙ ap a_form (goal_tree All c.model-model.result.now c.args.checked.now c.args.goal.now
           c.path-path.result c.model-model.ensures.value (sym (ap path_or_none c.path-path.ensures.path))),
     )
 
 pub returns-in-Ok-clause-within : goal.returns-in-Ok-clause-within
 returns-in-Ok-clause-within c =
-    sym (goal_limit c.args.premises c.model-model.result.now c.args.checked.now c.args.goal.now c.path-path.result
+    sym (goal_limit All c.model-model.result.now c.args.checked.now c.args.goal.now c.path-path.result
     c.model-model.ensures.value (sym (ap path_or_none c.path-path.ensures.path)))
     ∙ c.in-Ok.ensures.within
 
 pub returns-in-Err-clause-limit : goal.returns-in-Err-clause-limit
 returns-in-Err-clause-limit c =
     subst (λ (b : Bool). Because (λ _. IsTrue b) c.in-Err.refused)
-    (goal_limit c.args.premises c.model-model.result.now c.args.checked.now c.args.goal.now c.path-path.result
+    (goal_limit All c.model-model.result.now c.args.checked.now c.args.goal.now c.path-path.result
     c.model-model.ensures.value (sym (ap path_or_none c.path-path.ensures.path))) c.in-Err.ensures.limit

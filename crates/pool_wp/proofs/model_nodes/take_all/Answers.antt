@@ -1,27 +1,27 @@
-use Rattle.std.proofs.Common.{◌++◌, ◌∷◌, [], take, sym, ap, ◌∙◌, subst}
-use Rattle.std.proofs.lemmas.List.{take_more}
-use Rattle.fol_formula.specs.Syntax.{FormTree}
-use Rattle.fol_pool.specs.Trees.{IsAt, a_form}
+use Rattle.std.proofs.Common.{List, ap, ◌∙◌}
+use Rattle.fol_formula.specs.Syntax.{FormTree, conjunction, forms_of}
+use Rattle.fol_pool.specs.Trees.{Tree, a_form, as_formulas}
 use Rattle.fol_pool.specs.Growing.{grows_on}
-use Rattle.fol_pool.specs.Rows.{forms_stay, forms_push}
+use Rattle.fol_pool.specs.Rows.{forms_stay, lent_formulas, lent_forms}
 use Rattle.pool_wp.proofs.model_nodes.take_all.Goals as goal
 
-pub loop-sentence-preserved : goal.loop-sentence-preserved
-loop-sentence-preserved c =
-    let old = c.loop-sentence.pool in
-    let new = c.take_in.new.self in
-    let i = c.loop-sentence.sentence-index in
-    let ps = c.args.sentences.now in
-    let p = c.sentence-item.result in
-    let nodes = c.loop-sentence.nodes.items in
-    let h = c.loop-sentence.invariant in
-    let node = c.in_ok-node.node in
-    let taken = subst (λ (q : FormTree). IsAt new node.0 (a_form q)) c.formula.ensures.value
-    c.in_ok-node.ensures.node in
-    let stood = forms_stay old new c.take_in.ensures.grows nodes (take i ps) h.stand in
-    let more = take_more ps i p c.loop-sentence-test.true
-    ∙ ap (λ (q : FormTree). take i ps ++ q ∷ []) (sym c.sentence-item.is) in
-    record {
-      grows = grows_on c.args.pool.now old new h.grows c.take_in.ensures.grows;
-      stand = rw c.in_ok-push.ensures.items (rw more (forms_push new nodes (take i ps) node p stood taken));
-    }
+pub row_of-requires : goal.row_of-requires
+row_of-requires c =
+    lent_forms c.take_each.new.pool c.in_ok-nodes.nodes.items c.deref.result.now c.args.sentences.now
+    c.in_ok-nodes.ensures.nodes c.deref.ensures.value
+
+pub returns-clause-nodes : goal.returns-clause-nodes
+returns-clause-nodes c =
+    forms_stay c.take_each.new.pool c.add.new.self
+    (grows_on c.take_each.new.pool c.row_of.new.self c.add.new.self c.row_of.ensures.grows c.add.ensures.grows)
+    c.in_ok-nodes.nodes.items c.args.sentences.now c.in_ok-nodes.ensures.nodes
+
+pub returns-clause-all : goal.returns-clause-all
+returns-clause-all c = (
+  c.in_ok-all.ensures.node.0,
+  c.in_ok-all.ensures.node.1
+      ∙ ap (λ (t : Tree). a_form (conjunction (as_formulas t))) c.in_ok-row.ensures.node.1
+      ∙ ap (λ (ps : List FormTree). a_form (conjunction (forms_of ps)))
+      (lent_formulas c.take_each.new.pool c.in_ok-nodes.nodes.items c.deref.result.now c.args.sentences.now
+      c.in_ok-nodes.ensures.nodes c.deref.ensures.value),
+)

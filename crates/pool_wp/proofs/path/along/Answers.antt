@@ -6,6 +6,7 @@ use Rattle.fol_pool.specs.Trees.{HasForm, a_form, as_formula, form_at}
 use Rattle.fol_pool.specs.Growing.{grows_on, is_form}
 use Rattle.fol_pool.specs.declared.shape.Node.{Node}
 use Rattle.rml_command.specs.View.{primitive}
+use Rattle.rml_wp.specs.declared.premises.Premises.TheVariants.{All}
 use Rattle.rml_wp.specs.Preconditions.{target_of, premises_of}
 use Rattle.rml_wp.specs.Written.{first_count}
 use Rattle.rml_wp.specs.Backward.{at_end, stops_at_end, at_start, within_limit, room, step_fits, stops_at, goes_back}
@@ -16,7 +17,7 @@ pub returns-in-Err-clause-limit : goal.returns-in-Err-clause-limit
 returns-in-Err-clause-limit c =
     let m = c.args.model.now in
     let sig = symbols m.signature in
-    stops_at_end sig sig (premises_of c.args.premises m.axioms) (target_of m c.args.about)
+    stops_at_end sig sig (premises_of All m.axioms) (target_of m c.args.about)
     (length m.signature.relations) (form_at c.target.new.pool c.in_ok-target.target.0) c.args.path.now
     c.in-Err.refused (ap as_formula c.in_ok-target.ensures.node.1) c.in-Err.ensures.limit
 
@@ -33,7 +34,7 @@ loop-primitive-init c =
     record {
       grows = c.target.ensures.grows;
       there = subst (λ (k : Node). HasForm ts k.0) (sym same) (is_form ts n.0 (target_of m c.args.about) there);
-      back = at_end sig sig (premises_of c.args.premises m.axioms) (target_of m c.args.about)
+      back = at_end sig sig (premises_of All m.axioms) (target_of m c.args.about)
           (length m.signature.relations) path before c.relation_count-fresh.result (form_at ts c.in-Ok.node.0)
           c.primitives-before.ensures
           (first_count m.signature path before c.relation_count-fresh.result c.primitives-before.ensures
@@ -47,7 +48,7 @@ fresh_before-fresh-requires c =
     let m = c.args.model.now in
     let sig = symbols m.signature in
     let l = c.loop-primitive in
-    room sig sig (premises_of c.args.premises m.axioms) (target_of m c.args.about) (length m.signature.relations)
+    room sig sig (premises_of All m.axioms) (target_of m c.args.about) (length m.signature.relations)
     c.args.path.now l.before c.next_back.new.self (primitive c.in-Some.primitive.now) l.fresh (form_at l.pool l.now.0)
     c.in-Some.ensures.steps l.invariant.back
 
@@ -61,7 +62,7 @@ step_within-requires-clause-primitive c =
     let m = c.args.model.now in
     let sig = symbols m.signature in
     let l = c.loop-primitive in
-    step_fits sig sig (premises_of c.args.premises m.axioms) (target_of m c.args.about) (length m.signature.relations)
+    step_fits sig sig (premises_of All m.axioms) (target_of m c.args.about) (length m.signature.relations)
     c.args.path.now l.before c.next_back.new.self (primitive c.in-Some.primitive.now) l.fresh (form_at l.pool l.now.0)
     c.in-Some.ensures.steps l.invariant.back c.requires.path
 
@@ -70,7 +71,7 @@ returns-in-Err-step_within-clause-limit c =
     let m = c.args.model.now in
     let sig = symbols m.signature in
     let l = c.loop-primitive in
-    stops_at sig sig (premises_of c.args.premises m.axioms) (target_of m c.args.about) (length m.signature.relations)
+    stops_at sig sig (premises_of All m.axioms) (target_of m c.args.about) (length m.signature.relations)
     c.args.path.now l.before c.next_back.new.self (primitive c.in-Some.primitive.now) l.fresh (form_at l.pool l.now.0)
     c.in-Some.ensures.steps l.invariant.back c.fresh_before-fresh.result c.fresh_before-fresh.ensures
     c.in-Err-step_within.refused c.in-Err-step_within.ensures.limit
@@ -87,7 +88,7 @@ loop-primitive-preserved c =
     record {
       grows = grows_on c.args.pool.now l.pool new l.invariant.grows c.step_within.ensures.grows;
       there = is_form new next _ made;
-      back = goes_back sig sig (premises_of c.args.premises m.axioms) (target_of m c.args.about)
+      back = goes_back sig sig (premises_of All m.axioms) (target_of m c.args.about)
           (length m.signature.relations) c.args.path.now l.before c.next_back.new.self
           (primitive c.in-Some.primitive.now) l.fresh (form_at l.pool l.now.0) c.in-Some.ensures.steps
           l.invariant.back c.fresh_before-fresh.result c.fresh_before-fresh.ensures (form_at new next) is
@@ -101,7 +102,7 @@ returns-clause-node c =
     let l = c.loop-primitive in (
       l.invariant.there.0,
       l.invariant.there.1
-          ∙ ap a_form (at_start sig sig (premises_of c.args.premises m.axioms) (target_of m c.args.about)
+          ∙ ap a_form (at_start sig sig (premises_of All m.axioms) (target_of m c.args.about)
           (length m.signature.relations) c.args.path.now l.before l.fresh (form_at l.pool l.now.0)
           c.in_default.ensures.steps.0 l.invariant.back),
     )
@@ -111,6 +112,6 @@ returns-clause-within c =
     let m = c.args.model.now in
     let sig = symbols m.signature in
     let l = c.loop-primitive in
-    within_limit sig sig (premises_of c.args.premises m.axioms) (target_of m c.args.about)
+    within_limit sig sig (premises_of All m.axioms) (target_of m c.args.about)
     (length m.signature.relations) c.args.path.now l.before l.fresh (form_at l.pool l.now.0)
     c.in_default.ensures.steps.0 l.invariant.back

@@ -1,7 +1,7 @@
 use Rattle.std.proofs.Common.{take}
 use Rattle.fol_pool.specs.Trees.{Grows}
 use Rattle.fol_pool.specs.Rows.{AreForms}
-use Rattle.pool_wp.proofs.model_nodes.take_all.Given as goal
+use Rattle.pool_wp.proofs.model_nodes.take_each.Given as goal
 
 abbrev pub invariant-loop-sentence : goal.invariant-loop-sentence
 invariant-loop-sentence l = record {
