@@ -3,8 +3,10 @@ ghost use Rattle.std.specs.Prelude.{◌≡◌, IfOk};
 ghost use Rattle.fol_formula.specs.View.{form};
 ghost use Rattle.show_replacing.specs.Samples.{one_relation, two_constants};
 
+use crate::pooled::tell_node;
 use base::Mem;
 use fol_formula::{Formula, Normal, Sentence, Term};
+use fol_pool::Pool;
 use fol_sig::{RelId, Signature, Sort, Sorts};
 use skolem::constants;
 use std::alloc::Global;
@@ -57,9 +59,37 @@ fn tell_made<R: Print>(rt: &R, alloc: Global, signature: &Signature) -> io::Resu
     told
 }
 
+// The same in a pool.
+fn tell_pooled<R: Print>(
+    rt: &R,
+    alloc: Global,
+    signature: &Signature,
+    pool: &mut Pool,
+) -> io::Result<()>
+    requires { signature.now ≡ one_relation }
+{
+    let sentence = sentence(alloc)?;
+    let taken = pool.take_in(&sentence);
+    drop(sentence);
+    let made = pool_skolem::constants(alloc, pool, signature, taken?)?;
+    let told = tell_node(rt, alloc, "constants", pool, made.sentence);
+    drop(made);
+    told
+}
+
+fn tell_both<R: Print>(rt: &R, alloc: Global, signature: &Signature) -> io::Result<()>
+    requires { signature.now ≡ one_relation }
+{
+    tell_made(rt, alloc, signature)?;
+    let mut pool = Pool::new(alloc);
+    let told = tell_pooled(rt, alloc, signature, &mut pool);
+    drop(pool);
+    told
+}
+
 pub fn tell<R: Print>(rt: &R, alloc: Global) -> io::Result<()> {
     let signature = signature(alloc)?;
-    let told = tell_made(rt, alloc, &signature);
+    let told = tell_both(rt, alloc, &signature);
     drop(signature);
     told
 }

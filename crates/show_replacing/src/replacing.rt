@@ -12,14 +12,14 @@ use std::io;
 
 const SORT: Sort = Sort(0);
 
-const R: RelId = RelId(0);
+pub const R: RelId = RelId(0);
 
-const V: FunId = FunId(0);
+pub const V: FunId = FunId(0);
 
-const F: FunId = FunId(1);
+pub const F: FunId = FunId(1);
 
 // r(x) or x = v, for the nearest variable x
-fn grown(alloc: Global) -> Mem<Formula>
+pub fn grown(alloc: Global) -> Mem<Formula>
     ensures { IfOk result (λ p. form p ≡ grown) }
 {
     let mut args = Vec::new(alloc);
@@ -31,7 +31,7 @@ fn grown(alloc: Global) -> Mem<Formula>
 }
 
 // forall x. exists x. r(x) or x = v
-fn shadowed(alloc: Global) -> Mem<Formula>
+pub fn shadowed(alloc: Global) -> Mem<Formula>
     ensures { IfOk result (λ p. form p ≡ shadowed) }
 {
     let inner = Box::new(alloc, grown(alloc)?)?;
@@ -40,7 +40,7 @@ fn shadowed(alloc: Global) -> Mem<Formula>
 }
 
 // f(x)
-fn image(alloc: Global) -> Mem<Term>
+pub fn image(alloc: Global) -> Mem<Term>
     ensures { IfOk result (λ t. term_view t ≡ image) }
 {
     let mut args = Vec::new(alloc);
@@ -49,14 +49,14 @@ fn image(alloc: Global) -> Mem<Term>
 }
 
 // f(x) = x
-fn fixed_point(alloc: Global) -> Mem<Formula>
+pub fn fixed_point(alloc: Global) -> Mem<Formula>
     ensures { IfOk result (λ p. form p ≡ fixed_point) }
 {
     Ok(Formula::Eq(image(alloc)?, Term::Bound(0)))
 }
 
 // f(f(x))
-fn twice(alloc: Global) -> Mem<Term>
+pub fn twice(alloc: Global) -> Mem<Term>
     ensures { IfOk result (λ t. term_view t ≡ image_twice) }
 {
     let mut args = Vec::new(alloc);
