@@ -388,6 +388,8 @@ expect 'times: where nothing was proved it says so' ended 1
 mkdir -p "$room/no_tree"
 bench lay.py "$room/no_tree"
 expect 'lay: a folder that is no tree, or a kit that keeps nothing' ended 2
+bench keep.py prove base
+expect 'keep: a folder that is no tree, or a kit that keeps by itself' ended 2
 echo 'rt: low proved' >"$room/no_log"
 bench plant.py "$room/no_log"
 expect 'plant: a log without a proof of the crate' said 'has no proof of'
