@@ -221,6 +221,11 @@ def standing(file):
     return {(crate, "proofs"): float(took) * 60 for crate, took in rows}
 
 
+def runs_of(file):
+    """Gives the lines of the page as it stands that tell of runs, at most the last ten runs."""
+    return [line for run in re.findall(r"^- .*(?:\n  .*)*", text_of(file), re.M)[-10:] for line in run.split("\n")]
+
+
 def table(costs, marked):
     """Gives the rows, and their sums."""
     yield "| Crate | src | specs | proofs | proofs, min | tests, min | edits | edits, min |"
@@ -241,17 +246,17 @@ def wrapped(text):
     return textwrap.wrap(text, 120, subsequent_indent="  " if text.startswith("- ") else "", break_on_hyphens=False)
 
 
-def page(runs, before):
-    """Gives the lines of the page, with what stood before where no run saw a crate's proofs."""
+def page(runs, before, earlier):
+    """Gives the lines of the page. Where no run saw a crate's proofs it has what stood there, and the runs of that."""
     costs, marked = merged(runs, sums(HERE))
     marked |= {key[0] for key in before if key not in costs}
     costs = before | costs
     yield "# What the gate costs"
     yield ""
-    yield from wrapped("Written whole by `bench/gate.py`, from runs of `rt ci` that it watched: lines of text, "
-                       "must-fail edits, and processor minutes of each crate's proofs, of its proofs with tests, and "
-                       "of its edits with the check that they begin with. Processor time goes up with the load: on "
-                       "processors that were busy, times are up to twice those on quiet ones.")
+    yield from wrapped("Written whole by `bench/gate.py`, from runs of `rt ci` or `bench/keep.py` that it watched: "
+                       "lines of text, must-fail edits, and processor minutes of each crate's proofs, of its proofs "
+                       "with tests, and of its edits with the check that they begin with. Processor time goes up with "
+                       "the load: on processors that were busy, times are up to twice those on quiet ones.")
     yield ""
     for run in runs:
         kept = f" Taken from earlier runs, so without time here: {len(run['kept'])} crates and sets of edits."
@@ -266,12 +271,14 @@ def page(runs, before):
     if marked:
         yield ""
         yield "With `*`: figures of an earlier text of the crate or of one below it, or of an earlier page."
+    if marked and earlier:
+        yield from ["", "Earlier pages were made of:", "", *earlier]
     yield ""
     yield from table(costs, marked)
 
 
 def put_page(file, runs):
-    lines = list(page(runs, standing(file)))
+    lines = list(page(runs, standing(file), runs_of(file)))
     with open(file, "w") as out:
         out.write("\n".join(lines) + "\n")
     print(f"gate.py: wrote {file}", file=sys.stderr)
