@@ -16,7 +16,7 @@ impl Term {
             Term::Bound(i) => Term::Bound(*i),
             Term::App(f, args) => Term::App(*f, copy_terms(alloc, args)?),
             Term::Ite(p, a, b) => Term::Ite(
-                Box::new(alloc, p.copy(alloc)?)?,
+                boxed_copy(alloc, p)?,
                 Box::new(alloc, a.copy(alloc)?)?,
                 Box::new(alloc, b.copy(alloc)?)?,
             ),
@@ -35,21 +35,29 @@ impl Formula {
             Formula::False => Formula::False,
             Formula::Rel(r, args) => Formula::Rel(*r, copy_terms(alloc, args)?),
             Formula::Eq(a, b) => Formula::Eq(a.copy(alloc)?, b.copy(alloc)?),
-            Formula::Not(p) => Formula::Not(Box::new(alloc, p.copy(alloc)?)?),
+            Formula::Not(p) => Formula::Not(boxed_copy(alloc, p)?),
             Formula::And(ps) => Formula::And(copy_formulas(alloc, ps)?),
             Formula::Or(ps) => Formula::Or(copy_formulas(alloc, ps)?),
             Formula::Implies(p, q) => Formula::Implies(
-                Box::new(alloc, p.copy(alloc)?)?,
-                Box::new(alloc, q.copy(alloc)?)?,
+                boxed_copy(alloc, p)?,
+                boxed_copy(alloc, q)?,
             ),
-            Formula::Iff(p, q) => Formula::Iff(
-                Box::new(alloc, p.copy(alloc)?)?,
-                Box::new(alloc, q.copy(alloc)?)?,
-            ),
-            Formula::Forall(k, p) => Formula::Forall(*k, Box::new(alloc, p.copy(alloc)?)?),
-            Formula::Exists(k, p) => Formula::Exists(*k, Box::new(alloc, p.copy(alloc)?)?),
+            Formula::Iff(p, q) => Formula::Iff(boxed_copy(alloc, p)?, boxed_copy(alloc, q)?),
+            Formula::Forall(k, p) => Formula::Forall(*k, boxed_copy(alloc, p)?),
+            Formula::Exists(k, p) => Formula::Exists(*k, boxed_copy(alloc, p)?),
         })
     }
+}
+
+// A copy of a formula that stands below another one. It stands apart so that a copy has less room to clear.
+#[cycle(copy)]
+#[inline(never)]
+fn boxed_copy(alloc: Global, p: &Formula) -> Mem<Box<Formula>>
+    ensures { IfOk result (λ b. form b.value ≡ form p.now) }
+{
+    let copy = p.copy(alloc)?;
+    let boxed = Box::new(alloc, copy)?;
+    Ok(boxed)
 }
 
 /// A copy of each term.

@@ -1,21 +1,23 @@
 // Along the formula: negations are pushed down to the atoms, and each atom becomes the Or over its
 // leaves. An atom without `Ite` has one leaf and is copied.
 //
-// Few atoms have an `Ite`. What makes the leaves of these is kept out of line, here and in `join`, so that a compiler
-// cannot make the walk larger by it. The three kilobytes that the walk takes at each entry are those of its own arms.
+// A function clears, at each entry, room for what each of its `?` hands on. Most formulas on the walk are plain atoms,
+// negations and rows, so what others need is kept out of line, here and in `join`: formulas with two sides, and the
+// leaves of the few atoms that have an `Ite`.
 ghost use Rattle.std.specs.Prelude.{◌≡◌, IfOk, map};
 ghost use Rattle.fol_formula.specs.View.{form, forms, term as term_view, terms as terms_view};
 ghost use Rattle.fol_formula.specs.NormalForms.{both};
 ghost use Rattle.fol_nnf.specs.Normal.{constant, gathered, quantified, two, normal, normals, leaves, leaves_of_terms};
+ghost use Rattle.fol_nnf.specs.Normal.{made, one_of, relation_literal};
 ghost use Rattle.fol_formula.specs.Fragments.{IsNormalForm};
-ghost use Rattle.fol_nnf.specs.Atoms.{IsAtom};
+ghost use Rattle.fol_nnf.specs.Atoms.{IsAtom, HasTwoSides};
 ghost use Rattle.fol_nnf.specs.Leaves.{term_leaf, terms_leaf};
 
 use crate::join::{applications, joined_equations, joined_terms, one_of, push_given, relations};
 use crate::leaf::{TermLeaf, TermsLeaf, literal};
 use base::Mem;
 use fol_formula::{Formula, Term};
-use fol_sig::Sort;
+use fol_sig::{RelId, Sort};
 use std::alloc::Global;
 
 fn constant(positive: bool) -> Formula
@@ -77,6 +79,17 @@ fn plain_literal(alloc: Global, positive: bool, atom: &Formula) -> Mem<Formula>
     Ok(formula)
 }
 
+// The Or over the leaves of a relation's arguments.
+#[inline(never)]
+fn relation_of(alloc: Global, positive: bool, rel: RelId, leaves: Vec<TermsLeaf>) -> Mem<Formula>
+    ensures { IfOk result
+        (λ f. form f ≡ one_of (map (made (relation_literal positive rel.0)) (map terms_leaf leaves.items))) }
+{
+    let literals = relations(alloc, positive, rel, leaves)?;
+    let formula = one_of(alloc, literals)?;
+    Ok(formula)
+}
+
 /// The normal form of a formula, or of its negation.
 #[cycle(normal)]
 pub fn normal_formula(alloc: Global, p: &Formula, positive: bool) -> Mem<Formula>
@@ -87,29 +100,18 @@ pub fn normal_formula(alloc: Global, p: &Formula, positive: bool) -> Mem<Formula
         Formula::False => Ok(constant(!positive)),
         Formula::Rel(r, args) => {
             if p.is_normal_form() {
-                let formula = plain_literal(alloc, positive, p)?;
-                return Ok(formula);
+                return plain_literal(alloc, positive, p);
             }
             let leaves = leaves_of_all(alloc, args)?;
-            let literals = relations(alloc, positive, *r, leaves)?;
-            let formula = one_of(alloc, literals)?;
-            Ok(formula)
+            relation_of(alloc, positive, *r, leaves)
         }
-        Formula::Eq(a, b) => {
+        Formula::Eq(_, _) => {
             if p.is_normal_form() {
-                let formula = plain_literal(alloc, positive, p)?;
-                return Ok(formula);
+                return plain_literal(alloc, positive, p);
             }
-            let a = leaves_of(alloc, a)?;
-            let b = leaves_of(alloc, b)?;
-            let literals = joined_equations(alloc, positive, &a, &b)?;
-            let formula = one_of(alloc, literals)?;
-            Ok(formula)
+            normal_sides(alloc, p, positive)
         }
-        Formula::Not(p) => {
-            let formula = normal_formula(alloc, p, !positive)?;
-            Ok(formula)
-        }
+        Formula::Not(p) => normal_formula(alloc, p, !positive),
         Formula::And(ps) => {
             let parts = normal_formulas(alloc, ps, positive)?;
             Ok(gathered(positive, parts))
@@ -117,6 +119,34 @@ pub fn normal_formula(alloc: Global, p: &Formula, positive: bool) -> Mem<Formula
         Formula::Or(ps) => {
             let parts = normal_formulas(alloc, ps, positive)?;
             Ok(gathered(!positive, parts))
+        }
+        Formula::Implies(_, _) => normal_sides(alloc, p, positive),
+        Formula::Iff(_, _) => normal_sides(alloc, p, positive),
+        Formula::Forall(k, p) => {
+            let body = normal_formula(alloc, p, positive)?;
+            quantified(alloc, positive, *k, body)
+        }
+        Formula::Exists(k, p) => {
+            let body = normal_formula(alloc, p, positive)?;
+            quantified(alloc, !positive, *k, body)
+        }
+    }
+}
+
+// The same of a formula with two sides.
+#[cycle(normal)]
+#[inline(never)]
+fn normal_sides(alloc: Global, p: &Formula, positive: bool) -> Mem<Formula>
+    requires { HasTwoSides (form p.now) }
+    ensures { IfOk result (λ f. form f ≡ normal positive (form p.now)) }
+{
+    match p {
+        Formula::Eq(a, b) => {
+            let a = leaves_of(alloc, a)?;
+            let b = leaves_of(alloc, b)?;
+            let literals = joined_equations(alloc, positive, &a, &b)?;
+            let formula = one_of(alloc, literals)?;
+            Ok(formula)
         }
         Formula::Implies(p, q) => {
             let p = normal_formula(alloc, p, !positive)?;
@@ -134,16 +164,7 @@ pub fn normal_formula(alloc: Global, p: &Formula, positive: bool) -> Mem<Formula
             let parts = two(alloc, left, right)?;
             Ok(Formula::Or(parts))
         }
-        Formula::Forall(k, p) => {
-            let body = normal_formula(alloc, p, positive)?;
-            let formula = quantified(alloc, positive, *k, body)?;
-            Ok(formula)
-        }
-        Formula::Exists(k, p) => {
-            let body = normal_formula(alloc, p, positive)?;
-            let formula = quantified(alloc, !positive, *k, body)?;
-            Ok(formula)
-        }
+        _ => unreachable!(),
     }
 }
 
