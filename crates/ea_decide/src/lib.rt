@@ -18,5 +18,5 @@ mod writing;
 pub use decided::{Clauses, Decided, Measured, Passed, Proof};
 pub use deciding::decide;
 pub use laws::{clauses_law, elements_law, exactness_law, passing_law, size_law};
-pub use measuring::{measure, measure_node, measure_parts};
+pub use measuring::{measure, measure_parts, measure_size};
 pub use writing::clauses_of;

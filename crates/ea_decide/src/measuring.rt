@@ -7,19 +7,18 @@ ghost use Rattle.fol_formula.specs.Syntax.{FormTree};
 ghost use Rattle.fol_formula.specs.Counts.{saturated};
 ghost use Rattle.fol_formula.specs.Fits.{FitsForm};
 ghost use Rattle.fol_formula.specs.Fragments.{IsEa};
-ghost use Rattle.fol_pool.specs.Trees.{HasForm, form_at};
 ghost use Rattle.ground_size.specs.Conjoined.{and_of};
 ghost use Rattle.ground_size.specs.Counting.{AreTermCounts};
 ghost use Rattle.ground_size.specs.Sizes.{size_of};
+ghost use Rattle.ground_size.specs.Found.{IsGroundSize};
 ghost use Rattle.ea_decide.specs.Passing.{ceilings};
 ghost use Rattle.ea_decide.specs.Measuring.{IsMeasured};
 
 use crate::decided::{Measured, Passed};
 use base::Mem;
 use fol_formula::Ea;
-use fol_pool::{Node, Pool};
 use fol_sig::{Signature, Strata};
-use ground_size::{Part, count, count_parts, ground_size, ground_size_of_parts};
+use ground_size::{GroundSize, Part, count, count_parts, ground_size, ground_size_of_parts};
 use lrat_log::Limits;
 use std::alloc::Global;
 
@@ -59,23 +58,12 @@ pub fn measure_parts(
     Ok(measured(counts.total(), size, limits))
 }
 
-/// The same of the sentence at a node of a pool: a part that stands in many places is counted once.
-pub fn measure_node(
-    alloc: Global,
-    signature: &Signature,
-    strata: &Strata,
-    pool: &Pool,
-    sentence: Node,
-    limits: &Limits,
-) -> Mem<Measured>
-    requires strata { IsStrata (symbols signature.now) strata.now }
-    requires sentence { HasForm pool.now sentence.0 }
-    requires fragment { IsEa (form_at pool.now sentence.0) }
-    requires fits { FitsForm (symbols signature.now) [] (form_at pool.now sentence.0) }
-    ensures { IfOk result (IsMeasured (ceilings limits.now) signature.now (form_at pool.now sentence.0)) }
+/// The same of a sentence whose ground formulas are counted.
+pub fn measure_size(found: GroundSize, limits: &Limits) -> Measured
+    ensures { (sig : Declared) (p : FormTree) → IsGroundSize sig p found
+        → IsMeasured (ceilings limits.now) sig p result }
 {
-    let found = pool_size::ground_size(alloc, signature, strata, pool, sentence)?;
-    Ok(measured(found.terms, found.size, limits))
+    measured(found.terms, found.size, limits)
 }
 
 // What is told of so many ground terms and ground formulas of this size.

@@ -2,13 +2,16 @@
 // is copied.
 ghost use Rattle.std.specs.Prelude.{◌≡◌, [], false, IfOk};
 ghost use Rattle.std.specs.List.{AllByRecursion};
+ghost use Rattle.fol_sig.specs.Tables.{Declared};
 ghost use Rattle.fol_sig.specs.Symbols.{symbols};
+ghost use Rattle.fol_formula.specs.Syntax.{FormTree};
 ghost use Rattle.fol_formula.specs.Fits.{FitsForm};
 ghost use Rattle.fol_formula.specs.Fragments.{IsEa};
 ghost use Rattle.fol_pool.specs.Trees.{IsAt, a_form};
 ghost use Rattle.rml_command.specs.Goals.{IsGoal};
 ghost use Rattle.rml_wp.specs.Preconditions.{answered as answered_of, goal_precondition, goal_passes_limit};
 ghost use Rattle.rml_wp.specs.Added.{refuting_all};
+ghost use Rattle.ground_size.specs.Found.{IsGroundSize};
 ghost use Rattle.pool_wp.specs.Sharing.{IsPoolOf};
 ghost use Rattle.ground_size.specs.Conjoined.{forms_at};
 ghost use Rattle.ea_decide.specs.Passing.{ceilings};
@@ -17,11 +20,11 @@ ghost use Rattle.obligation_decide.specs.Costs.{IsSentenceMeasured, IsRestricted
 use crate::cause_of;
 use crate::decision::Measured;
 use base::{Mem, Refused};
-use ea_decide::{measure_node, measure_parts};
+use ea_decide::{measure_parts, measure_size};
 use fol_formula::{Ae, Sentence};
-use fol_pool::{Node, Pool};
+use fol_pool::Node;
 use fol_sig::Signature;
-use ground_size::Part;
+use ground_size::{GroundSize, Part};
 use lrat_log::Limits;
 use pool_wp::ModelPool;
 use rml_command::{Checked, Goal, Stage};
@@ -65,38 +68,47 @@ fn measure_in(
 {
     match shared.refuting(alloc, checked, goal) {
         Ok((answered, sentence)) => {
-            let pool = shared.pool();
-            let measured = measure_shared(alloc, checked, goal, &answered, pool, sentence, limits)?;
-            Ok(measured)
+            let found = counted(alloc, shared, checked, goal, &answered, sentence)?;
+            Ok(measured(found, limits))
         }
         Err(Refused::NoMemory) => Err(AllocError),
         Err(Refused::For(_)) => Ok(Measured::Over(Cause::Formula)),
     }
 }
 
-// By the node of its refuting sentence.
-fn measure_shared(
+// How large the ground formulas of its refuting sentence are, which stands at this node.
+fn counted(
     alloc: Global,
+    shared: &mut ModelPool,
     checked: &Checked,
     goal: &Goal,
     answered: &Signature,
-    pool: &Pool,
     sentence: Node,
-    limits: &Limits,
-) -> Mem<Measured>
+) -> Mem<GroundSize>
+    requires shared { IsPoolOf checked.now shared.old }
     requires goal { IsGoal checked.now goal.now }
     requires answered { answered.now ≡ answered_of checked.now goal.now }
-    requires sentence { IsAt pool.now sentence.0
+    requires sentence { IsAt shared.old.pool sentence.0
         (a_form (refuting_all checked.now checked.now.conjectures [] goal.now)) }
-    ensures { IfOk result (IsSentenceMeasured (ceilings limits.now) answered.now
-        (refuting_all checked.now checked.now.conjectures [] goal.now)) }
+    ensures size { IfOk result
+        (IsGroundSize answered.now (refuting_all checked.now checked.now.conjectures [] goal.now)) }
+    ensures shared { IsPoolOf checked.now shared.new }
 {
     rml_wp::sentence_law();
     rml_wp::answered_goal(checked, goal);
     let _model = checked.model();
-    match measure_node(alloc, answered, checked.strata(), pool, sentence, limits)? {
-        ea_decide::Measured::Within(size) => Ok(Measured::Within(size)),
-        ea_decide::Measured::Over(passed) => Ok(Measured::Over(cause_of(passed))),
+    let found = shared.ground_size(alloc, answered, checked.strata(), sentence)?;
+    Ok(found)
+}
+
+// What is told of a refuting sentence whose ground formulas are so large.
+fn measured(found: GroundSize, limits: &Limits) -> Measured
+    ensures { (sig : Declared) (p : FormTree) → IsGroundSize sig p found
+        → IsSentenceMeasured (ceilings limits.now) sig p result }
+{
+    match measure_size(found, limits) {
+        ea_decide::Measured::Within(size) => Measured::Within(size),
+        ea_decide::Measured::Over(passed) => Measured::Over(cause_of(passed)),
     }
 }
 

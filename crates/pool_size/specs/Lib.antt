@@ -1,4 +1,3 @@
 pub mod Counted
 pub mod Existentials
 pub mod Instances
-pub mod Sizes

@@ -14,15 +14,21 @@ use ground_size::SignedCount;
 use std::alloc::Global;
 
 // How many existentials of each sort of the signature the normal form of the sentence has.
-pub fn constants(alloc: Global, signature: &Signature, pool: &Pool, sentence: Node) -> Mem<Vec<u64>>
+pub fn constants(
+    alloc: Global,
+    signature: &Signature,
+    pool: &Pool,
+    sentence: Node,
+    table: &mut Vec<SignedCount>,
+) -> Mem<Vec<u64>>
     requires { HasForm pool.now sentence.0 }
     ensures { IfOk result
         (λ constants. AreConstants signature.now.sorts (form_at pool.now sentence.0) constants.items) }
 {
     let mut counts = vec![in alloc; 0u64; signature.sorts() as usize]?;
-    let mut table = Vec::new(alloc);
+    table.clear();
     table.resize(sentence.0 as usize, SignedCount::NONE)?;
-    count_down(&mut counts, &mut table, pool, sentence);
+    count_down(&mut counts, table, pool, sentence);
     Ok(counts)
 }
 

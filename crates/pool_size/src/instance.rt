@@ -16,22 +16,27 @@ use crate::measure::Measure;
 use base::Mem;
 use fol_pool::{Node, Pool, Shape};
 use ground_size::{Counts, LeafCount, SignedCount};
-use std::alloc::Global;
 
 // The nodes of the instance of the normal form of the sentence, where each sort has so many terms.
-pub fn instance_nodes(alloc: Global, pool: &Pool, counts: &Counts, sentence: Node) -> Mem<u64>
+pub fn instance_nodes(
+    pool: &Pool,
+    counts: &Counts,
+    sentence: Node,
+    table: &mut Vec<Measure>,
+) -> Mem<u64>
     requires { HasForm pool.now sentence.0 }
     ensures { IfOk result
         (λ nodes. nodes ≡ saturated (instance_nodes_of counts.now (normal true (form_at pool.now sentence.0)))) }
 {
-    let mut table = Vec::with_capacity(alloc, sentence.0 as usize + 1)?;
+    table.clear();
+    table.reserve(sentence.0 as usize + 1)?;
     for i in 0..sentence.0 {
-        let measure = measure_at(pool, &table, counts, Node(i));
+        let measure = measure_at(pool, table, counts, Node(i));
         table.push(measure)?;
     }
-    let measure = measure_at(pool, &table, counts, sentence);
+    let measure = measure_at(pool, table, counts, sentence);
     table.push(measure)?;
-    Ok(of_form(pool, &table, counts, sentence).positive)
+    Ok(of_form(pool, table, counts, sentence).positive)
 }
 
 // What is counted at a node, where the nodes before it are counted.

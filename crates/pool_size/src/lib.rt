@@ -7,5 +7,7 @@ mod existentials;
 mod instance;
 mod measure;
 mod size;
+mod tables;
 
-pub use size::{GroundSize, ground_size};
+pub use size::ground_size;
+pub use tables::Tables;

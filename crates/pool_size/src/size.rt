@@ -5,33 +5,27 @@ ghost use Rattle.fol_sig.specs.Strata.{IsStrata};
 ghost use Rattle.fol_formula.specs.Fits.{FitsForm};
 ghost use Rattle.fol_formula.specs.Fragments.{IsEa};
 ghost use Rattle.fol_pool.specs.Trees.{HasForm, form_at};
-ghost use Rattle.pool_size.specs.Sizes.{IsGroundSize};
+ghost use Rattle.ground_size.specs.Found.{IsGroundSize};
 
 use crate::existentials::constants;
 use crate::instance::instance_nodes;
+use crate::tables::Tables;
 use base::Mem;
 use fol_pool::{Node, Pool};
 use fol_sig::{Signature, Strata};
+use ground_size::GroundSize;
 use std::alloc::Global;
-
-/// How many ground terms there are once a sentence's existentials are constants, and how large its ground formulas
-/// are: the nodes of its instance, and the axioms of equality. A number that 64 bits do not hold is the greatest that
-/// they hold.
-#[derive(Clone, Copy)]
-pub struct GroundSize {
-    pub terms: u64,
-    pub size: u64,
-}
 
 /// The size of the ground formulas of the sentence at a node. Nothing is built. Each node with a number up to that of
 /// the sentence is looked at twice, also where it is no part of the sentence. Err: out of memory; a few numbers are
-/// kept for each of these nodes, and for each sort.
+/// kept for each of these nodes, in the tables, and for each sort.
 pub fn ground_size(
     alloc: Global,
     signature: &Signature,
     strata: &Strata,
     pool: &Pool,
     sentence: Node,
+    tables: &mut Tables,
 ) -> Mem<GroundSize>
     requires strata { IsStrata (symbols signature.now) strata.now }
     requires sentence { HasForm pool.now sentence.0 }
@@ -39,9 +33,9 @@ pub fn ground_size(
     requires fits { FitsForm (symbols signature.now) [] (form_at pool.now sentence.0) }
     ensures { IfOk result (IsGroundSize signature.now (form_at pool.now sentence.0)) }
 {
-    let constants = constants(alloc, signature, pool, sentence)?;
+    let constants = constants(alloc, signature, pool, sentence, &mut tables.times)?;
     let counts = ground_size::count_with(alloc, signature, strata, &constants)?;
-    let nodes = instance_nodes(alloc, pool, &counts, sentence)?;
+    let nodes = instance_nodes(pool, &counts, sentence, &mut tables.measures)?;
     Ok(GroundSize {
         terms: counts.total(),
         size: ground_size::with_axioms(signature, &counts, nodes),

@@ -1,31 +1,39 @@
 // The pool of a model.
 ghost use Rattle.std.specs.Prelude.{◌≡◌, [], false, take, IfOk, IfErr, OnOk, IsTrue};
 ghost use Rattle.base.specs.Because.{Because};
-ghost use Rattle.fol_pool.specs.Trees.{IsAt, a_form};
+ghost use Rattle.fol_sig.specs.Symbols.{symbols};
+ghost use Rattle.fol_sig.specs.Strata.{IsStrata};
+ghost use Rattle.fol_formula.specs.Fits.{FitsForm};
+ghost use Rattle.fol_formula.specs.Fragments.{IsEa};
+ghost use Rattle.fol_pool.specs.Trees.{IsAt, HasForm, a_form, form_at};
 ghost use Rattle.rml_command.specs.Models.{ModelTree};
 ghost use Rattle.rml_command.specs.Goals.{IsGoal};
 ghost use Rattle.rml_wp.specs.Preconditions.{answered, goal_passes_limit};
 ghost use Rattle.rml_wp.specs.Added.{refuting_all};
+ghost use Rattle.ground_size.specs.Found.{IsGroundSize};
 ghost use Rattle.pool_wp.specs.Sharing.{IsPoolOf};
 
 use crate::model_nodes::ModelNodes;
 use crate::refuted::refuting;
 use base::{Mem, Refused};
 use fol_pool::{Node, Pool};
-use fol_sig::Signature;
+use fol_sig::{Signature, Strata};
 use fol_subst::FormulaLimit;
+use ground_size::GroundSize;
+use pool_size::Tables;
 use rml_command::{Checked, Goal, Model};
 use std::alloc::Global;
 
 /// A pool with the axioms and the conjectures of a model, which are taken in once. The sentence of each of its goals is
-/// made of them, and forgotten before the next: so the pool is never larger than for one goal, and of the next goal
-/// only what differs is made.
+/// made of them, counted, and forgotten before the next: so the pool is never larger than for one goal, of the next
+/// goal only what differs is made, and room to count in is taken once.
 #[derive(Drop)]
 pub struct ModelPool {
     pool: Pool,
     nodes: ModelNodes,
     // How many nodes are the model's.
     own: usize,
+    tables: Tables,
 }
 
 impl ModelPool {
@@ -36,7 +44,12 @@ impl ModelPool {
         let mut pool = Pool::new(alloc);
         let nodes = ModelNodes::new(alloc, &mut pool, model)?;
         let own = pool.len();
-        Ok(ModelPool { pool, nodes, own })
+        Ok(ModelPool {
+            pool,
+            nodes,
+            own,
+            tables: Tables::new(alloc),
+        })
     }
 
     /// The model's nodes, and behind them those made since they were alone.
@@ -66,6 +79,28 @@ impl ModelPool {
         ensures shared { IsPoolOf checked.now self.new }
     {
         refuting(alloc, &mut self.pool, &self.nodes, checked, goal)
+    }
+
+    /// How large the ground formulas of the sentence at a node are. Err: out of memory.
+    pub fn ground_size(
+        &mut self,
+        alloc: Global,
+        signature: &Signature,
+        strata: &Strata,
+        sentence: Node,
+    ) -> Mem<GroundSize>
+        requires strata { IsStrata (symbols signature.now) strata.now }
+        requires sentence { HasForm self.old.pool sentence.0 }
+        requires fragment { IsEa (form_at self.old.pool sentence.0) }
+        requires fits { FitsForm (symbols signature.now) [] (form_at self.old.pool sentence.0) }
+        ensures size { IfOk result (IsGroundSize signature.now (form_at self.old.pool sentence.0)) }
+        ensures pool { self.new.pool ≡ self.old.pool }
+        ensures shared { (m : ModelTree) → IsPoolOf m self.old → IsPoolOf m self.new }
+    {
+        let pool = &self.pool;
+        let tables = &mut self.tables;
+        let size = pool_size::ground_size(alloc, signature, strata, pool, sentence, tables)?;
+        Ok(size)
     }
 
     /// Forgets what was made of the model's sentences.

@@ -1,14 +1,16 @@
 // The size of a goal, read off a pool.
 ghost use Rattle.std.specs.Prelude.{◌≡◌, [], IfSome};
 ghost use Rattle.fol_pool.specs.Trees.{HasForm, form_at};
+ghost use Rattle.rml_command.specs.Models.{ModelTree};
 ghost use Rattle.rml_command.specs.Goals.{IsGoal};
 ghost use Rattle.rml_wp.specs.Preconditions.{answered as answered_of};
 ghost use Rattle.rml_wp.specs.Added.{refuting_all};
+ghost use Rattle.pool_wp.specs.Sharing.{IsPoolOf};
 
 use base::{Mem, Refused};
-use fol_pool::{Node, Pool};
+use fol_pool::Node;
 use fol_sig::Signature;
-use pool_size::{GroundSize, ground_size};
+use ground_size::GroundSize;
 use pool_wp::ModelPool;
 use rml_command::{About, Checked, Goal, Stage};
 use std::alloc::{AllocError, Global};
@@ -37,10 +39,10 @@ pub fn size_of_goal(alloc: Global, model: &Checked, goal: &Goal) -> Mem<String>
     let own = shared.pool().len();
     match shared.refuting(alloc, model, goal) {
         Ok((answered, node)) => {
-            let pool = shared.pool();
-            let found = measured(alloc, pool, model, goal, &answered, node)?;
+            let found = measured(alloc, &mut shared, model, goal, &answered, node)?;
             let terms = found.terms;
             let size = found.size;
+            let pool = shared.pool();
             let tree = pool.nodes(node);
             let kept = pool.len();
             shared.forget();
@@ -57,7 +59,7 @@ pub fn size_of_goal(alloc: Global, model: &Checked, goal: &Goal) -> Mem<String>
 
 fn measured(
     alloc: Global,
-    pool: &Pool,
+    shared: &mut ModelPool,
     checked: &Checked,
     goal: &Goal,
     answered: &Signature,
@@ -65,12 +67,15 @@ fn measured(
 ) -> Mem<GroundSize>
     requires goal { IsGoal checked.now goal.now }
     requires answered { answered.now ≡ answered_of checked.now goal.now }
-    requires there { HasForm pool.now node.0 }
-    requires sentence { form_at pool.now node.0 ≡ refuting_all checked.now checked.now.conjectures [] goal.now }
+    requires there { HasForm shared.old.pool node.0 }
+    requires sentence { form_at shared.old.pool node.0
+        ≡ refuting_all checked.now checked.now.conjectures [] goal.now }
+    ensures pool { shared.new.pool ≡ shared.old.pool }
+    ensures shared { (m : ModelTree) → IsPoolOf m shared.old → IsPoolOf m shared.new }
 {
     rml_wp::sentence_law();
     rml_wp::answered_goal(checked, goal);
     let _model = checked.model();
-    let found = ground_size(alloc, answered, checked.strata(), pool, node)?;
+    let found = shared.ground_size(alloc, answered, checked.strata(), node)?;
     Ok(found)
 }

@@ -6,10 +6,11 @@ use Rattle.obligation_decide.specs.Costs.{IsSentenceMeasured}
 use Rattle.obligation_decide.proofs.Restricting.{measured_by}
 use Rattle.obligation_decide.proofs.measuring.measure_in.Goals as goal
 
-pub returns-in_ok-measured-in-Ok-clause-measured : goal.returns-in_ok-measured-in-Ok-clause-measured
-returns-in_ok-measured-in-Ok-clause-measured c =
+pub returns-in_ok-found-in-Ok-clause-measured : goal.returns-in_ok-found-in-Ok-clause-measured
+returns-in_ok-found-in-Ok-clause-measured c =
     let m = c.args.checked.now in
     let limits = ceilings c.args.limits.now in
+    let p = refuting_all m m.conjectures [] c.args.goal.now in
     measured_by limits m c.args.goal.now [] c.in-Ok.ensures.within _ _ refl
-    (subst (λ (d : Declared). IsSentenceMeasured limits d (refuting_all m m.conjectures [] c.args.goal.now)
-    c.in_ok-measured-in-Ok.measured) c.in-Ok.ensures.signature c.in_ok-measured-in-Ok.ensures)
+    (subst (λ (d : Declared). IsSentenceMeasured limits d p c.measured.result) c.in-Ok.ensures.signature
+    (c.measured.ensures _ p c.in_ok-found-in-Ok.ensures.size))

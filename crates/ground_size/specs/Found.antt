@@ -5,7 +5,7 @@ use Rattle.fol_formula.specs.Syntax.{FormTree}
 use Rattle.fol_formula.specs.Counts.{saturated}
 use Rattle.ground_size.specs.Counting.{AreTermCounts}
 use Rattle.ground_size.specs.Sizes.{size_of}
-use Rattle.pool_size.specs.declared.size.GroundSize.{GroundSize}
+use Rattle.ground_size.specs.declared.found.GroundSize.{GroundSize}
 
 -- There are so many ground terms of each sort, and these are their sum and the size of the ground formulas over them,
 -- but for what 64 bits do not hold.
