@@ -2,7 +2,7 @@
 // counted, from those of its parts, which have smaller numbers.
 ghost use Rattle.std.specs.Prelude.{◌≡◌, ◌<◌, length, true, IfOk};
 ghost use Rattle.fol_formula.specs.Counts.{saturated};
-ghost use Rattle.fol_formula.specs.Syntax.{implication, ite};
+ghost use Rattle.fol_formula.specs.Syntax.{equivalence, implication, ite};
 ghost use Rattle.fol_nnf.specs.Normal.{normal, leaves, leaves_of_terms};
 ghost use Rattle.fol_pool.specs.Trees.{HasForm, HasForms, HasTerm, HasTerms};
 ghost use Rattle.fol_pool.specs.Trees.{form_at, forms_at, term_at, terms_at, tree_at};
@@ -67,10 +67,7 @@ fn measure_of(pool: &Pool, table: &[Measure], counts: &Counts, shape: Shape) -> 
         Shape::And(ps) => Measure::Sizes(of_forms(pool, table, counts, ps).gathered()),
         Shape::Or(ps) => Measure::Sizes(of_forms(pool, table, counts, ps).gathered()),
         Shape::Implies(p, q) => Measure::Sizes(implied(pool, table, counts, p, q)),
-        Shape::Iff(p, q) => {
-            let side = of_form(pool, table, counts, p);
-            Measure::Sizes(side.equivalent(of_form(pool, table, counts, q), 3))
-        }
+        Shape::Iff(p, q) => Measure::Sizes(equivalent(pool, table, counts, p, q)),
         Shape::Forall(k, p) => Measure::Sizes(of_form(pool, table, counts, p).under_all(
             counts.of_sort(k),
         )),
@@ -104,6 +101,19 @@ fn implied(pool: &Pool, table: &[Measure], counts: &Counts, p: Node, q: Node) ->
     let premise = of_form(pool, table, counts, p).opposite();
     let both = premise.beside(of_form(pool, table, counts, q));
     both.gathered()
+}
+
+// An equivalence, as an Or of two Ands.
+fn equivalent(pool: &Pool, table: &[Measure], counts: &Counts, p: Node, q: Node) -> SignedCount
+    requires first { HasForm pool.now p.0 }
+    requires second { HasForm pool.now q.0 }
+    requires below_first { p.0 < length table.now }
+    requires below_second { q.0 < length table.now }
+    requires right { AreRight (IsMeasured counts.now) pool.now table.now }
+    ensures { AreSizesOf counts.now (equivalence (form_at pool.now p.0) (form_at pool.now q.0)) result }
+{
+    let side = of_form(pool, table, counts, p);
+    side.equivalent(of_form(pool, table, counts, q), 3)
 }
 
 // The leaves of both terms, under the condition and under its negation.
