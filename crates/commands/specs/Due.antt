@@ -21,18 +21,30 @@ stop_due stop.TooLong = record { side = side.Err; text = codes "the file is too 
 stop_due stop.Failed = record { side = side.Err; text = codes "cannot read the file\n"; status = 5 }
 stop_due stop.NoMemory = record { side = side.Err; text = codes "no memory\n"; status = 7 }
 
+-- What a call handed to a sink: the bytes that the sink took, where it tells them, and the count of its faults, before
+-- the call and behind it.
+pub record Passage : Type 0 where
+  pub taken : Option (List ℕ)
+  pub taken_then : Option (List ℕ)
+  pub faults : ℕ
+  pub faults_then : ℕ
+
+abbrev pub passage : Option (List ℕ) → Option (List ℕ) → ℕ → ℕ → Passage
+passage taken taken_then faults faults_then =
+    record { taken = taken; taken_then = taken_then; faults = faults; faults_then = faults_then }
+
 -- a front of the text was taken
-abbrev pub TakesFront : Option (List ℕ) → Option (List ℕ) → List ℕ → Type 0
-TakesFront old new text = (n : ℕ) × Appends old new (take n text)
+abbrev pub TakesFront : Passage → List ℕ → Type 0
+TakesFront p text = (n : ℕ) × Appends p.taken p.taken_then (take n text)
 
 -- a text was handed over, or a front of it and the count rose
-abbrev pub Hands : Written → Option (List ℕ) → Option (List ℕ) → ℕ → ℕ → List ℕ → Type 0
-Hands wrote.All old new before now text = (before ≤ now) × Appends old new text
-Hands wrote.Failed old new before now text = (before ≤ now) × TakesFront old new text × Rose before now
+abbrev pub Hands : Written → Passage → List ℕ → Type 0
+Hands wrote.All p text = (p.faults ≤ p.faults_then) × Appends p.taken p.taken_then text
+Hands wrote.Failed p text = (p.faults ≤ p.faults_then) × TakesFront p text × Rose p.faults p.faults_then
 
 -- nothing was handed over
-abbrev pub Rests : Option (List ℕ) → Option (List ℕ) → ℕ → ℕ → Type 0
-Rests old new before now = (now ≡ before) × (new ≡ old)
+abbrev pub Rests : Passage → Type 0
+Rests p = (p.faults_then ≡ p.faults) × (p.taken_then ≡ p.taken)
 
 -- the status that is due, or 5 where the sink failed
 abbrev pub status_of : Written → ℕ → ℕ
@@ -41,15 +53,11 @@ status_of wrote.Failed status = 5
 
 -- All that was due was written to its sink, or a front of it, with status 5, where that sink failed. The other sink
 -- rests.
-abbrev pub IsWrittenTo : Side → List ℕ → Written → Option (List ℕ) → Option (List ℕ) → Option (List ℕ) → Option (List ℕ)
-    → ℕ → ℕ → ℕ → ℕ → Type 0
-IsWrittenTo side.Out text written out_old out_new err_old err_new out_before out_now err_before err_now =
-    Hands written out_old out_new out_before out_now text × Rests err_old err_new err_before err_now
-IsWrittenTo side.Err text written out_old out_new err_old err_new out_before out_now err_before err_now =
-    Hands written err_old err_new err_before err_now text × Rests out_old out_new out_before out_now
+abbrev pub IsWrittenTo : Side → List ℕ → Written → Passage → Passage → Type 0
+IsWrittenTo side.Out text written out err = Hands written out text × Rests err
+IsWrittenTo side.Err text written out err = Hands written err text × Rests out
 
 -- What is due was written so, and this is the status.
-pub record IsWritten (due : Due) (written : Written) (status : ℕ) (out_old out_new err_old err_new : Option (List ℕ))
-    (out_before out_now err_before err_now : ℕ) : Type 0 where
-  pub text : IsWrittenTo due.side due.text written out_old out_new err_old err_new out_before out_now err_before err_now
+pub record IsWritten (due : Due) (written : Written) (status : ℕ) (out err : Passage) : Type 0 where
+  pub text : IsWrittenTo due.side due.text written out err
   pub code : status ≡ status_of written due.status

@@ -1,6 +1,6 @@
 // What is due is handed over.
 ghost use Rattle.std.specs.Prelude.{◌≡◌};
-ghost use Rattle.commands.specs.Due.{Hands, IsWrittenTo, IsWritten, status_of, stop_due};
+ghost use Rattle.commands.specs.Due.{passage, Hands, IsWrittenTo, IsWritten, status_of, stop_due};
 ghost use Rattle.commands.specs.Done.{due_in, outcome_in};
 
 use crate::command::Done;
@@ -9,7 +9,8 @@ use rml_bytes::{LoadError, Sink};
 
 // Hands over all of a text, where there is any.
 fn deliver<S: Sink>(sink: &mut S, text: &[u8]) -> Written
-    ensures { Hands result (S.taken sink.old) (S.taken sink.new) (S.faults sink.old) (S.faults sink.new) text.now }
+    ensures { Hands result (passage (S.taken sink.old) (S.taken sink.new) (S.faults sink.old) (S.faults sink.new))
+        text.now }
 {
     if text.is_empty() {
         return Written::All;
@@ -21,8 +22,9 @@ fn deliver<S: Sink>(sink: &mut S, text: &[u8]) -> Written
 }
 
 fn write<O: Sink, E: Sink>(side: Side, text: &[u8], out: &mut O, err: &mut E) -> Written
-    ensures { IsWrittenTo side text.now result (O.taken out.old) (O.taken out.new) (E.taken err.old) (E.taken err.new)
-        (O.faults out.old) (O.faults out.new) (E.faults err.old) (E.faults err.new) }
+    ensures { IsWrittenTo side text.now result
+        (passage (O.taken out.old) (O.taken out.new) (O.faults out.old) (O.faults out.new))
+        (passage (E.taken err.old) (E.taken err.new) (E.faults err.old) (E.faults err.new)) }
 {
     match side {
         Side::Out => deliver(out, text),
@@ -74,9 +76,9 @@ pub fn finish<A: Drop, O: Sink, E: Sink>(
     err: &mut E,
 ) -> Finished<A>
     ensures outcome { result.outcome ≡ outcome_in done }
-    ensures written { IsWritten (due_in done) result.written result.status (O.taken out.old) (O.taken out.new)
-        (E.taken err.old) (E.taken err.new)
-        (O.faults out.old) (O.faults out.new) (E.faults err.old) (E.faults err.new) }
+    ensures written { IsWritten (due_in done) result.written result.status
+        (passage (O.taken out.old) (O.taken out.new) (O.faults out.old) (O.faults out.new))
+        (passage (E.taken err.old) (E.taken err.new) (E.faults err.old) (E.faults err.new)) }
 {
     match done {
         Ok(done) => {

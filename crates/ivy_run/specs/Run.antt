@@ -3,7 +3,7 @@ use Rattle.std.specs.Prelude.{◌≡◌, ℕ, List, map, Option, Some, None, Res
 use Rattle.rml_bytes.specs.declared.outside.LoadError.{LoadError}
 use Rattle.rml_bytes.specs.Outside.{Told}
 use Rattle.commands.specs.Ends.{EndsNone, EndsOne, EndsTwo}
-use Rattle.commands.specs.Due.{Due, stop_due, IsWritten}
+use Rattle.commands.specs.Due.{Due, Passage, stop_due, IsWritten}
 use Rattle.command_line.specs.Lines.{Line, line_of, check, houdini, bmc, lrat, replay, emit, sample}
 use Rattle.command_line.specs.declared.request.Asked.{Asked}
 use Rattle.command_line.specs.declared.request.Bound.{Bound}
@@ -151,20 +151,7 @@ abbrev pub EndsOnFiles : Course → Told → ℕ → Told → ℕ → (List ℕ 
 EndsOnFiles c told most other limit P =
     EndsTwo told other most limit c.faults c.faults_then c.ended.loaded.first c.ended.loaded.second P c.ended.outcome
 
--- What a run handed to a sink: the bytes that the sink took, where it tells them, and the count of its faults, before
--- the run and behind it.
-pub record Passage : Type 0 where
-  pub taken : Option (List ℕ)
-  pub taken_then : Option (List ℕ)
-  pub faults : ℕ
-  pub faults_then : ℕ
-
-abbrev pub passage : Option (List ℕ) → Option (List ℕ) → ℕ → ℕ → Passage
-passage taken taken_then faults faults_then =
-    record { taken = taken; taken_then = taken_then; faults = faults; faults_then = faults_then }
-
 -- what was due for this line was written to these sinks, with the status that the run ended with
 abbrev pub WritesDue : Option Line → Ended → Passage → Passage → Type 0
 WritesDue line end out err =
-    IsWritten (due_of line end.loaded.first end.loaded.second end.outcome) end.written end.status out.taken
-    out.taken_then err.taken err.taken_then out.faults out.faults_then err.faults err.faults_then
+    IsWritten (due_of line end.loaded.first end.loaded.second end.outcome) end.written end.status out err

@@ -13,7 +13,8 @@ ghost use Rattle.model_commands.specs.Houdini.{IsHoudiniAnswer};
 ghost use Rattle.model_commands.specs.Bmc.{IsBmcAnswer};
 ghost use Rattle.model_commands.specs.Sample.{IsSampleAnswer};
 ghost use Rattle.replay_command.specs.Replay.{IsReplayAnswer, report_limit};
-ghost use Rattle.ivy_run.specs.Run.{asked, course, passage, EndsAlone, EndsOnFile, EndsOnFiles, WritesDue, IsUsage};
+ghost use Rattle.commands.specs.Due.{passage};
+ghost use Rattle.ivy_run.specs.Run.{asked, course, EndsAlone, EndsOnFile, EndsOnFiles, WritesDue, IsUsage};
 ghost use Rattle.ivy_run.specs.Run.{OfCheck, OfLrat, OfEmit, OfHoudini, OfBmc, OfReplay, OfSample};
 
 use crate::ended::{Ended, Loaded};

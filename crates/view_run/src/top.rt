@@ -1,6 +1,6 @@
 // The top call: from the words and the files to the sinks and the status.
 ghost use Rattle.std.specs.Prelude.{◌≡◌, ℕ, List, map, string_bytes};
-ghost use Rattle.commands.specs.Due.{IsWritten};
+ghost use Rattle.commands.specs.Due.{passage, IsWritten};
 ghost use Rattle.view_line.specs.Asking.{ask_of};
 ghost use Rattle.view_run.specs.Questions.{EndsAsAsked, due_of};
 
@@ -31,8 +31,9 @@ pub fn view<F: Files, O: Sink, E: Sink, P: Progress>(
     // All of the due text was written, or a front of it, and that only where its sink failed.
     ensures written { IsWritten
         (due_of (ask_of (map (λ w. string_bytes w) words.now)) result.loaded.first result.loaded.second result.outcome)
-        result.written result.status (O.taken out.old) (O.taken out.new) (E.taken err.old) (E.taken err.new)
-        (O.faults out.old) (O.faults out.new) (E.faults err.old) (E.faults err.new) }
+        result.written result.status
+        (passage (O.taken out.old) (O.taken out.new) (O.faults out.old) (O.faults out.new))
+        (passage (E.taken err.old) (E.taken err.new) (E.faults err.old) (E.faults err.new)) }
 {
     let mut first = Vec::new(alloc);
     let mut second = Vec::new(alloc);
