@@ -6,8 +6,8 @@
 mod existentials;
 mod instance;
 mod measure;
+mod room;
 mod size;
-mod tables;
 
+pub use room::Room;
 pub use size::ground_size;
-pub use tables::Tables;

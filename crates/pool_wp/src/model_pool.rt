@@ -20,7 +20,7 @@ use fol_pool::{Node, Pool};
 use fol_sig::{Signature, Strata};
 use fol_subst::FormulaLimit;
 use ground_size::GroundSize;
-use pool_size::Tables;
+use pool_size::Room;
 use rml_command::{Checked, Goal, Model};
 use std::alloc::Global;
 
@@ -33,7 +33,7 @@ pub struct ModelPool {
     nodes: ModelNodes,
     // How many nodes are the model's.
     own: usize,
-    tables: Tables,
+    room: Room,
 }
 
 impl ModelPool {
@@ -48,7 +48,7 @@ impl ModelPool {
             pool,
             nodes,
             own,
-            tables: Tables::new(alloc),
+            room: Room::new(alloc),
         })
     }
 
@@ -98,8 +98,8 @@ impl ModelPool {
         ensures shared { (m : ModelTree) → IsPoolOf m self.old → IsPoolOf m self.new }
     {
         let pool = &self.pool;
-        let tables = &mut self.tables;
-        let size = pool_size::ground_size(alloc, signature, strata, pool, sentence, tables)?;
+        let room = &mut self.room;
+        let size = pool_size::ground_size(alloc, signature, strata, pool, sentence, room)?;
         Ok(size)
     }
 
