@@ -8,7 +8,7 @@ use Rattle.rml_syntax.specs.declared.tree.Command.{Command}
 use Rattle.rml_syntax.specs.declared.tree.Command.TheVariants as variants
 use Rattle.rml_syntax.specs.Tree.{CommandTree, Block, Blocks, block_of, blocks_of, command_tree, command_trees}
 use Rattle.rml_syntax.specs.Tree.{block_trees}
-use Rattle.rml_elaborate.specs.Branches.{tree-choice}
+use Rattle.rml_quantifiers.specs.Branches.{tree-choice}
 use Rattle.branches.specs.declared.mark.Turn.TheVariants as turns
 use Rattle.branches.specs.Marked.{branch_count}
 use Rattle.branches.specs.Search.{count_through, count_through_block, counts_behind, behind, mark, along, along_block}

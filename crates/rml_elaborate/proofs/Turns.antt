@@ -1,6 +1,6 @@
 -- One turn of a loop that makes something of each element of a list.
 use Rattle.std.proofs.Common.{◌≡◌, ℕ, ◌+◌, ◌<◌, List, [], ◌∷◌, ◌++◌, length, get_or, drop, sym, ap, ◌∙◌, map}
-use Rattle.base.proofs.Lists.{drop_read, list_turn}
+use Rattle.base.proofs.Lists.{drop_read}
 use Rattle.fol_formula.specs.Syntax.{FormTree, FormTrees, TermTree, TermTrees, form_then, term_then, forms_then}
 use Rattle.fol_formula.specs.Syntax.{terms_then}
 use Rattle.fol_formula.specs.View.{form, term}
@@ -14,13 +14,6 @@ use Rattle.fol_formula.specs.Lists.{FormLists, TermLists}
 pub exprs-drop : (es : List Expr) (i : ℕ) (e : Expr) → i < length es → e ≡ get_or es i e
     → exprs_of (expr_trees (drop i es)) ≡ and_expr (expr_tree e) (exprs_of (expr_trees (drop (i + 1) es)))
 exprs-drop es i e lt is = ap (λ (es : List Expr). exprs_of (expr_trees es)) (drop_read es i e lt is)
-
--- F makes a list of places of a list, G that of its first element
-pub places_turn : {A : Type 0} (F : List A → List ℕ) (G : A → List ℕ) (xs : List A) (i : ℕ) (x : A)
-    (old new whole : List ℕ)
-    → ((y : A) (ys : List A) → F (y ∷ ys) ≡ G y ++ F ys) → i < length xs → x ≡ get_or xs i x
-    → new ≡ old ++ G x → old ++ F (drop i xs) ≡ whole → new ++ F (drop (i + 1) xs) ≡ whole
-places_turn F G xs i x old new whole by = list_turn F G xs i x old new whole (by x (drop (i + 1) xs))
 
 -- F makes the formulas of a list
 pub forms_turn : {A : Type 0} (lists : FormLists) (F : List A → FormTrees) (xs : List A) (i : ℕ) (x : A)

@@ -1,11 +1,10 @@
 //! Elaboration: the formulas, terms and primitives that expressions and updates stand for, with all uses of derived
-//! relations written out; how large they are, which is found without building them; and the places of quantifiers
-//! where none may stand. What has a fault of names or sorts is built too, so that no contract here speaks of faults.
+//! relations written out; and how large they are, which is found without building them. What has a fault of names or
+//! sorts is built too, so that no contract here speaks of faults.
 #![tactic(auto)]
 
 mod formulas;
 mod large;
-mod quantifiers;
 mod sizes;
 mod update_sizes;
 mod updates;
@@ -15,5 +14,4 @@ pub use large::{
     large_use_in_assignment, large_use_in_definition, large_use_in_formula, large_use_in_insertion,
     large_use_in_placement, large_use_in_removal,
 };
-pub use quantifiers::{add_block_quantifiers, add_quantifiers};
 pub use updates::{assignment, definition, formula_outside, insertion, placement, removal};

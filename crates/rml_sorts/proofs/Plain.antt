@@ -17,7 +17,7 @@ use Rattle.rml_names.specs.declared.meaning.Meaning.TheVariants as meaning
 use Rattle.rml_names.specs.Meanings.{bytes_of, BoundName, meaning_of, sort_number, binding}
 use Rattle.rml_elaborate.specs.Formulas.{atom_of, application_of, quantified, formula_of, formulas_of, term_of}
 use Rattle.rml_elaborate.specs.Formulas.{terms_of}
-use Rattle.rml_elaborate.specs.Quantifiers.{quantifiers_in, quantifiers_in_each}
+use Rattle.rml_quantifiers.specs.Quantifiers.{quantifiers_in, quantifiers_in_each}
 
 pub nil_left : {A : Type 0} (xs ys : List A) → xs ++ ys ≡ [] → xs ≡ []
 nil_left [] ys h = refl

@@ -19,10 +19,10 @@ use Rattle.rml_names.specs.Drafts.{DraftTree, empty_draft, model_of_draft}
 use Rattle.rml_terms.specs.Places.{name_places}
 use Rattle.rml_command.specs.declared.places.Condition.{Condition}
 use Rattle.rml_sorts.specs.Laws.{PlacesStandInText}
-use Rattle.rml_elaborate.specs.Quantifiers.{quantifiers_in, quantifiers_in_each}
+use Rattle.rml_quantifiers.specs.Quantifiers.{quantifiers_in, quantifiers_in_each}
 use Rattle.rml_sorts.specs.Commands.{conditions_of, conditions_of_block, conditions_of_blocks}
-use Rattle.rml_elaborate.specs.Quantifiers.{quantifiers_of_side, quantifiers_of, quantifiers_of_block}
-use Rattle.rml_elaborate.specs.Quantifiers.{quantifiers_of_blocks}
+use Rattle.rml_quantifiers.specs.Quantifiers.{quantifiers_of_side, quantifiers_of, quantifiers_of_block}
+use Rattle.rml_quantifiers.specs.Quantifiers.{quantifiers_of_blocks}
 use Rattle.rml_sorts.specs.Items.{draft_with, draft_of}
 
 module _ (n : ℕ) where

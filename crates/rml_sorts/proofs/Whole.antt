@@ -36,7 +36,7 @@ use Rattle.rml_sort_check.specs.Demands.{first_fault, demands, block_demands, bi
 use Rattle.rml_sort_check.specs.Firsts.{met_left, met_right}
 use Rattle.rml_elaborate.specs.Formulas.{formula_of}
 use Rattle.rml_elaborate.specs.Updates.{definition}
-use Rattle.rml_elaborate.specs.Quantifiers.{quantifiers_in, quantifiers_of_block}
+use Rattle.rml_quantifiers.specs.Quantifiers.{quantifiers_in, quantifiers_of_block}
 use Rattle.rml_items.specs.Items.{head_demands, body_demands, words_with, parameter_sorts}
 use Rattle.rml_items.specs.Laws.{WordsStaySorted, DemandsAreMet, HaveMet}
 use Rattle.rml_items.specs.Walking.{block_nests}

@@ -29,13 +29,13 @@ use Rattle.rml_sort_check.specs.declared.wanted.Wanted.TheVariants.{Formula}
 use Rattle.rml_names.specs.Meanings.{bytes_of, symbol_of, argument_sorts, with_parameters}
 use Rattle.rml_sort_check.specs.Demands.{first_fault, demands, command_demands, block_demands, blocks_demands}
 use Rattle.rml_elaborate.specs.Formulas.{formula_of, term_of, terms_of}
-use Rattle.rml_elaborate.specs.Quantifiers.{quantifiers_in, quantifiers_in_each}
+use Rattle.rml_quantifiers.specs.Quantifiers.{quantifiers_in, quantifiers_in_each}
 use Rattle.rml_command.specs.Fresh.{parameters}
 use Rattle.rml_elaborate.specs.Updates.{term_count, equations, insertion, removal, placement, assignment}
 use Rattle.rml_sorts.specs.Commands.{command_of, commands_of, branches_of, conditions_of, conditions_of_block}
 use Rattle.rml_sorts.specs.Commands.{conditions_of_blocks}
-use Rattle.rml_elaborate.specs.Quantifiers.{quantifiers_of_side, quantifiers_of, quantifiers_of_block}
-use Rattle.rml_elaborate.specs.Quantifiers.{quantifiers_of_blocks}
+use Rattle.rml_quantifiers.specs.Quantifiers.{quantifiers_of_side, quantifiers_of, quantifiers_of_block}
+use Rattle.rml_quantifiers.specs.Quantifiers.{quantifiers_of_blocks}
 use Rattle.rml_sort_check.specs.Firsts.{met_left, met_right}
 use Rattle.rml_sorts.proofs.Extending.{each_more, each_of_more}
 use Rattle.rml_sorts.proofs.Fitting.{IsThere, symbol_is_there, formula_fits}

@@ -16,7 +16,7 @@ use Rattle.rml_names.specs.Drafts.{DraftTree, ListedTree, empty_draft, model_of_
 use Rattle.rml_sort_check.specs.Demands.{Demand, first_fault}
 use Rattle.rml_elaborate.specs.Formulas.{formula_of}
 use Rattle.rml_elaborate.specs.Updates.{definition}
-use Rattle.rml_elaborate.specs.Quantifiers.{quantifiers_in, quantifiers_of_block}
+use Rattle.rml_quantifiers.specs.Quantifiers.{quantifiers_in, quantifiers_of_block}
 use Rattle.rml_items.specs.Items.{words_with, fault_of}
 use Rattle.rml_sorts.specs.Commands.{commands_of, conditions_of_block}
 use Rattle.base.specs.Lists.{count_from}

@@ -13,7 +13,7 @@ ghost use Rattle.rml_command.specs.View.{command as command_view};
 ghost use Rattle.rml_names.specs.Drafts.{draft_in};
 ghost use Rattle.rml_sort_check.specs.declared.wanted.Wanted.TheVariants as wanted;
 ghost use Rattle.rml_sort_check.specs.Demands.{first_fault, demands, block_demands, definition_demands};
-ghost use Rattle.rml_elaborate.specs.Quantifiers.{quantifiers_of_block};
+ghost use Rattle.rml_quantifiers.specs.Quantifiers.{quantifiers_of_block};
 ghost use Rattle.rml_elaborate.specs.Sizes.{large_use_in_formula, large_use_in_definition as use_in_definition};
 ghost use Rattle.rml_items.specs.Answering.{Answers};
 ghost use Rattle.rml_items.specs.Items.{head_demands, body_demands};
@@ -32,13 +32,14 @@ use fol_formula::Sentence;
 use fol_sig::Sort;
 use fol_subst::Template;
 use rml_command::{Command, Condition};
-use rml_elaborate::{add_block_quantifiers, add_quantifiers, definition, large_use_in_definition};
+use rml_elaborate::{definition, large_use_in_definition};
 use rml_items::{
     add_action, add_axiom, add_conjecture, add_definition, add_function, add_relation, add_sort,
     add_variable, sorted_law,
 };
 use rml_lex::Fault;
 use rml_names::{ModelDraft, bytes};
+use rml_quantifiers::{add_block_quantifiers, add_quantifiers};
 use rml_syntax as syntax;
 use rml_syntax::{Format, Item};
 use rml_terms::{Binder, Expr, Name};

@@ -1,7 +1,7 @@
 use Rattle.std.proofs.Common.{◌+◌, ◌-◌, ◌≡◌, ◌<◌, length, take, sym, ap, ◌∙◌, arith}
 use Rattle.std.proofs.lemmas.List.{drop_all}
 use Rattle.rml_syntax.specs.Tree.{block_trees, blocks_of}
-use Rattle.rml_elaborate.specs.Branches.{tree-choice}
+use Rattle.rml_quantifiers.specs.Branches.{tree-choice}
 use Rattle.branches.specs.Search.{count_through, count_through_block, count_through_each}
 use Rattle.branches.proofs.Loops.{tree_of, count_turn}
 use Rattle.branches.proofs.search.+counts.Goals as goal

@@ -1,7 +1,7 @@
 use Rattle.std.proofs.Common.{◌≡◌, ◌++◌, drop}
 use Rattle.rml_syntax.specs.Tree.{command_trees, block_trees, block_of, blocks_of}
-use Rattle.rml_elaborate.specs.Quantifiers.{quantifiers_of_block, quantifiers_of_blocks}
-use Rattle.rml_elaborate.proofs.quantifiers.+blocks.Given as goal
+use Rattle.rml_quantifiers.specs.Quantifiers.{quantifiers_of_block, quantifiers_of_blocks}
+use Rattle.rml_quantifiers.proofs.blocks.+blocks.Given as goal
 
 abbrev pub invariant-add_block_quantifiers-loop-command : goal.invariant-add_block_quantifiers-loop-command
 invariant-add_block_quantifiers-loop-command l =

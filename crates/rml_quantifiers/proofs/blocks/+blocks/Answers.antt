@@ -1,10 +1,10 @@
 use Rattle.std.proofs.Common.{refl, ap, sym, ◌∙◌, ◌++◌}
 use Rattle.base.proofs.Lists.{list_end}
 use Rattle.rml_syntax.specs.Tree.{command_tree, command_trees, block_trees, block_of, blocks_of}
-use Rattle.rml_elaborate.specs.Quantifiers.{quantifiers_of, quantifiers_of_block, quantifiers_of_blocks}
-use Rattle.rml_elaborate.specs.Branches.{tree-choice}
-use Rattle.rml_elaborate.proofs.Turns.{places_turn}
-use Rattle.rml_elaborate.proofs.quantifiers.+blocks.Goals as goal
+use Rattle.rml_quantifiers.specs.Quantifiers.{quantifiers_of, quantifiers_of_block, quantifiers_of_blocks}
+use Rattle.rml_quantifiers.specs.Branches.{tree-choice}
+use Rattle.rml_quantifiers.proofs.Turns.{places_turn}
+use Rattle.rml_quantifiers.proofs.blocks.+blocks.Goals as goal
 
 pub add_block_quantifiers-loop-command-preserved : goal.add_block_quantifiers-loop-command-preserved
 add_block_quantifiers-loop-command-preserved t c =

@@ -1,8 +1,8 @@
 use Rattle.std.proofs.Common.{refl}
 use Rattle.rml_terms.specs.Tree.{expr_tree, expr_trees, exprs_of}
-use Rattle.rml_elaborate.specs.Quantifiers.{quantifiers_in, quantifiers_in_each}
-use Rattle.rml_elaborate.proofs.Turns.{places_turn}
-use Rattle.rml_elaborate.proofs.quantifiers.+places.Goals as goal
+use Rattle.rml_quantifiers.specs.Quantifiers.{quantifiers_in, quantifiers_in_each}
+use Rattle.rml_quantifiers.proofs.Turns.{places_turn}
+use Rattle.rml_quantifiers.proofs.expressions.+places.Goals as goal
 
 pub add_quantifiers_each-loop-e-preserved : goal.add_quantifiers_each-loop-e-preserved
 add_quantifiers_each-loop-e-preserved t c =
