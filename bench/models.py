@@ -377,6 +377,10 @@ class World:
             raise ValueError(f"no table of {symbol}: {table}")
         return self.bits(symbol, [table[t] for t in tuples])
 
+    def no_tuples(self, relation):
+        """Gives the table of a relation that is true nowhere."""
+        return dict.fromkeys(self.tuples(relation), False)
+
     def table(self, symbol, entry):
         """Gives the bits of the table of a symbol that a printed entry of a havoc is: an element, a truth value or
         tuples."""
@@ -384,7 +388,7 @@ class World:
         if into or not sorts:
             return self.packed_table(symbol, {(): int(entry) if into else entry == "true"})
         told = {tuple(map(int, t.split(","))) for t in re.findall(r"\(([\d,]*)\)", entry)}
-        return self.packed_table(symbol, {t: t in told for t in self.tuples(symbol)})
+        return self.packed_table(symbol, self.no_tuples(symbol) | dict.fromkeys(told, True))
 
     def read(self, lines):
         """Gives the structure of printed tables."""
@@ -398,7 +402,7 @@ class World:
             else:
                 pairs = re.findall(r"\(([\d,]*)\)(?:->(\d+))?", rest)
                 told = {tuple(map(int, t.split(","))): int(x) if x else True for t, x in pairs}
-                tables[name] = {t: told.get(t, False) for t in self.tuples(name)}
+                tables[name] = self.no_tuples(name) | told if kind == "relation" else told
         return self.packed(tables)
 
     def is_false(self, conjecture, values, s):
@@ -534,7 +538,8 @@ class Viewed(Shown):
         self.values = shown["values"]
 
     def tables(self, told):
-        s = {r["name"]: {t: list(t) in r["tuples"] for t in self.world.tuples(r["name"])} for r in told["relations"]}
+        s = {r["name"]: self.world.no_tuples(r["name"]) | {tuple(t): True for t in r["tuples"]}
+             for r in told["relations"]}
         s |= {f["name"]: {tuple(x["at"]): x["is"] for x in f["values"]} for f in told["functions"]}
         return self.world.packed(s)
 
