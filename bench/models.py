@@ -7,7 +7,8 @@ models, and every structure of up to three elements a sort.
 
 The judge knows nothing of the program's way: no precondition, no clause. It makes every structure of every size that
 has at most 20,000 structures, keeps those that satisfy the axioms (and, but for init, the conjectures), and follows
-each path of each block from each, element by element. Of each group it asks:
+each path of each block from each, element by element; where two come to the same structure, it is followed once. Of each
+group it asks:
 
 - where `check` says `holds`, that no structure it made is a counterexample;
 - where it says `fails`, that the printed structure may stand before the block, that the path with the printed elements
@@ -37,8 +38,10 @@ lean counts and how many models wanted more memory there, how many groups were c
 many models differ. The status is 1 where one differs;
 such a model is printed. It takes the processors that it may run on (all, or those of `taskset`).
 """
+import functools
 import itertools
 import json
+import math
 import multiprocessing
 import random
 import re
@@ -206,42 +209,70 @@ class Maker:
 # -- The judge ----------------------------------------------------------------
 
 class World:
-    """The structures of a model with these sizes. A structure is a dictionary from symbols to values by tuples."""
+    """The structures of a model with these sizes. A structure is a number: each tuple of a symbol has bits of its own,
+    which are the value there, an element or 1 for true."""
 
     def __init__(self, model, sizes):
         self.model, self.sizes = model, dict(zip(model.sorts, sizes))
         self.takes = {r: (sorts, None) for r, sorts in model.relations.items()} | model.functions
-        self.made = {}
+        self.length = {symbol: math.prod(self.sizes[s] for s in sorts) for symbol, (sorts, _) in self.takes.items()}
+        self.width = {symbol: (len(self.values(symbol)) - 1).bit_length() for symbol in self.takes}
+        self.first, self.mask, self.made, count = {}, {}, {}, 0
+        for symbol in self.takes:
+            bits = self.width[symbol] * self.length[symbol]
+            self.first[symbol], self.mask[symbol] = count, (1 << bits) - 1 << count
+            count += bits
 
     def tuples(self, symbol):
         return list(itertools.product(*(range(self.sizes[s]) for s in self.takes[symbol][0])))
 
     def values(self, symbol):
         into = self.takes[symbol][1]
-        return range(self.sizes[into]) if into else (False, True)
+        return range(self.sizes[into] if into else 2)
 
     def count(self):
         found = 1
         for symbol in self.takes:
-            found *= len(self.values(symbol)) ** len(self.tuples(symbol))
+            found *= len(self.values(symbol)) ** self.length[symbol]
             if found > MOST:
                 return found
         return found
 
-    def tables(self, symbol):
-        """Gives every table of a symbol."""
-        tuples = self.tuples(symbol)
-        return [dict(zip(tuples, values)) for values in itertools.product(self.values(symbol), repeat=len(tuples))]
+    def bits(self, symbol, values):
+        """Gives the bits of a symbol with these values, in the order of its tuples."""
+        return sum(value << self.first[symbol] + self.width[symbol] * i for i, value in enumerate(values))
 
-    def structures(self):
-        for chosen in itertools.product(*map(self.tables, self.takes)):
-            yield dict(zip(self.takes, chosen))
+    def tables(self, symbol):
+        """Gives the bits of every table of a symbol."""
+        return [self.bits(symbol, values)
+                for values in itertools.product(self.values(symbol), repeat=self.length[symbol])]
+
+    @functools.cached_property
+    def lawful(self):
+        """Every structure in which the axioms hold."""
+        found = [0]
+        for symbol in self.takes:
+            tables = self.tables(symbol)
+            found = [s | table for s in found for table in tables]
+        return list(filter(self.is_lawful, found))
+
+    @functools.cached_property
+    def is_lawful(self):
+        """The function that tells whether the axioms hold in a structure."""
+        return self.function(("and", [p for _, p in self.model.axioms]))
+
+    def place(self, symbol, args):
+        """Gives Python's text of where the bits of a symbol begin at arguments of these texts."""
+        index = "0"
+        for sort, arg in zip(self.takes[symbol][0], args):
+            index = f"({index} * {self.sizes[sort]} + {arg})"
+        return f"({self.first[symbol]} + {self.width[symbol]} * {index})"
 
     def code(self, e):
         """Gives Python's text of an expression over a structure `s`; bound names are variables."""
         word = e[0]
         if word in ("rel", "app"):
-            return f"s[{e[1]!r}][{''.join(self.code(t) + ',' for t in e[2]).join('()')}]"
+            return f"(s >> {self.place(e[1], map(self.code, e[2]))} & {(1 << self.width[e[1]]) - 1})"
         if word == "bound":
             return name_of(e[1])
         if word in ("true", "false"):
@@ -249,8 +280,7 @@ class World:
         if word in ("and", "or"):
             return "(" + f" {word} ".join(map(self.code, e[1])) + ")" if e[1] else str(word == "and")
         if word in ("forall", "exists"):
-            loops = " ".join(f"for {name_of(x)} in range({self.sizes[sort]})" for x, sort in e[1])
-            return f"{'all' if word == 'forall' else 'any'}({self.code(e[2])} {loops})"
+            return f"{'all' if word == 'forall' else 'any'}({self.code(e[2])} {self.loops(e[1])})"
         parts = [self.code(p) for p in e[1:]]
         if word == "not":
             return f"(not {parts[0]})"
@@ -260,79 +290,140 @@ class World:
             return f"({parts[1]} if {parts[0]} else {parts[2]})"
         return f"({parts[0]} == {parts[1]})"
 
+    def loops(self, binders):
+        return " ".join(f"for {name_of(x)} in range({self.sizes[sort]})" for x, sort in binders)
+
     def function(self, e, names=()):
-        key = repr((e, tuple(names)))
+        """Gives an expression as a function of a structure, and of elements for these bound names."""
+        return self.made_of((e, names), lambda: self.code(e), names)
+
+    def setting(self, symbol, names, side):
+        """Gives the function from a structure to that where the table of a symbol is what this says of its tuples."""
+        return self.made_of((symbol, names, side), lambda: f"s & {~self.mask[symbol]} | sum([{self.code(side)} << "
+                            f"{self.place(symbol, map(name_of, names))} "
+                            f"{self.loops(zip(names, self.takes[symbol][0]))}])")
+
+    def made_of(self, what, code, names=()):
+        key = repr(what)
         if key not in self.made:
-            words = "".join(f", {name_of(x)}" for x in names)
-            self.made[key] = eval(f"lambda s{words}: {self.code(e)}")
+            self.made[key] = eval(f"lambda {', '.join(['s', *map(name_of, names)])}: {code()}")
         return self.made[key]
 
     def holds(self, sentences, s):
         return all(self.function(p)(s) for _, p in sentences)
 
-    def table(self, symbol, entry):
-        """Gives the table of a symbol that a printed entry of a havoc is: an element, a truth value or tuples."""
-        sorts, into = self.takes[symbol]
-        if into or not sorts:
-            return {(): int(entry) if into else entry == "true"}
-        told = {tuple(map(int, t.split(","))) for t in re.findall(r"\(([\d,]*)\)", entry)}
-        return {t: t in told for t in self.tuples(symbol)}
-
-    def steps(self, primitive, s, entries=None):
-        """Gives the structures behind a primitive that neither assumes nor aborts, and in which the axioms hold."""
-        symbol = primitive[1]
-        if primitive[0] == "havoc":
+    def steps(self, primitive, states, entries=None):
+        """Gives the structures behind a primitive that does not abort, from these; a havoc takes an entry, or any."""
+        if primitive[0] == "assume":
+            return set(filter(self.function(primitive[1]), states))
+        if primitive[0] == "set":
+            found = set(map(self.setting(*primitive[1:]), states))
+        else:
+            symbol = primitive[1]
             tables = self.tables(symbol) if entries is None else [self.table(symbol, entries.pop(0))]
-        else:
-            side = self.function(primitive[3], primitive[2])
-            tables = [{t: side(s, *t) for t in self.tuples(symbol)}]
-        for table in tables:
-            new = s | {symbol: table}
-            if self.holds(self.model.axioms, new):
-                yield new
+            found = {s | table for s in {s & ~self.mask[symbol] for s in states} for table in tables}
+        return set(filter(self.is_lawful, found))
 
-    def ends(self, path, s, entries=None):
-        """Gives the structures where the path ends, and None for an abort; havocs take these entries, or any."""
+    def ends(self, path, states, entries=None):
+        """Gives the structures where the path ends from these, and None for an abort; havocs take entries, or any."""
+        for primitive in path:
+            if not states:
+                break
+            if primitive[0] == "abort":
+                return {None}
+            states = self.steps(primitive, states, entries)
+        return set(states)
+
+    def breaker(self, path, known):
+        """Gives the function from a structure to what the path breaks from there: the names of the conjectures that are
+        false at one of its ends, or `abort`. It keeps what it gave, and `known` keeps the functions of what is left of
+        paths: so each structure is followed once from each place of a path."""
+        key = tuple(map(id, path))
+        if key not in known:
+            known[key] = functools.cache(self.new_breaker(path, known))
+        return known[key]
+
+    def new_breaker(self, path, known):
         if not path:
-            yield s
-        elif path[0][0] == "abort":
-            yield None
-        elif path[0][0] == "assume":
-            if self.function(path[0][1])(s):
-                yield from self.ends(path[1:], s, entries)
-        else:
-            for new in self.steps(path[0], s, entries):
-                yield from self.ends(path[1:], new, entries)
+            tests = [(name, self.function(c)) for name, c in self.model.conjectures]
+            return lambda s: frozenset([name for name, is_true in tests if not is_true(s)])
+        word, *about = path[0]
+        if word == "abort":
+            return lambda s: frozenset(["abort"])
+        rest, nothing, is_lawful = self.breaker(path[1:], known), frozenset(), self.is_lawful
+        if word == "assume":
+            is_true = self.function(*about)
+            return lambda s: rest(s) if is_true(s) else nothing
+        if word == "set":
+            setting = self.setting(*about)
+            return lambda s: rest(new) if is_lawful(new := setting(s)) else nothing
+        tables, others = self.tables(*about), ~self.mask[about[0]]
+        of_others = functools.cache(lambda s: nothing.union(*{rest(s | t) for t in tables if is_lawful(s | t)}))
+        return lambda s: of_others(s & others)
 
     def tally(self, s):
-        return [sum(s[r].values()) for r in self.model.relations]
+        return [(s & self.mask[r]).bit_count() for r in self.model.relations]
+
+    def packed(self, tables):
+        """Gives the structure of tables, dictionaries from tuples to values."""
+        if tables.keys() != self.takes.keys():
+            raise ValueError(f"tables of {list(tables)}")
+        return sum(self.packed_table(symbol, table) for symbol, table in tables.items())
+
+    def packed_table(self, symbol, table):
+        """Gives the bits of a table."""
+        tuples, values = self.tuples(symbol), self.values(symbol)
+        if table.keys() != set(tuples) or any(value not in values for value in table.values()):
+            raise ValueError(f"no table of {symbol}: {table}")
+        return self.bits(symbol, [table[t] for t in tuples])
+
+    def no_tuples(self, relation):
+        """Gives the table of a relation that is true nowhere."""
+        return dict.fromkeys(self.tuples(relation), False)
+
+    def table(self, symbol, entry):
+        """Gives the bits of the table of a symbol that a printed entry of a havoc is: an element, a truth value or
+        tuples."""
+        sorts, into = self.takes[symbol]
+        if into or not sorts:
+            return self.packed_table(symbol, {(): int(entry) if into else entry == "true"})
+        told = {tuple(map(int, t.split(","))) for t in re.findall(r"\(([\d,]*)\)", entry)}
+        return self.packed_table(symbol, self.no_tuples(symbol) | dict.fromkeys(told, True))
 
     def read(self, lines):
         """Gives the structure of printed tables."""
-        s = {}
+        tables = {}
         for line in lines:
             kind, name, rest = re.match(r"(\w+) (\w+):(.*)", line).groups()
             if kind == "variable":
-                s[name] = {(): int(rest)}
+                tables[name] = {(): int(rest)}
             elif kind == "relation" and not self.takes[name][0]:
-                s[name] = {(): rest.strip() == "true"}
+                tables[name] = {(): rest.strip() == "true"}
             else:
                 pairs = re.findall(r"\(([\d,]*)\)(?:->(\d+))?", rest)
                 told = {tuple(map(int, t.split(","))): int(x) if x else True for t, x in pairs}
-                s[name] = {t: told.get(t, False) for t in self.tuples(name)}
-        return s
+                tables[name] = self.no_tuples(name) | told if kind == "relation" else told
+        return self.packed(tables)
 
     def is_false(self, conjecture, values, s):
         """Whether what stands behind the leading foralls of a conjecture is false of these values of theirs."""
-        names = []
+        binders = []
         while conjecture[0] == "forall":
-            names += [x for x, _ in conjecture[1]]
+            binders += conjecture[1]
             conjecture = conjecture[2]
-        return len(names) == len(values) and not self.function(conjecture, names)(s, *values)
+        if any(value not in range(self.sizes[sort]) for value, (_, sort) in zip(values, binders)):
+            raise ValueError(f"values that are no elements: {values}")
+        return len(binders) == len(values) and not self.function(conjecture, [x for x, _ in binders])(s, *values)
 
 
 def name_of(bound):
     return "x_" + bound.replace("@", "at")
+
+
+@functools.lru_cache(maxsize=32)
+def world_of(model, sizes):
+    """Gives the world of a model with these sizes, made once."""
+    return World(model, sizes)
 
 
 class Found:
@@ -342,21 +433,25 @@ class Found:
     def __init__(self, model):
         self.model, self.goals, self.made = model, {}, []
         for sizes in itertools.product((1, 2, 3), repeat=len(model.sorts)):
-            world = World(model, sizes)
+            world = world_of(model, sizes)
             if world.count() <= MOST:
                 self.made.append(sizes)
-                for s in world.structures():
-                    if world.holds(model.axioms, s):
-                        self.put(world, sizes, s)
+                self.put(world, sizes)
 
-    def put(self, world, sizes, s):
-        goals = set(broken(world, s))
-        if goals:
-            key = frozenset(name for name, c in self.model.conjectures if world.function(c)(s)), sizes
-            tally = world.tally(s)
-            for goal in goals:
-                least = self.goals.setdefault(goal, {})
-                least[key] = min(least.get(key, tally), tally)
+    def put(self, world, sizes):
+        """Puts what each path breaks from each structure that satisfies the axioms."""
+        known = {}
+        false = world.breaker([], known)
+        told = sorted([(world.tally(s), s, false(s)) for s in world.lawful], reverse=True)
+        for stage, paths in self.model.stages():
+            for number, path in enumerate(paths, 1):
+                broken = world.breaker(path, known)
+                # of equal keys the last is taken, and it has the least numbers
+                for (names, before), tally in {(broken(s), before): tally for tally, s, before in told}.items():
+                    key = frozenset(name for name, _ in self.model.conjectures if name not in before), sizes
+                    for name in names & {"abort"} if stage == "final" else names:
+                        least = self.goals.setdefault((stage, number, name), {})
+                        least[key] = min(least.get(key, tally), tally)
 
     def failing(self, stage, name, held):
         """Gives for each path of a group that fails where conjectures of these names are held (not of init) the least
@@ -368,19 +463,6 @@ class Found:
                     least = found.setdefault(number, {})
                     least[sizes] = min(least.get(sizes, tally), tally)
         return found
-
-
-def broken(world, s):
-    """Gives the goals of which a structure is a counterexample, where no conjecture is held."""
-    for stage, paths in world.model.stages():
-        for number, path in enumerate(paths, 1):
-            for end in world.ends(path, s):
-                if end is None:
-                    yield stage, number, "abort"
-                elif stage != "final":
-                    for name, c in world.model.conjectures:
-                        if not world.function(c)(end):
-                            yield stage, number, name
 
 
 # -- The report ---------------------------------------------------------------
@@ -420,7 +502,7 @@ class Shown:
         at = next(i for i, line in enumerate(lines) if line.startswith("havoc:"))
         before = lines[lines.index("before") + 1:at]
         self.sizes = tuple(int(line.split()[2]) for line in before if line.startswith("sort "))
-        self.world = World(model, self.sizes)
+        self.world = world_of(model, self.sizes)
         self.before = self.world.read([line for line in before if not line.startswith("sort ")])
         self.havoc = lines[at].split()[1:]
         self.aborts = lines[at + 1] == "aborts"
@@ -434,8 +516,7 @@ class Shown:
             yield "an axiom is false before"
         if stage != "init" and not world.holds(held, self.before):
             yield "a conjecture is false before"
-        ends = list(world.ends(path, self.before, list(self.havoc)))
-        if ends != [self.after]:
+        if world.ends(path, {self.before}, list(self.havoc)) != {self.after}:
             yield "the path does not end as printed"
         elif not self.aborts:
             if not world.is_false(dict(self.model.conjectures)[name], self.values, self.after):
@@ -449,7 +530,7 @@ class Viewed(Shown):
         shown = told["execution"]
         self.model, self.path, self.is_least = model, told["path"], told.get("least") is True
         self.sizes = tuple(sort["size"] for sort in shown["before"]["sorts"])
-        self.world = World(model, self.sizes)
+        self.world = world_of(model, self.sizes)
         self.before = self.tables(shown["before"])
         self.havoc = [self.entry(havoc) for havoc in shown["takes"]]
         self.aborts = shown["after"] is None
@@ -457,8 +538,10 @@ class Viewed(Shown):
         self.values = shown["values"]
 
     def tables(self, told):
-        s = {r["name"]: {t: list(t) in r["tuples"] for t in self.world.tuples(r["name"])} for r in told["relations"]}
-        return s | {f["name"]: {tuple(x["at"]): x["is"] for x in f["values"]} for f in told["functions"]}
+        s = {r["name"]: self.world.no_tuples(r["name"]) | {tuple(t): True for t in r["tuples"]}
+             for r in told["relations"]}
+        s |= {f["name"]: {tuple(x["at"]): x["is"] for x in f["values"]} for f in told["functions"]}
+        return self.world.packed(s)
 
     def entry(self, havoc):
         """Gives what a havoc takes as a report has it."""
@@ -477,7 +560,7 @@ class Run:
         heads = [i for i, line in enumerate(lines) if re.search(r" path \d+ of \d+$", line)]
         before = lines[1:heads[0]]
         self.sizes = tuple(int(line.split()[2]) for line in before if line.startswith("sort "))
-        self.world = World(model, self.sizes)
+        self.world = world_of(model, self.sizes)
         self.before = self.world.read([line for line in before if not line.startswith("sort ")])
         if lines[-1].startswith("values:"):
             self.values = [int(x) for x in lines.pop().split()[1:]]
@@ -498,7 +581,7 @@ class Run:
             yield "an axiom is false before"
         for stage, number, count, entries, after in self.parts:
             paths = paths_of[stage]
-            if s is None or count != len(paths) or list(world.ends(paths[number - 1], s, entries)) != [after]:
+            if s is None or count != len(paths) or world.ends(paths[number - 1], {s}, entries) != {after}:
                 yield f"{stage} does not end as printed"
             s = after
         if what == "abort":
@@ -512,13 +595,12 @@ def broken_lengths(model):
     """Gives for each number of actions by what its runs are broken, through structures of small sizes."""
     found = [set() for _ in range(STEPS + 1)]
     for sizes in itertools.product((1, 2, 3), repeat=len(model.sorts)):
-        world = World(model, sizes)
+        world = world_of(model, sizes)
         if world.count() <= MOST_OF_RUNS:
-            lawful = [s for s in world.structures() if world.holds(model.axioms, s)]
-            states = behind(world, model.init, lawful, found[0])
+            false = world.breaker([], {})
+            states = behind(world, model.init, world.lawful, found[0])
             for length in range(STEPS + 1):
-                for s in states:
-                    found[length].update(name for name, c in model.conjectures if not world.function(c)(s))
+                found[length].update(*map(false, states))
                 behind(world, model.final, states, found[length])
                 if length < STEPS:
                     paths = [path for _, paths in model.actions for path in paths]
@@ -527,16 +609,11 @@ def broken_lengths(model):
 
 
 def behind(world, paths, states, found):
-    """Gives the structures behind these paths, each once; an abort is put into what was found."""
-    ends = {}
-    for s in states:
-        for path in paths:
-            for end in world.ends(path, s):
-                if end is None:
-                    found.add("abort")
-                else:
-                    ends[repr(end)] = end
-    return list(ends.values())
+    """Gives the structures behind these paths; an abort is put into what was found."""
+    ends = set().union(*(world.ends(path, states) for path in paths))
+    if None in ends:
+        found.add("abort")
+    return ends - {None}
 
 
 def bounded_differences(model, told, tallies):

@@ -21,7 +21,7 @@ import tempfile
 from collections import Counter
 
 import rml
-from models import World
+from models import world_of
 from program import examples, program
 
 MOST, MOST_SIZE = 2 ** 64 - 1, 100_000
@@ -117,7 +117,7 @@ class Report:
             sizes.append(number(behind(self.next(), f"    sort {sort} "), MOST_SIZE))
             if not sizes[-1]:
                 raise Unexpected
-        world = World(self.model, sizes)
+        world = world_of(self.model, tuple(sizes))
         before, _ = self.tables(world)
         entries = self.entries([p[1] for p in path if p[0] == "havoc"], world)
         shown = {"stage": stage, "path": path, "world": world, "before": before, "before_line": before_line,
@@ -188,7 +188,7 @@ class Report:
             s[r], lines[r] = self.relation(world, r, sorts), self.at
         for f, (sorts, into) in self.model.functions.items():
             s[f], lines[f] = self.function(world, f, sorts, into), self.at
-        return s, lines
+        return world.packed(s), lines
 
     def relation(self, world, r, sorts):
         line = self.next()
@@ -247,14 +247,15 @@ def demands(model, shown):
         yield shown["before_line"], 2
     if shown["stage"] != "init" and not world.holds(model.conjectures, shown["before"]):
         yield shown["before_line"], 3
-    ends = list(world.ends(shown["path"], shown["before"], list(shown["havoc"])))
+    ends = world.ends(shown["path"], {shown["before"]}, list(shown["havoc"]))
     if not ends:
         yield shown["havoc_line"], 4
     elif shown["after"] is not None:
+        end = ends.pop()
         for symbol, line in shown["lines"].items():
-            if ends[0][symbol] != shown["after"][symbol]:
+            if (end ^ shown["after"]) & world.mask[symbol]:
                 yield line, 5
-        if not world.is_false(shown["conjecture"], shown["values"], ends[0]):
+        if not world.is_false(shown["conjecture"], shown["values"], end):
             yield shown["values_line"], 6
 
 
