@@ -1,15 +1,12 @@
 // What a sentence would cost, counted before anything is built.
-ghost use Rattle.std.specs.Prelude.{◌≡◌, ℕ, List, [], sum, IfOk};
+ghost use Rattle.std.specs.Prelude.{[], IfOk};
 ghost use Rattle.fol_sig.specs.Tables.{Declared};
 ghost use Rattle.fol_sig.specs.Symbols.{symbols};
 ghost use Rattle.fol_sig.specs.Strata.{IsStrata};
 ghost use Rattle.fol_formula.specs.Syntax.{FormTree};
-ghost use Rattle.fol_formula.specs.Counts.{saturated};
 ghost use Rattle.fol_formula.specs.Fits.{FitsForm};
 ghost use Rattle.fol_formula.specs.Fragments.{IsEa};
 ghost use Rattle.ground_size.specs.Conjoined.{and_of};
-ghost use Rattle.ground_size.specs.Counting.{AreTermCounts};
-ghost use Rattle.ground_size.specs.Sizes.{size_of};
 ghost use Rattle.ground_size.specs.Found.{IsGroundSize};
 ghost use Rattle.ea_decide.specs.Passing.{ceilings};
 ghost use Rattle.ea_decide.specs.Measuring.{IsMeasured};
@@ -36,8 +33,11 @@ pub fn measure(
     ensures { IfOk result (IsMeasured (ceilings limits.now) signature.now sentence.now) }
 {
     let counts = count(alloc, signature, strata, sentence)?;
-    let size = ground_size(signature, &counts, sentence);
-    Ok(measured(counts.total(), size, limits))
+    let found = GroundSize {
+        terms: counts.total(),
+        size: ground_size(signature, &counts, sentence),
+    };
+    Ok(measure_size(found, limits))
 }
 
 /// The same of the And of these parts, which is not built either.
@@ -54,8 +54,11 @@ pub fn measure_parts(
     ensures { IfOk result (IsMeasured (ceilings limits.now) signature.now (and_of parts.now)) }
 {
     let counts = count_parts(alloc, signature, strata, parts)?;
-    let size = ground_size_of_parts(signature, &counts, parts);
-    Ok(measured(counts.total(), size, limits))
+    let found = GroundSize {
+        terms: counts.total(),
+        size: ground_size_of_parts(signature, &counts, parts),
+    };
+    Ok(measure_size(found, limits))
 }
 
 /// The same of a sentence whose ground formulas are counted.
@@ -63,20 +66,11 @@ pub fn measure_size(found: GroundSize, limits: &Limits) -> Measured
     ensures { (sig : Declared) (p : FormTree) → IsGroundSize sig p found
         → IsMeasured (ceilings limits.now) sig p result }
 {
-    measured(found.terms, found.size, limits)
-}
-
-// What is told of so many ground terms and ground formulas of this size.
-fn measured(terms: u64, size: u64, limits: &Limits) -> Measured
-    ensures { (sig : Declared) (p : FormTree) (counts : List ℕ) → AreTermCounts sig p counts
-        → terms ≡ saturated (sum counts) → size ≡ saturated (size_of sig counts p)
-        → IsMeasured (ceilings limits.now) sig p result }
-{
-    if terms > limits.terms {
-        return Measured::Over(Passed::Terms(terms));
+    if found.terms > limits.terms {
+        return Measured::Over(Passed::Terms(found.terms));
     }
-    if size > limits.ground_size {
-        return Measured::Over(Passed::GroundSize(size));
+    if found.size > limits.ground_size {
+        return Measured::Over(Passed::GroundSize(found.size));
     }
-    Measured::Within(size)
+    Measured::Within(found.size)
 }
