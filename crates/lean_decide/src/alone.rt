@@ -87,7 +87,9 @@ fn is_kept(alloc: Global, checked: &Checked, goal: &Goal, number: u32, limits: &
                 &answered,
                 precondition,
                 limits,
-            )?;
+            );
+            drop(answered);
+            let kept = kept?;
             Ok(kept)
         }
         Err(Refused::NoMemory) => Err(AllocError),
@@ -118,7 +120,9 @@ fn is_refuted(
     let model = checked.model();
     let conjecture = &model.conjectures()[number as usize];
     let sentence = broken(alloc, conjecture, precondition)?;
-    match pruned_decide::decide(alloc, answered, checked.strata(), &sentence, limits) {
+    let decided = pruned_decide::decide(alloc, answered, checked.strata(), &sentence, limits);
+    drop(sentence);
+    match decided {
         Ok(Decided::Refuted(_)) => Ok(true),
         Ok(_) => Ok(false),
         Err(Refused::NoMemory) => Err(AllocError),

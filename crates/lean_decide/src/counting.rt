@@ -54,7 +54,10 @@ pub fn lean_passed(
 {
     match refuting_by(alloc, checked, Premises::Affected, goal) {
         Ok((answered, sentence)) => {
-            let passed = sentence_passed(alloc, checked, goal, &answered, &sentence, limits)?;
+            let passed = sentence_passed(alloc, checked, goal, &answered, &sentence, limits);
+            drop(sentence);
+            drop(answered);
+            let passed = passed?;
             Ok(passed)
         }
         Err(Refused::NoMemory) => Err(AllocError),

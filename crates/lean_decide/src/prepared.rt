@@ -38,11 +38,16 @@ pub fn prepare(alloc: Global, checked: &Checked, goal: &Goal) -> Mem<Prepared>
     ensures { IfOk result (IsPrepared checked.now goal.now) }
 {
     let affected = affected_sentence(alloc, checked, goal)?;
-    let precondition = whole_precondition(alloc, checked, goal)?;
-    Ok(Prepared {
-        affected,
-        precondition,
-    })
+    match whole_precondition(alloc, checked, goal) {
+        Ok(precondition) => Ok(Prepared {
+            affected,
+            precondition,
+        }),
+        Err(wanting) => {
+            drop(affected);
+            Err(wanting)
+        }
+    }
 }
 
 // The refuting sentence with the affected axioms alone as premises.

@@ -58,11 +58,14 @@ pub fn seek_by(
     obligation_decide::parts_law();
     let _checked = checked.model();
     let sentence = restricted(alloc, checked, goal, affected, more)?;
-    match decide_sentence(alloc, checked, goal, answered, &sentence, limits) {
+    let decided = decide_sentence(alloc, checked, goal, answered, &sentence, limits);
+    drop(sentence);
+    match decided {
         Ok(Decision::Holds(_)) => Ok(Sought::Nowhere),
         Ok(Decision::Fails(shown)) => Ok(Sought::Found(shown)),
+        Ok(Decision::Undecided(_)) => Ok(Sought::Open),
         Err(Refused::NoMemory) => Err(AllocError),
-        Ok(Decision::Undecided(_)) | Err(Refused::For(_)) => Ok(Sought::Open),
+        Err(Refused::For(_)) => Ok(Sought::Open),
     }
 }
 

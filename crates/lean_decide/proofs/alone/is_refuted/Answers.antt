@@ -7,13 +7,13 @@ use Rattle.lean_decide.proofs.Answered.{strata_of, same_fits}
 use Rattle.lean_decide.proofs.OwnConjecture.{conjecture_fits, precondition_fits}
 use Rattle.lean_decide.proofs.alone.is_refuted.Goals as goal
 
-pub decide-requires-clause-strata : goal.decide-requires-clause-strata
-decide-requires-clause-strata c =
+pub decide-decided-requires-clause-strata : goal.decide-decided-requires-clause-strata
+decide-decided-requires-clause-strata c =
     strata_of c.args.checked.now c.args.goal.now c.answered_goal.ensures.answered c.args.answered.now
     c.requires.answered c.strata.result.now c.strata.ensures
 
-pub decide-requires-clause-fits : goal.decide-requires-clause-fits
-decide-requires-clause-fits c =
+pub decide-decided-requires-clause-fits : goal.decide-decided-requires-clause-fits
+decide-decided-requires-clause-fits c =
     let m = c.args.checked.now in
     let g = c.args.goal.now in
     let law = c.sentence_law.ensures in

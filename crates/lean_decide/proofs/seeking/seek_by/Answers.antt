@@ -1,9 +1,9 @@
 use Rattle.ea_decide.specs.Passing.{ceilings}
-use Rattle.lean_decide.proofs.NoCounterexample.{AreExact, nowhere_by, found_by}
+use Rattle.lean_decide.proofs.NoCounterexample.{AreExact, nowhere_by, found_by, open_by, many_by}
 use Rattle.lean_decide.proofs.seeking.seek_by.Goals as goal
 
-pub decide_sentence-requires-clause-sentence : goal.decide_sentence-requires-clause-sentence
-decide_sentence-requires-clause-sentence c =
+pub decide_sentence-decided-requires-clause-sentence : goal.decide_sentence-decided-requires-clause-sentence
+decide_sentence-decided-requires-clause-sentence c =
     let m = c.args.checked.now in
     record {
       held = m.conjectures;
@@ -42,3 +42,8 @@ returns-in-Ok-Fails c =
     found_by exact (ceilings c.args.limits.now) m c.args.goal.now checked.model.fits
     c.answered_goal.ensures.signature c.answered_goal.ensures.answered c.requires.goal more added _
     c.in_ok-sentence.ensures _ _ c.in-Ok-Fails.field-0-is c.in-Ok-Fails.ensures.decided
+
+pub returns-in-Ok-Undecided : goal.returns-in-Ok-Undecided
+returns-in-Ok-Undecided c =
+    open_by (ceilings c.args.limits.now) c.args.checked.now c.args.goal.now c.args.more.now _ c.in_ok-sentence.ensures _
+    _ c.in-Ok-Undecided.field-0-is c.in-Ok-Undecided.ensures.decided
