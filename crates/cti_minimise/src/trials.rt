@@ -202,7 +202,9 @@ impl<'a> Trials<'a> {
         let sentences = bounds_on(alloc, signature, bounds, Saying::Named)?;
         let measured = self
             .prepared
-            .measure(alloc, self.checked, self.goal, &sentences, self.limits)?;
+            .measure(alloc, self.checked, self.goal, &sentences, self.limits);
+        drop(sentences);
+        let measured = measured?;
         Ok(measured)
     }
 
@@ -218,7 +220,9 @@ impl<'a> Trials<'a> {
         let sentences = bounds_on(alloc, signature, bounds, saying)?;
         let sought = self
             .prepared
-            .seek(alloc, self.checked, self.goal, &sentences, limits)?;
+            .seek(alloc, self.checked, self.goal, &sentences, limits);
+        drop(sentences);
+        let sought = sought?;
         Ok(sought)
     }
 
@@ -231,7 +235,9 @@ impl<'a> Trials<'a> {
     {
         let signature = self.checked.model().signature();
         let sentences = bounds_on(alloc, signature, bounds, Saying::Named)?;
-        let decision = decide_where(alloc, self.checked, self.goal, &sentences, self.limits)?;
+        let decision = decide_where(alloc, self.checked, self.goal, &sentences, self.limits);
+        drop(sentences);
+        let decision = decision?;
         Ok(decision)
     }
 }

@@ -59,7 +59,10 @@ pub fn clauses_of_goal(
 {
     match refuting(alloc, checked, goal) {
         Ok((answered, sentence)) => {
-            let clauses = clauses_of_sentence(alloc, checked, goal, &answered, &sentence, limits)?;
+            let clauses = clauses_of_sentence(alloc, checked, goal, &answered, &sentence, limits);
+            drop(sentence);
+            drop(answered);
+            let clauses = clauses?;
             Ok(clauses)
         }
         Err(Refused::NoMemory) => Err(AllocError),

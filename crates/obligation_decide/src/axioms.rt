@@ -22,7 +22,9 @@ pub fn decide_axioms(alloc: Global, checked: &Checked, limits: &Limits) -> Mem<A
     fol_nnf::exactness();
     let sentence = all_axioms(alloc, checked)?;
     let signature = checked.model().signature();
-    match ea_decide::decide(alloc, signature, checked.strata(), &sentence, limits)? {
+    let decided = ea_decide::decide(alloc, signature, checked.strata(), &sentence, limits);
+    drop(sentence);
+    match decided? {
         Decided::Refuted(_) => Ok(Axioms::Inconsistent),
         Decided::Satisfied(_) => Ok(Axioms::Consistent),
         Decided::Over(passed) => Ok(Axioms::Undecided(cause_of(passed))),

@@ -73,7 +73,10 @@ pub fn decide_with(
     let _checked = checked.model();
     match refuting_with(alloc, checked, goal, held) {
         Ok((answered, sentence)) => {
-            let decision = decide_sentence(alloc, checked, goal, &answered, &sentence, limits)?;
+            let decided = decide_sentence(alloc, checked, goal, &answered, &sentence, limits);
+            drop(sentence);
+            drop(answered);
+            let decision = decided?;
             Ok(decision)
         }
         Err(Refused::NoMemory) => Err(AllocError),
@@ -102,7 +105,10 @@ pub fn decide_where(
     let _checked = checked.model();
     match restricted(alloc, checked, goal, more) {
         Ok((answered, sentence)) => {
-            let decision = decide_sentence(alloc, checked, goal, &answered, &sentence, limits)?;
+            let decided = decide_sentence(alloc, checked, goal, &answered, &sentence, limits);
+            drop(sentence);
+            drop(answered);
+            let decision = decided?;
             Ok(decision)
         }
         Err(Refused::NoMemory) => Err(AllocError),

@@ -68,7 +68,9 @@ fn measure_in(
 {
     match shared.refuting(alloc, checked, goal) {
         Ok((answered, sentence)) => {
-            let found = counted(alloc, shared, checked, goal, &answered, sentence)?;
+            let found = counted(alloc, shared, checked, goal, &answered, sentence);
+            drop(answered);
+            let found = found?;
             Ok(measured(found, limits))
         }
         Err(Refused::NoMemory) => Err(AllocError),

@@ -2,8 +2,8 @@ use Rattle.ea_decide.specs.Passing.{ceilings}
 use Rattle.obligation_decide.proofs.Restricting.{AreExact, restricted_by}
 use Rattle.obligation_decide.proofs.decide_where.Goals as goal
 
-pub decide_sentence-requires-clause-sentence : goal.decide_sentence-requires-clause-sentence
-decide_sentence-requires-clause-sentence c =
+pub decide_sentence-decided-requires-clause-sentence : goal.decide_sentence-decided-requires-clause-sentence
+decide_sentence-decided-requires-clause-sentence c =
     let m = c.args.checked.now in
     record {
       held = m.conjectures;

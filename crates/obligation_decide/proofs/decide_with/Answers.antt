@@ -5,8 +5,8 @@ use Rattle.ea_decide.specs.Passing.{ceilings}
 use Rattle.obligation_decide.proofs.Holding.{held_by}
 use Rattle.obligation_decide.proofs.decide_with.Goals as goal
 
-pub decide_sentence-requires-clause-sentence : goal.decide_sentence-requires-clause-sentence
-decide_sentence-requires-clause-sentence c =
+pub decide_sentence-decided-requires-clause-sentence : goal.decide_sentence-decided-requires-clause-sentence
+decide_sentence-decided-requires-clause-sentence c =
     let m = c.args.checked.now in
     let held = conjectures_of m c.args.held.now in
     record {

@@ -10,8 +10,8 @@ use Rattle.obligation_decide.proofs.SameAnswer.{signature_of, same_answer}
 use Rattle.obligation_decide.proofs.Conjoined.{axioms-fit, satisfied}
 use Rattle.obligation_decide.proofs.axioms.decide_axioms.Goals as goal
 
-pub decide-requires-clause-fits : goal.decide-requires-clause-fits
-decide-requires-clause-fits c =
+pub decide-decided-requires-clause-fits : goal.decide-decided-requires-clause-fits
+decide-decided-requires-clause-fits c =
     let m = c.args.checked.now in
     let sig = signature_of _ _ m c.signature-signature.ensures.value c.model.ensures.value in
     let fits = axioms-fit m c.model.ensures.checked.model.fits in
@@ -27,7 +27,7 @@ returns-in-Satisfied c =
     let fits = c.model.ensures.checked.model.fits in
     let sig = signature_of _ _ m c.signature-signature.ensures.value c.model.ensures.value in
     let answer = same_answer limits _ m.signature _ p _ _ sig c.in_ok-sentence.ensures c.in-Satisfied.is in
-    let decided = answer c.in_ok-decide.ensures in
+    let decided = answer c.in_ok-decided.ensures in
     let shown = satisfied m c.exactness-2.ensures.truth c.exactness-2.ensures.fits c.exactness.ensures.models fits t
     decided.1.model in
     (decided.0, (reduct (symbols m.signature) t, shown))
