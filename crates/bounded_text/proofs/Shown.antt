@@ -13,14 +13,14 @@ use Rattle.rml_command.specs.Fragment.{IsChecked}
 use Rattle.rml_command.specs.Laws.{UpdatesKeepSymbols, PathHasFollowedOutcomes, GoalPathsFit}
 use Rattle.rml_command.specs.declared.goal.About.TheVariants as about
 use Rattle.ea_decide.specs.Passing.{Ceilings}
-use Rattle.rml_bmc.specs.Shown.{outcome_of, IsPart, AreParts, IsShownRun}
+use Rattle.rml_bmc.specs.Shown.{outcome_of, EndFits, IsPart, AreParts, IsShownRun}
 use Rattle.rml_bmc.specs.Bounds.{IsBounded}
 use Rattle.rml_bmc.specs.declared.answer.Part.{Part}
 use Rattle.rml_bmc.specs.declared.answer.Run.{Run}
 use Rattle.rml_bmc.specs.declared.answer.Bounded.{Bounded}
 use Rattle.rml_bmc.specs.declared.answer.Length.{Length}
 use Rattle.rml_bmc.specs.declared.answer.Length.TheVariants as answer
-use Rattle.bounded_text.specs.BoundedText.{EndFits, HasPath, CanShow, CanRender}
+use Rattle.bounded_text.specs.BoundedText.{HasPath, CanShow, CanRender}
 use Rattle.bounded_text.specs.Laws.{BoundedCanBeRendered}
 
 -- what is so of each entry is so of all
@@ -58,11 +58,11 @@ module _ (keep : UpdatesKeepSymbols) (followed : PathHasFollowedOutcomes) (fit :
   path_fits (q ∷ qs) s new f fits (inr h) = path_fits qs h.0 new f.1 (step_fits q s h.0 f.0 fits h.1) h.2
 
   end_fits : (e : Option Tables) (p : List PrimitiveTree) (s : Tables) → FitsPath (symbols m.signature) p → Fits s
-      → PathHasOutcome m.axioms p s (outcome_of e) → EndFits m e
+      → PathHasOutcome m.axioms p s (outcome_of e) → EndFits (symbols m.signature) e
   end_fits None p s f fits h = tt
   end_fits (Some new) p s f fits h = path_fits p s new f fits h
 
-  part_fits : (s : Tables) (part : Part) → Fits s → IsPart m s part → EndFits m part.end
+  part_fits : (s : Tables) (part : Part) → Fits s → IsPart m s part → EndFits (symbols m.signature) part.end
   part_fits s part fits is =
       end_fits part.end is.path s
       (fit.symbols_fit m (record { stage = part.stage; path = part.trace.path; about = about.Abort }) is.path
@@ -70,8 +70,8 @@ module _ (keep : UpdatesKeepSymbols) (followed : PathHasFollowedOutcomes) (fit :
       ((followed m.axioms is.path s (outcome_of part.end)).1
       (record { havocs = part.trace.havoc; count = is.count; ends = is.ends }))
 
-  parts_fit : (e : Option Tables) (parts : List Part) → EndFits m e
-      → MatchOption e (parts ≡ []) (λ t. AreParts m t parts) → AllByRecursion (λ part. EndFits m part.end) parts
+  parts_fit : (e : Option Tables) (parts : List Part) → EndFits (symbols m.signature) e
+      → MatchOption e (parts ≡ []) (λ t. AreParts m t parts) → AllByRecursion (λ part. EndFits (symbols m.signature) part.end) parts
   parts_fit e [] fits are = tt
   parts_fit None (part ∷ parts) fits are = absurd (cc are)
   parts_fit (Some s) (part ∷ parts) fits are =

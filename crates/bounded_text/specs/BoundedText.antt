@@ -16,6 +16,7 @@ use Rattle.rml_report.specs.TableText.{tables_text, sorts_text}
 use Rattle.rml_report.specs.HavocText.{havoc_line}
 use Rattle.rml_report.specs.ReportText.{stage_text}
 use Rattle.rml_bmc.specs.Lengths.{verdict_of}
+use Rattle.rml_bmc.specs.Shown.{EndFits}
 use Rattle.rml_bmc.specs.declared.answer.Part.{Part}
 use Rattle.rml_bmc.specs.declared.answer.Run.{Run}
 use Rattle.rml_bmc.specs.declared.answer.BoundCause.{BoundCause}
@@ -95,11 +96,6 @@ verdict_text verdict.Undecided = codes "verdict: undecided\n"
 unfoldable pub bounded_text : ModelTree → Bounded → List ℕ
 bounded_text m b = lengths_text m 0 b.lengths ++ verdict_text (verdict_of b.lengths)
 
--- an end has the model's symbols
-abbrev pub EndFits : ModelTree → Option Tables → Type 0
-EndFits m None = Unit {0}
-EndFits m (Some end) = FitsStructure (symbols m.signature) end
-
 -- the part takes a path of the model
 pub record HasPath (m : ModelTree) (part : Part) : Type 0 where
   pub path : List PrimitiveTree
@@ -109,7 +105,7 @@ pub record HasPath (m : ModelTree) (part : Part) : Type 0 where
 pub record CanShow (m : ModelTree) (run : Run) : Type 0 where
   pub start : FitsStructure (symbols m.signature) run.start
   pub paths : AllByRecursion (HasPath m) run.parts
-  pub ends : AllByRecursion (λ part. EndFits m part.end) run.parts
+  pub ends : AllByRecursion (λ part. EndFits (symbols m.signature) part.end) run.parts
 
 -- the answer to a length can be
 abbrev pub CanRender : ModelTree → Length → Type 0

@@ -4,7 +4,8 @@ ghost use Rattle.std.specs.List.{AllByRecursion, flat_map};
 ghost use Rattle.base.specs.Lists.{numbered};
 ghost use Rattle.fol_sig.specs.Symbols.{FitsStructure, symbols};
 ghost use Rattle.rml_command.specs.Goals.{stage_paths};
-ghost use Rattle.bounded_text.specs.BoundedText.{EndFits, HasPath, CanShow, end_text, part_line, havocs_line};
+ghost use Rattle.rml_bmc.specs.Shown.{EndFits};
+ghost use Rattle.bounded_text.specs.BoundedText.{HasPath, CanShow, end_text, part_line, havocs_line};
 ghost use Rattle.bounded_text.specs.BoundedText.{part_text, values_text, broken_text, run_text};
 
 use base::{Mem, push_number, push_text};
@@ -19,7 +20,7 @@ use std::alloc::Global;
 // The tables of an end.
 #[tactic(auto, using(std::proofs::Common::append_assoc))]
 fn push_after(alloc: Global, out: &mut Vec<u8>, checked: &Checked, end: &Structure) -> Mem<()>
-    requires { EndFits checked.now (Some end.now) }
+    requires { EndFits (symbols checked.now.signature) (Some end.now) }
     ensures { OnOk result (out.new.items ≡ out.old.items ++ end_text checked.now.names (Some end.now)) }
 {
     push_text(out, "  after\n")?;
@@ -29,7 +30,7 @@ fn push_after(alloc: Global, out: &mut Vec<u8>, checked: &Checked, end: &Structu
 
 // How a part ends.
 fn push_end(alloc: Global, out: &mut Vec<u8>, checked: &Checked, part: &Part) -> Mem<()>
-    requires { EndFits checked.now part.now.end }
+    requires { EndFits (symbols checked.now.signature) part.now.end }
     ensures { OnOk result (out.new.items ≡ out.old.items ++ end_text checked.now.names part.now.end) }
 {
     match &part.end {
@@ -92,7 +93,7 @@ fn push_part(
 ) -> Mem<()>
     requires path { HasPath checked.now part.now }
     requires start { FitsStructure (symbols checked.now.signature) start.now }
-    requires end { EndFits checked.now part.now.end }
+    requires end { EndFits (symbols checked.now.signature) part.now.end }
     ensures { OnOk result (out.new.items ≡ out.old.items ++ part_text checked.now start.now part.now) }
 {
     push_part_line(out, checked, part)?;
@@ -111,7 +112,7 @@ fn push_parts(
 ) -> Mem<()>
     requires paths { AllByRecursion (HasPath checked.now) parts.now }
     requires start { FitsStructure (symbols checked.now.signature) start.now }
-    requires ends { AllByRecursion (λ part. EndFits checked.now part.end) parts.now }
+    requires ends { AllByRecursion (λ part. EndFits (symbols checked.now.signature) part.end) parts.now }
     ensures { OnOk result
         (out.new.items ≡ out.old.items ++ flat_map (λ part. part_text checked.now start.now part) parts.now) }
 {

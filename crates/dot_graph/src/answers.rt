@@ -1,10 +1,12 @@
 // The graphs of what is answered: of a report, of what is dropped, and of a run.
 ghost use Rattle.std.specs.Prelude.{◌≡◌, IfOk};
 ghost use Rattle.std.specs.List.{AllByRecursion};
+ghost use Rattle.fol_sig.specs.Symbols.{symbols};
 ghost use Rattle.rml_report.specs.Reports.{CanRender};
 ghost use Rattle.rml_houdini.specs.HoudiniText as dropping;
 ghost use Rattle.told_text.specs.Written.{Wrote};
-ghost use Rattle.bounded_text.specs.BoundedText.{EndFits, CanShow};
+ghost use Rattle.rml_bmc.specs.Shown.{EndFits};
+ghost use Rattle.bounded_text.specs.BoundedText.{CanShow};
 ghost use Rattle.dot_graph.specs.AnswerGraphs.{group_graph, group_graphs, drop_graphs};
 ghost use Rattle.dot_graph.specs.AnswerGraphs.{end_graph, part_graphs, run_graphs};
 
@@ -73,7 +75,7 @@ pub fn drops_graphs(alloc: Global, checked: &Checked, drops: &[Dropped]) -> Mem<
 
 // Where a part ends.
 fn push_end(alloc: Global, out: &mut Text, number: u64, checked: &Checked, part: &Part)
-    requires { EndFits checked.now part.now.end }
+    requires { EndFits (symbols checked.now.signature) part.now.end }
     ensures { Wrote out.old out.new (end_graph number checked.now.names part.now.stage part.now.end) }
 {
     match &part.end {
@@ -89,7 +91,7 @@ fn push_end(alloc: Global, out: &mut Text, number: u64, checked: &Checked, part:
 
 #[tactic(auto, using(std::proofs::Common::append_assoc))]
 fn push_ends(alloc: Global, out: &mut Text, checked: &Checked, parts: &[Part])
-    requires { AllByRecursion (λ part. EndFits checked.now part.end) parts.now }
+    requires { AllByRecursion (λ part. EndFits (symbols checked.now.signature) part.end) parts.now }
     ensures { Wrote out.old out.new (part_graphs 1 checked.now parts.now) }
 {
     // That their number is one of 63 bits is known where it is looked at.

@@ -2,7 +2,8 @@
 ghost use Rattle.std.specs.Prelude.{◌≡◌, map, IfOk};
 ghost use Rattle.std.specs.List.{AllByRecursion};
 ghost use Rattle.fol_sig.specs.Symbols.{FitsStructure, symbols};
-ghost use Rattle.bounded_text.specs.BoundedText.{EndFits, CanShow, CanRender};
+ghost use Rattle.rml_bmc.specs.Shown.{EndFits};
+ghost use Rattle.bounded_text.specs.BoundedText.{CanShow, CanRender};
 ghost use Rattle.json_values.specs.Values.{list_data};
 ghost use Rattle.json_outcome.specs.ExecutionData.{takes_along};
 ghost use Rattle.json_outcome.specs.BoundedData.{end_data, part_path, part_data, bound_cause_data};
@@ -21,7 +22,7 @@ use told_states::path_at;
 
 // The structure in which a part ends; null where it aborts.
 fn end_value(alloc: Global, checked: &Checked, part: &Part) -> Mem<Json>
-    requires { EndFits checked.now part.now.end }
+    requires { EndFits (symbols checked.now.signature) part.now.end }
     ensures { IfOk result (λ j. j ≡ end_data checked.now.names part.now.end) }
 {
     match &part.end {
@@ -45,7 +46,7 @@ fn takes_value(alloc: Global, checked: &Checked, start: &Structure, part: &Part)
 #[tactic(auto, unfolding(crate::specs::BoundedData::part_data))]
 fn part_value(alloc: Global, checked: &Checked, start: &Structure, part: &Part) -> Mem<Json>
     requires start { FitsStructure (symbols checked.now.signature) start.now }
-    requires end { EndFits checked.now part.now.end }
+    requires end { EndFits (symbols checked.now.signature) part.now.end }
     ensures { IfOk result (λ j. j ≡ part_data checked.now start.now part.now) }
 {
     let paths = checked.stage_paths(part.stage).len();
@@ -62,7 +63,7 @@ fn part_value(alloc: Global, checked: &Checked, start: &Structure, part: &Part) 
 #[tactic(auto, using(std::proofs::Common::append_assoc))]
 fn part_values(alloc: Global, checked: &Checked, start: &Structure, parts: &[Part]) -> Mem<Json>
     requires start { FitsStructure (symbols checked.now.signature) start.now }
-    requires ends { AllByRecursion (λ part. EndFits checked.now part.end) parts.now }
+    requires ends { AllByRecursion (λ part. EndFits (symbols checked.now.signature) part.end) parts.now }
     ensures { IfOk result (λ j. j ≡ list_data (map (part_data checked.now start.now) parts.now)) }
 {
     let mut list = JsonList::new(alloc);

@@ -1,7 +1,7 @@
 -- A run that is shown in full.
 use Rattle.std.specs.Prelude.{◌≡◌, true, List, [], ◌∷◌, length, map, MatchOption, Option, Some, None}
 use Rattle.fol_sig.specs.Tables.{Tables}
-use Rattle.fol_sig.specs.Symbols.{FitsStructure, symbols}
+use Rattle.fol_sig.specs.Symbols.{Symbols, FitsStructure, symbols}
 use Rattle.rml_command.specs.Trees.{PrimitiveTree}
 use Rattle.base.specs.Lists.{numbered}
 use Rattle.rml_command.specs.Paths.{havoc_count}
@@ -21,6 +21,11 @@ use Rattle.rml_bmc.specs.declared.answer.Run.{Run}
 abbrev pub outcome_of : Option Tables → Outcome
 outcome_of None = aborted
 outcome_of (Some s) = ended s
+
+-- an end is a structure of these symbols
+abbrev pub EndFits : Symbols → Option Tables → Type 0
+EndFits sig None = Unit {0}
+EndFits sig (Some s) = FitsStructure sig s
 
 -- the part's path, followed under its trace from this structure, ends in the part's end, or aborts where it has none
 pub record IsPart (m : ModelTree) (s : Tables) (part : Part) : Type 0 where

@@ -121,17 +121,17 @@ runs_text m told b =
     ++ set_off (all_open 0 b.lengths)
 
 -- an end has the model's symbols, and the sizes of the structure in which the run begins
-abbrev pub EndFits : ModelTree → List ℕ → Option Tables → Type 0
-EndFits m sizes None = Unit {0}
-EndFits m sizes (Some end) = FitsStructure (symbols m.signature) end × (end.sizes ≡ sizes)
+abbrev pub EndIsAlike : ModelTree → List ℕ → Option Tables → Type 0
+EndIsAlike m sizes None = Unit {0}
+EndIsAlike m sizes (Some end) = FitsStructure (symbols m.signature) end × (end.sizes ≡ sizes)
 
 -- a run can be told
-pub record CanShow (m : ModelTree) (run : Run) : Type 0 where
+pub record CanTellRun (m : ModelTree) (run : Run) : Type 0 where
   pub start : FitsStructure (symbols m.signature) run.start
-  pub ends : AllByRecursion (λ part. EndFits m run.start.sizes part.end) run.parts
+  pub ends : AllByRecursion (λ part. EndIsAlike m run.start.sizes part.end) run.parts
 
 -- the answer to a length can be
 abbrev pub CanTell : ModelTree → Length → Type 0
 CanTell m answer.Safe = Unit {0}
 CanTell m (answer.Undecided c) = Unit {0}
-CanTell m (answer.Broken run) = CanShow m run
+CanTell m (answer.Broken run) = CanTellRun m run

@@ -4,7 +4,7 @@ ghost use Rattle.std.specs.List.{AllByRecursion};
 ghost use Rattle.fol_sig.specs.Symbols.{FitsStructure, symbols};
 ghost use Rattle.told_text.specs.Written.{Wrote};
 ghost use Rattle.told_answers.specs.RunsText.{actions_text, changes_until, part_text, end_or, parts_text};
-ghost use Rattle.told_answers.specs.RunsText.{unit_text, run_head, run_text, EndFits, CanShow};
+ghost use Rattle.told_answers.specs.RunsText.{unit_text, run_head, run_text, EndIsAlike, CanTellRun};
 
 use fol_sig::Structure;
 use rml_bmc::{Part, Run};
@@ -48,7 +48,7 @@ fn push_until<T: InText>(
 )
     requires source { T.is_over source.now (symbols checked.now.signature) }
     requires begin { FitsStructure (symbols checked.now.signature) begin.now }
-    requires end { EndFits checked.now begin.now.sizes end.now }
+    requires end { EndIsAlike checked.now begin.now.sizes end.now }
     ensures { Wrote out.old out.new (changes_until checked.now (T.told source.now) begin.now end.now) }
 {
     if let Some(end) = end {
@@ -68,7 +68,7 @@ fn push_part<T: InText>(
 )
     requires source { T.is_over source.now (symbols checked.now.signature) }
     requires begin { FitsStructure (symbols checked.now.signature) begin.now }
-    requires end { EndFits checked.now begin.now.sizes part.now.end }
+    requires end { EndIsAlike checked.now begin.now.sizes part.now.end }
     ensures { Wrote out.old out.new (part_text checked.now (T.told source.now) begin.now part.now) }
 {
     let paths = checked.stage_paths(part.stage).len();
@@ -102,7 +102,7 @@ fn push_parts<T: InText>(
 )
     requires source { T.is_over source.now (symbols checked.now.signature) }
     requires start { FitsStructure (symbols checked.now.signature) start.now }
-    requires ends { AllByRecursion (λ part. EndFits checked.now start.now.sizes part.end) parts.now }
+    requires ends { AllByRecursion (λ part. EndIsAlike checked.now start.now.sizes part.end) parts.now }
     ensures { Wrote out.old out.new (parts_text checked.now (T.told source.now) start.now parts.now) }
 {
     let mut begin = start;
@@ -134,7 +134,7 @@ pub fn push_run<T: InText>(
     run: &Run,
 )
     requires source { T.is_over source.now (symbols checked.now.signature) }
-    requires run { CanShow checked.now run.now }
+    requires run { CanTellRun checked.now run.now }
     ensures { Wrote out.old out.new (run_text checked.now (T.told source.now) actions run.now) }
 {
     let model = checked.model();
