@@ -1,7 +1,7 @@
 -- What a walk makes of the parts of a node, one after the other, is what is made of the node.
 use Rattle.std.proofs.Common.{◌≡◌, ℕ, ◌<◌, Bool, true, false, List, [], ◌∷◌, ◌++◌, map, sym, ap, subst}
 use Rattle.std.proofs.Common.{◌∙◌}
-use Rattle.std.specs.Prelude.{not}
+use Rattle.std.specs.Prelude.{not, Result, Ok, Err, IfOk}
 use Rattle.fol_formula.specs.NormalForms.{both}
 use Rattle.fol_formula.specs.Syntax.{FormTree, FormTrees, TermTree, TermTrees, ite, term_then, equal}
 use Rattle.fol_formula.specs.Syntax.{forms_then, forms_of, disjunction, equivalence}
@@ -16,6 +16,11 @@ use Rattle.fol_pool.specs.declared.shape.Shape.TheVariants as shape
 use Rattle.fol_pool.specs.Growing.{stays_at, read_stays, grows_on}
 use Rattle.fol_pool.specs.Rows.{AreForms, formulas, forms_stay, forms_push, then_push, row_front, row_end}
 use Rattle.fol_pool.specs.Rows.{lent_formulas}
+
+-- what is so of an answer, and what follows from that
+pub if_ok : {A E : Type 0} (r : Result A E) (P Q : A → Type 0) → ((a : A) → P a → Q a) → IfOk r P → IfOk r Q
+if_ok (Ok a) P Q follows h = follows a h
+if_ok (Err e) P Q follows h = tt
 
 -- the leaves of a choice
 module _ (t0 t1 t2 t3 t4 : List Tree) (g1 : Grows t0 t1) (g2 : Grows t1 t2) (g3 : Grows t2 t3) (g4 : Grows t3 t4)

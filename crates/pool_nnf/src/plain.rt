@@ -40,7 +40,7 @@ impl Normals {
     {
         match self.shape(at) {
             Shape::Bound(_) => Ok(true),
-            Shape::App(_, args) => Ok(self.is_plain_row(args)?),
+            Shape::App(_, args) => self.is_plain_row(args),
             Shape::Ite(_, _, _) => Ok(false),
             _ => unreachable!(),
         }
@@ -58,7 +58,7 @@ impl Normals {
             Shape::TermThen(first, rest) => {
                 let plain = self.is_plain_term(first)?;
                 if plain {
-                    return Ok(self.is_plain_row(rest)?);
+                    return self.is_plain_row(rest);
                 }
                 Ok(false)
             }
@@ -74,11 +74,11 @@ impl Normals {
         ensures kept { self.new ≡ self.old }
     {
         match self.shape(at) {
-            Shape::Rel(_, args) => Ok(self.is_plain_row(args)?),
+            Shape::Rel(_, args) => self.is_plain_row(args),
             Shape::Eq(a, b) => {
                 let plain = self.is_plain_term(a)?;
                 if plain {
-                    return Ok(self.is_plain_term(b)?);
+                    return self.is_plain_term(b);
                 }
                 Ok(false)
             }

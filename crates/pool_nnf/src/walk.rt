@@ -39,38 +39,38 @@ impl Normals {
         ensures grows { Grows self.old self.new }
     {
         match self.shape(at) {
-            Shape::True => Ok(self.constant(positive)?),
-            Shape::False => Ok(self.constant(!positive)?),
-            Shape::Rel(_, _) => Ok(self.normal_atom(alloc, at, positive)?),
-            Shape::Eq(_, _) => Ok(self.normal_atom(alloc, at, positive)?),
-            Shape::Not(p) => Ok(self.normal_node(alloc, p, !positive)?),
+            Shape::True => self.constant(positive),
+            Shape::False => self.constant(!positive),
+            Shape::Rel(_, _) => self.normal_atom(alloc, at, positive),
+            Shape::Eq(_, _) => self.normal_atom(alloc, at, positive),
+            Shape::Not(p) => self.normal_node(alloc, p, !positive),
             Shape::And(ps) => {
                 let row = self.normal_row(alloc, ps, positive)?;
-                Ok(self.gathered(positive, row)?)
+                self.gathered(positive, row)
             }
             Shape::Or(ps) => {
                 let row = self.normal_row(alloc, ps, positive)?;
-                Ok(self.gathered(!positive, row)?)
+                self.gathered(!positive, row)
             }
             Shape::Implies(p, q) => {
                 let first = self.normal_node(alloc, p, !positive)?;
                 let second = self.normal_node(alloc, q, positive)?;
-                Ok(self.gathered_two(!positive, first, second)?)
+                self.gathered_two(!positive, first, second)
             }
             Shape::Iff(p, q) => {
                 let yes = self.normal_node(alloc, p, true)?;
                 let same = self.normal_node(alloc, q, positive)?;
                 let no = self.normal_node(alloc, p, false)?;
                 let other = self.normal_node(alloc, q, !positive)?;
-                Ok(self.either_two(yes, same, no, other)?)
+                self.either_two(yes, same, no, other)
             }
             Shape::Forall(k, p) => {
                 let body = self.normal_node(alloc, p, positive)?;
-                Ok(self.quantified(positive, k, body)?)
+                self.quantified(positive, k, body)
             }
             Shape::Exists(k, p) => {
                 let body = self.normal_node(alloc, p, positive)?;
-                Ok(self.quantified(!positive, k, body)?)
+                self.quantified(!positive, k, body)
             }
             _ => unreachable!(),
         }
@@ -106,9 +106,9 @@ impl Normals {
     {
         let plain = self.is_plain_atom(at)?;
         if plain {
-            return Ok(self.plain_literal(positive, at)?);
+            return self.plain_literal(positive, at);
         }
-        Ok(self.lifted_atom(alloc, at, positive)?)
+        self.lifted_atom(alloc, at, positive)
     }
 
     // The Or over the leaves of an atom.
@@ -123,12 +123,12 @@ impl Normals {
         match self.shape(at) {
             Shape::Rel(r, args) => {
                 let leaves = self.leaves_of_row(alloc, args)?;
-                Ok(self.relation_of(alloc, positive, r, &leaves)?)
+                self.relation_of(alloc, positive, r, &leaves)
             }
             Shape::Eq(a, b) => {
                 let first = self.leaves_of(alloc, a)?;
                 let second = self.leaves_of(alloc, b)?;
-                Ok(self.equation_of(alloc, positive, &first, &second)?)
+                self.equation_of(alloc, positive, &first, &second)
             }
             _ => unreachable!(),
         }
@@ -143,9 +143,9 @@ impl Normals {
     {
         let plain = self.is_plain_term(at)?;
         if plain {
-            return Ok(self.plain_leaves(alloc, at)?);
+            return self.plain_leaves(alloc, at);
         }
-        Ok(self.lifted_leaves(alloc, at)?)
+        self.lifted_leaves(alloc, at)
     }
 
     // Each way through the choices in a term.
@@ -156,17 +156,17 @@ impl Normals {
         ensures grows { Grows self.old self.new }
     {
         match self.shape(at) {
-            Shape::Bound(_) => Ok(self.bare(alloc, at)?),
+            Shape::Bound(_) => self.bare(alloc, at),
             Shape::App(f, args) => {
                 let leaves = self.leaves_of_row(alloc, args)?;
-                Ok(self.applications(alloc, f, &leaves)?)
+                self.applications(alloc, f, &leaves)
             }
             Shape::Ite(p, a, b) => {
                 let yes = self.normal_node(alloc, p, true)?;
                 let first = self.leaves_of(alloc, a)?;
                 let no = self.normal_node(alloc, p, false)?;
                 let second = self.leaves_of(alloc, b)?;
-                Ok(self.choice(alloc, yes, &first, no, &second)?)
+                self.choice(alloc, yes, &first, no, &second)
             }
             _ => unreachable!(),
         }
@@ -181,11 +181,11 @@ impl Normals {
         ensures grows { Grows self.old self.new }
     {
         match self.shape(row) {
-            Shape::NoTerms => Ok(self.bare(alloc, row)?),
+            Shape::NoTerms => self.bare(alloc, row),
             Shape::TermThen(t, rest) => {
                 let first = self.leaves_of(alloc, t)?;
                 let behind = self.leaves_of_row(alloc, rest)?;
-                Ok(self.joined_terms(alloc, &first, &behind)?)
+                self.joined_terms(alloc, &first, &behind)
             }
             _ => unreachable!(),
         }
