@@ -627,7 +627,7 @@ def bounded_differences(model, told, tallies):
     for length, (answer, lines) in enumerate(lengths):
         tallies["safe lengths" if answer == "safe" else "broken lengths" if lines else "open lengths"] += 1
         if answer == "safe" and found[length]:
-            yield f"steps {length}: safe, and broken by {found[length]}"
+            yield f"steps {length}: safe, and broken by {', '.join(sorted(found[length]))}"
         elif lines:
             for fault in Run(model, lines).faults(length, answer.removeprefix("breaks ")):
                 yield f"steps {length}: {answer}: {fault}"
