@@ -1,6 +1,6 @@
 // Items: what each adds to the draft, unless a sentence or right side of it is too large. Their names and sorts were
 // judged before.
-ghost use Rattle.std.specs.Prelude.{◌≡◌, ◌<◌, ◌≤◌, ◌-◌, ◌++◌, [], None, length, IfOk, OnOk};
+ghost use Rattle.std.specs.Prelude.{◌≡◌, ◌<◌, ◌≤◌, ◌-◌, ◌++◌, [], None, length, OnOk};
 ghost use Rattle.rml_terms.specs.Tree.{expr_tree};
 ghost use Rattle.rml_terms.specs.Shape.{ExprNests};
 ghost use Rattle.rml_terms.specs.Within.{NameWithin, NamesWithin, ExprWithin};
@@ -13,13 +13,11 @@ ghost use Rattle.rml_command.specs.View.{command as command_view};
 ghost use Rattle.rml_names.specs.Drafts.{draft_in};
 ghost use Rattle.rml_sort_check.specs.declared.wanted.Wanted.TheVariants as wanted;
 ghost use Rattle.rml_sort_check.specs.Demands.{first_fault, demands, block_demands, definition_demands};
-ghost use Rattle.rml_quantifiers.specs.Quantifiers.{quantifiers_of_block};
 ghost use Rattle.rml_elaborate.specs.Sizes.{large_use_in_formula, large_use_in_definition as use_in_definition};
 ghost use Rattle.rml_items.specs.Answering.{Answers};
 ghost use Rattle.rml_items.specs.Items.{head_demands, body_demands};
-ghost use Rattle.rml_sorts.specs.Commands.{conditions_of_block};
 ghost use Rattle.base.specs.Lists.{count_from};
-ghost use Rattle.rml_sorts.specs.Items.{block_command, draft_with, with_listed_axiom};
+ghost use Rattle.rml_sorts.specs.Items.{block_command, draft_with, with_block, with_listed_axiom};
 ghost use Rattle.rml_sorts.specs.Listed.{listed_axiom as axiom_of};
 ghost use Rattle.rml_sorts.specs.Sizes.{no_large_use, block_sizes, item_sizes};
 ghost use Rattle.rml_sorts.specs.Sound.{IsSound, AreElements};
@@ -31,7 +29,7 @@ use base::{Mem, Refused, Row};
 use fol_formula::Sentence;
 use fol_sig::Sort;
 use fol_subst::Template;
-use rml_command::{Command, Condition};
+use rml_command::Command;
 use rml_elaborate::{definition, large_use_in_definition};
 use rml_items::{
     add_action, add_axiom, add_conjecture, add_definition, add_function, add_relation, add_sort,
@@ -66,11 +64,11 @@ fn build_axiom(
         (expr_tree e.now)))
         (draft_with text.now (draft_in draft.old) (syntax.Axiom name (expr_tree e.now))) }
 {
-    let sentence = sentence(alloc, text, draft, e)?;
     let mut quantifiers = Vec::new(alloc);
     add_quantifiers(false, e, &mut quantifiers)?;
-    add_axiom(alloc, text, &mut draft.declared, name)?;
+    let sentence = sentence(alloc, text, draft, e)?;
     draft.push_axiom(sentence, name.start, quantifiers)?;
+    add_axiom(alloc, text, &mut draft.declared, name)?;
     Ok(())
 }
 
@@ -95,56 +93,43 @@ fn build_conjecture(
         (expr_tree e.now)))
         (draft_with text.now (draft_in draft.old) (syntax.Conjecture name (expr_tree e.now))) }
 {
-    let sentence = sentence(alloc, text, draft, e)?;
     let mut quantifiers = Vec::new(alloc);
     add_quantifiers(false, e, &mut quantifiers)?;
-    add_conjecture(alloc, text, &mut draft.declared, name)?;
+    let sentence = sentence(alloc, text, draft, e)?;
     draft.push_conjecture(sentence, name.start, quantifiers)?;
+    add_conjecture(alloc, text, &mut draft.declared, name)?;
     Ok(())
 }
 
-// A block's command, its conditions, and its quantifiers where none may stand.
-#[derive(Drop)]
-struct Block {
-    command: Command,
-    conditions: Vec<Condition>,
-    quantifiers: Vec<u64>,
-}
-
+// A block's command. Its conditions, and its quantifiers where none may stand, become places of the draft.
 #[tactic(auto, using(rml_items::specs::Walking::block_nests, rml_items::specs::Walking::block_within))]
 fn built_block(
     alloc: Global,
     text: &[u8],
-    draft: &ModelDraft,
+    draft: &mut ModelDraft,
     format: Format,
     commands: &[syntax::Command],
-) -> Result<Block, Refused<Fault>>
+) -> Result<Command, Refused<Fault>>
     requires nests { CommandsNest 100 (command_trees commands.now) }
     requires within { CommandsWithin (length text.now) (command_trees commands.now) }
-    requires sound { IsSound (draft_in draft.now) }
+    requires sound { IsSound (draft_in draft.old) }
     requires met { first_fault
-        (block_demands text.now (draft_in draft.now).vocabulary format (block_of (command_trees commands.now)))
+        (block_demands text.now (draft_in draft.old).vocabulary format (block_of (command_trees commands.now)))
         ≡ None }
-    ensures command { Answers (λ b. command_view b.command) result
-        (block_sizes text.now (draft_in draft.now).vocabulary (draft_in draft.now).bodies
+    ensures command { Answers command_view result
+        (block_sizes text.now (draft_in draft.old).vocabulary (draft_in draft.old).bodies
         (block_of (command_trees commands.now)))
-        (block_command text.now (draft_in draft.now) (command_trees commands.now)) }
-    ensures conditions { IfOk result
-        (λ b. b.conditions.items
-        ≡ conditions_of_block text.now (draft_in draft.now).vocabulary (draft_in draft.now).bodies
-        (block_of (command_trees commands.now))) }
-    ensures quantifiers { IfOk result
-        (λ b. b.quantifiers.items ≡ quantifiers_of_block (block_of (command_trees commands.now))) }
+        (block_command text.now (draft_in draft.old) (command_trees commands.now)) }
+    ensures places { OnOk result (draft_in draft.new ≡ record (draft_in draft.old) {
+      places = with_block text.now (draft_in draft.old) (draft_in draft.old).places (command_trees commands.now);
+    }) }
 {
-    let mut conditions = Vec::new(alloc);
-    let commands_built = block(alloc, text, draft, format, commands, &mut conditions)?;
     let mut quantifiers = Vec::new(alloc);
     add_block_quantifiers(commands, &mut quantifiers)?;
-    Ok(Block {
-        command: sequence(commands_built),
-        conditions,
-        quantifiers,
-    })
+    let mut conditions = Vec::new(alloc);
+    let built = block(alloc, text, draft, format, commands, &mut conditions)?;
+    draft.push_places(conditions, quantifiers)?;
+    Ok(sequence(built))
 }
 
 // `action`
@@ -172,9 +157,8 @@ fn build_action(
         (draft_with text.now (draft_in draft.old) (syntax.Action name (command_trees commands.now))) }
 {
     let block = built_block(alloc, text, draft, format, commands)?;
+    draft.push_action(block, name.start)?;
     add_action(alloc, text, &mut draft.declared, name)?;
-    draft.push_action(block.command, name.start)?;
-    draft.push_places(block.conditions, block.quantifiers)?;
     Ok(())
 }
 
@@ -199,9 +183,8 @@ fn build_init(
         (draft_with text.now (draft_in draft.old) (syntax.Init at (command_trees commands.now))) }
 {
     let block = built_block(alloc, text, draft, format, commands)?;
-    draft.init = block.command;
+    draft.init = block;
     draft.places.init = at;
-    draft.push_places(block.conditions, block.quantifiers)?;
     Ok(())
 }
 
@@ -226,9 +209,8 @@ fn build_last(
         (draft_with text.now (draft_in draft.old) (syntax.Final at (command_trees commands.now))) }
 {
     let block = built_block(alloc, text, draft, format, commands)?;
-    draft.last = block.command;
+    draft.last = block;
     draft.places.last = at;
-    draft.push_places(block.conditions, block.quantifiers)?;
     Ok(())
 }
 
@@ -259,11 +241,11 @@ fn build_definition(
     if let Some(at) = large_use_in_definition(text, draft, parameters, value) {
         return Err(too_large(at));
     }
-    let body = definition(alloc, text, draft, parameters, value)?;
     let mut quantifiers = Vec::new(alloc);
     add_quantifiers(true, value, &mut quantifiers)?;
-    add_definition(alloc, text, &mut draft.declared, name, parameters)?;
+    let body = definition(alloc, text, draft, parameters, value)?;
     draft.push_body(Template::of(body), quantifiers)?;
+    add_definition(alloc, text, &mut draft.declared, name, parameters)?;
     Ok(())
 }
 
