@@ -1,5 +1,5 @@
 use Rattle.ea_decide.specs.Passing.{ceilings}
-use Rattle.lean_decide.proofs.NoCounterexample.{AreExact, nowhere_by, found_by, open_by, many_by}
+use Rattle.lean_decide.proofs.NoCounterexample.{AreExact, nowhere_by, found_by, open_by}
 use Rattle.lean_decide.proofs.seeking.seek_by.Goals as goal
 
 pub decide_sentence-decided-requires-clause-sentence : goal.decide_sentence-decided-requires-clause-sentence
