@@ -97,18 +97,9 @@ fn said(
     ensures { IfOk result (λ s. s ≡ said_by signature.now saying last place most) }
 {
     match saying {
-        Saying::Named => {
-            let named = named(alloc, signature, place, most)?;
-            Ok(named)
-        }
-        Saying::Short => {
-            let short = short(alloc, signature, place, most)?;
-            Ok(short)
-        }
-        Saying::Sparse => {
-            let sparse = sparse(alloc, signature, last, place, most)?;
-            Ok(sparse)
-        }
+        Saying::Named => named(alloc, signature, place, most),
+        Saying::Short => short(alloc, signature, place, most),
+        Saying::Sparse => sparse(alloc, signature, last, place, most),
     }
 }
 

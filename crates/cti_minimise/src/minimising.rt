@@ -66,8 +66,7 @@ pub fn least(
     };
     let found = least_by(alloc, &trials, shown);
     drop(prepared);
-    let found = found?;
-    Ok(found)
+    found
 }
 
 // By trials of the goal.
@@ -107,10 +106,7 @@ fn least_at(alloc: Global, trials: &Trials, place: usize, shown: Counterexample)
 {
     match from_above(alloc, trials, place, shown)? {
         Descent::Settled(settled) => Ok(Step::Settled(settled)),
-        Descent::Open(shown) => {
-            let step = from_below(alloc, trials, place, shown)?;
-            Ok(step)
-        }
+        Descent::Open(shown) => from_below(alloc, trials, place, shown),
     }
 }
 

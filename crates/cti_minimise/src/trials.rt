@@ -85,10 +85,7 @@ impl<'a> Trials<'a> {
             return Ok(Attempt::Open);
         }
         match self.measure(alloc, bounds)? {
-            Measured::Within(size) => {
-                let attempt = self.attempt_short(alloc, bounds, size)?;
-                Ok(attempt)
-            }
+            Measured::Within(size) => self.attempt_short(alloc, bounds, size),
             Measured::Over(_) => Ok(Attempt::Open),
         }
     }
@@ -131,8 +128,7 @@ impl<'a> Trials<'a> {
                 decided => return Ok(decided),
             }
         }
-        let attempt = self.attempt_by(alloc, bounds, Saying::Named, size)?;
-        Ok(attempt)
+        self.attempt_by(alloc, bounds, Saying::Named, size)
     }
 
     // With the bounds said in short. A trial at a relation is tried without the bounds on those before it at first:
@@ -150,8 +146,7 @@ impl<'a> Trials<'a> {
                 decided => return Ok(decided),
             }
         }
-        let attempt = self.attempt_by(alloc, bounds, Saying::Short, size)?;
-        Ok(attempt)
+        self.attempt_by(alloc, bounds, Saying::Short, size)
     }
 
     // An attempt with the bounds said so, by a lean sentence within this ground size.
@@ -167,10 +162,7 @@ impl<'a> Trials<'a> {
         let narrowed = narrowed(self.limits, size);
         match self.seek(alloc, bounds, saying, &narrowed)? {
             Sought::Nowhere => Ok(Attempt::Refuted),
-            Sought::Found(found) => {
-                let kept = self.kept(alloc, bounds, found)?;
-                Ok(kept)
-            }
+            Sought::Found(found) => self.kept(alloc, bounds, found),
             Sought::Open => Ok(Attempt::Open),
         }
     }

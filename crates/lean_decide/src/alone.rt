@@ -89,8 +89,7 @@ fn is_kept(alloc: Global, checked: &Checked, goal: &Goal, number: u32, limits: &
                 limits,
             );
             drop(answered);
-            let kept = kept?;
-            Ok(kept)
+            kept
         }
         Err(Refused::NoMemory) => Err(AllocError),
         Err(Refused::For(_)) => Ok(false),

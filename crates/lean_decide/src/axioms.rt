@@ -22,8 +22,7 @@ pub fn settle_axioms(alloc: Global, checked: &Checked, limits: &Limits) -> Mem<A
     let sentence = all_axioms(alloc, checked)?;
     let settled = settle_all(alloc, checked, &sentence, limits);
     drop(sentence);
-    let settled = settled?;
-    Ok(settled)
+    settled
 }
 
 // By their And.
@@ -34,14 +33,8 @@ fn settle_all(alloc: Global, checked: &Checked, sentence: &Ea, limits: &Limits) 
     obligation_decide::axioms_law();
     let signature = checked.model().signature();
     match measure(alloc, signature, checked.strata(), sentence, limits)? {
-        Measured::Within(_) => {
-            let settled = settle_small(alloc, checked, sentence, limits)?;
-            Ok(settled)
-        }
-        Measured::Over(_) => {
-            let decided = decide_axioms(alloc, checked, limits)?;
-            Ok(decided)
-        }
+        Measured::Within(_) => settle_small(alloc, checked, sentence, limits),
+        Measured::Over(_) => decide_axioms(alloc, checked, limits),
     }
 }
 
@@ -57,9 +50,6 @@ fn settle_small(alloc: Global, checked: &Checked, sentence: &Ea, limits: &Limits
         Ok(Decided::Refuted(_)) => Ok(Axioms::Inconsistent),
         Ok(Decided::Satisfied(_)) => Ok(Axioms::Consistent),
         Err(Refused::NoMemory) => Err(AllocError),
-        Ok(Decided::Over(_)) | Err(Refused::For(_)) => {
-            let decided = decide_axioms(alloc, checked, limits)?;
-            Ok(decided)
-        }
+        Ok(Decided::Over(_)) | Err(Refused::For(_)) => decide_axioms(alloc, checked, limits),
     }
 }

@@ -57,8 +57,7 @@ pub fn lean_passed(
             let passed = sentence_passed(alloc, checked, goal, &answered, &sentence, limits);
             drop(sentence);
             drop(answered);
-            let passed = passed?;
-            Ok(passed)
+            passed
         }
         Err(Refused::NoMemory) => Err(AllocError),
         Err(Refused::For(_)) => Ok(Some(Cause::Formula)),

@@ -93,16 +93,7 @@ impl Prepared {
     {
         match &self.precondition {
             Some((answered, precondition)) => {
-                let measured = measure_by(
-                    alloc,
-                    checked,
-                    goal,
-                    answered,
-                    precondition,
-                    more,
-                    limits,
-                )?;
-                Ok(measured)
+                measure_by(alloc, checked, goal, answered, precondition, more, limits)
             }
             None => Ok(Measured::Over(Cause::Formula)),
         }
@@ -126,8 +117,7 @@ impl Prepared {
     {
         match &self.affected {
             Some((answered, affected)) => {
-                let sought = seek_by(alloc, checked, goal, answered, affected, more, limits)?;
-                Ok(sought)
+                seek_by(alloc, checked, goal, answered, affected, more, limits)
             }
             None => Ok(Sought::Open),
         }

@@ -72,8 +72,7 @@ fn settle_in(
     let mut shared = ModelPool::new(alloc, model.model())?;
     let settled = settle(alloc, &mut shared, model, goal, counted, limits);
     drop(shared);
-    let settled = settled?;
-    Ok(settled)
+    settled
 }
 
 // The first limit that it passes by its size, if it passes one.
@@ -90,8 +89,7 @@ fn passed_in(
     let mut shared = ModelPool::new(alloc, model.model())?;
     let passed = first_passed(alloc, &mut shared, model, goal, counted, limits);
     drop(shared);
-    let passed = passed?;
-    Ok(passed)
+    passed
 }
 
 // The run that a counterexample of the goal in the walk's model is.
@@ -188,14 +186,8 @@ fn decide_known(
     ensures { IfOk result (IsWalkDecision counted (ceilings limits.now) checked.now walk.now) }
 {
     match known {
-        Known::Nothing => {
-            let decision = decide_in(alloc, checked, model, walk, counted, limits)?;
-            Ok(decision)
-        }
-        Known::Infeasible => {
-            let decision = count_in(alloc, checked, model, walk, counted, limits)?;
-            Ok(decision)
-        }
+        Known::Nothing => decide_in(alloc, checked, model, walk, counted, limits),
+        Known::Infeasible => count_in(alloc, checked, model, walk, counted, limits),
     }
 }
 

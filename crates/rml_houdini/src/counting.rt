@@ -38,8 +38,7 @@ pub fn first_limit(
             let limit = limit_of(alloc, checked, goal, &answered, &precondition, held, limits);
             drop(answered);
             drop(precondition);
-            let limit = limit?;
-            Ok(limit)
+            limit
         }
         Err(Refused::NoMemory) => Err(AllocError),
         Err(Refused::For(_)) => Ok(Some(Cause::Formula)),

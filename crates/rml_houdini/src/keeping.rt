@@ -68,8 +68,7 @@ pub fn keep(
             );
             drop(answered);
             drop(precondition);
-            let turn = turn?;
-            Ok(turn)
+            turn
         }
         Err(Refused::NoMemory) => Err(AllocError),
         Err(Refused::For(_)) => Ok(Turn::Open),
@@ -149,10 +148,7 @@ fn take_turn(
             more?;
             Ok(Turn::Again)
         }
-        Tried::Breaks(shown) => {
-            let turn = judge(alloc, checked, goal, held, shown, assumed, limits)?;
-            Ok(turn)
-        }
+        Tried::Breaks(shown) => judge(alloc, checked, goal, held, shown, assumed, limits),
     }
 }
 

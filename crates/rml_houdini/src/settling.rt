@@ -54,14 +54,8 @@ pub fn settle(
         (IsSettledBy counted (ceilings limits.now) checked.now held.now goal.now assumed.new) }
 {
     match counted {
-        Counted::Whole => {
-            let settled = settle_whole(alloc, checked, goal, held, assumed, limits)?;
-            Ok(settled)
-        }
-        Counted::Lean => {
-            let settled = settle_lean(alloc, checked, goal, held, assumed, limits)?;
-            Ok(settled)
-        }
+        Counted::Whole => settle_whole(alloc, checked, goal, held, assumed, limits),
+        Counted::Lean => settle_lean(alloc, checked, goal, held, assumed, limits),
     }
 }
 
@@ -83,10 +77,7 @@ fn settle_whole(
 {
     match first_limit(alloc, checked, goal, held, limits)? {
         Some(cause) => Ok(Settled::Undecided(cause)),
-        None => {
-            let settled = settle_within(alloc, checked, goal, held, assumed, limits)?;
-            Ok(settled)
-        }
+        None => settle_within(alloc, checked, goal, held, assumed, limits),
     }
 }
 

@@ -55,8 +55,7 @@ pub fn try_with(
     let sentence = assumed_sentence(alloc, checked, goal, precondition, assumed)?;
     let tried = try_sentence(alloc, checked, goal, answered, assumed, &sentence, limits);
     drop(sentence);
-    let tried = tried?;
-    Ok(tried)
+    tried
 }
 
 // By that sentence.
@@ -84,10 +83,9 @@ fn try_sentence(
             Ok(Tried::Holds)
         }
         Ok(Decided::Satisfied(model)) => {
-            let tried = shown_by(
+            shown_by(
                 alloc, checked, goal, answered, assumed, sentence, model, limits,
-            )?;
-            Ok(tried)
+            )
         }
         Err(Refused::NoMemory) => Err(AllocError),
         Ok(Decided::Over(passed)) => Ok(Tried::Over(passed)),

@@ -124,10 +124,7 @@ fn carried_by_all(
     let all = all_conjectures(alloc, checked)?;
     match lack_of(alloc, checked, stage, about, &all, limits)? {
         Some(lack) => Ok(Carried::Not(lack)),
-        None => {
-            let carried = least_list(alloc, checked, stage, about, &all, limits)?;
-            Ok(carried)
-        }
+        None => least_list(alloc, checked, stage, about, &all, limits),
     }
 }
 
@@ -144,13 +141,7 @@ pub fn carried_by(
     ensures { IfOk result (IsCarried (ceilings limits.now) checked.now (record { stage = stage; about = about })) }
 {
     match short_list(alloc, checked, stage, about, limits)? {
-        Some(held) => {
-            let carried = least_list(alloc, checked, stage, about, &held, limits)?;
-            Ok(carried)
-        }
-        None => {
-            let carried = carried_by_all(alloc, checked, stage, about, limits)?;
-            Ok(carried)
-        }
+        Some(held) => least_list(alloc, checked, stage, about, &held, limits),
+        None => carried_by_all(alloc, checked, stage, about, limits),
     }
 }
