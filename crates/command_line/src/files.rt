@@ -20,8 +20,7 @@ fn files_command<'a>(
     ensures { IfOk result (λ command. app_of command ≡ files_app word.entry.now first.entry.now second.entry.now) }
 {
     let one = Command::new(alloc, word).arg(required(alloc, first))?;
-    let command = one.arg(required(alloc, second))?;
-    Ok(command)
+    one.arg(required(alloc, second))
 }
 
 fn lrat_of<'a>(matches: &Option<ArgMatches<'a>>) -> Option<Request<'a>>

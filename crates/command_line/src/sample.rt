@@ -15,8 +15,7 @@ use std::alloc::Global;
 fn sample_command<'a>(alloc: Global) -> Mem<Command<'a>>
     ensures { IfOk result (λ command. app_of command ≡ sample_app) }
 {
-    let command = Command::new(alloc, "sample").arg(required_number(alloc, "N", 0, 40))?;
-    Ok(command)
+    Command::new(alloc, "sample").arg(required_number(alloc, "N", 0, 40))
 }
 
 fn sample_of<'a>(matches: &Option<ArgMatches<'a>>) -> Option<Request<'a>>

@@ -109,11 +109,9 @@ fn named(alloc: Global, signature: &Signature, place: usize, most: u64) -> Mem<S
     ensures { IfOk result (λ s. s ≡ bound_at signature.now place most) }
 {
     if place < signature.sorts() as usize {
-        let size = size_bound(alloc, Sort(place as u32), few(most)?)?;
-        Ok(size)
+        size_bound(alloc, Sort(place as u32), few(most)?)
     } else {
-        let tuples = relation_bound(alloc, signature, place, most)?;
-        Ok(tuples)
+        relation_bound(alloc, signature, place, most)
     }
 }
 
@@ -123,11 +121,9 @@ fn short(alloc: Global, signature: &Signature, place: usize, most: u64) -> Mem<S
     ensures { IfOk result (λ s. s ≡ short_at signature.now place most) }
 {
     if place < signature.sorts() as usize {
-        let size = short_bound(alloc, Sort(place as u32), few(most)?)?;
-        Ok(size)
+        short_bound(alloc, Sort(place as u32), few(most)?)
     } else {
-        let tuples = relation_bound(alloc, signature, place, most)?;
-        Ok(tuples)
+        relation_bound(alloc, signature, place, most)
     }
 }
 
@@ -145,8 +141,7 @@ fn sparse(
     if place >= signature.sorts() as usize && place < last {
         Ok(Sentence::of(Formula::True))
     } else {
-        let short = short(alloc, signature, place, most)?;
-        Ok(short)
+        short(alloc, signature, place, most)
     }
 }
 
@@ -157,8 +152,7 @@ fn relation_bound(alloc: Global, signature: &Signature, place: usize, most: u64)
     ensures { IfOk result (λ s. s ≡ relation_bound signature.now (place - signature.now.sorts) most) }
 {
     let rel = RelId((place - signature.sorts() as usize) as u32);
-    let bound = tuple_bound(alloc, signature, rel, few(most)?)?;
-    Ok(bound)
+    tuple_bound(alloc, signature, rel, few(most)?)
 }
 
 // A number of things that a sentence can name. A sentence that names more has no room in memory.
@@ -189,11 +183,9 @@ fn short_bound(alloc: Global, sort: Sort, most: u32) -> Mem<Sentence>
     ensures { IfOk result (λ s. s ≡ short_bound sort.0 most) }
 {
     if most <= MOST_PAIRED {
-        let paired = pair_bound(alloc, sort, most)?;
-        Ok(paired)
+        pair_bound(alloc, sort, most)
     } else {
-        let named = size_bound(alloc, sort, most)?;
-        Ok(named)
+        size_bound(alloc, sort, most)
     }
 }
 

@@ -126,6 +126,5 @@ pub fn expected_text(alloc: Global, kinds: &[Kind]) -> Mem<Vec<u8>>
         push_others(&mut out, others);
         out.push_str(" may stand here\n");
     }
-    let line = out.into_bytes()?;
-    Ok(line)
+    out.into_bytes()
 }

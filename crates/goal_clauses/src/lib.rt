@@ -62,8 +62,7 @@ pub fn clauses_of_goal(
             let clauses = clauses_of_sentence(alloc, checked, goal, &answered, &sentence, limits);
             drop(sentence);
             drop(answered);
-            let clauses = clauses?;
-            Ok(clauses)
+            clauses
         }
         Err(Refused::NoMemory) => Err(AllocError),
         Err(Refused::For(_)) => Ok(GoalClauses::Over(Cause::Formula)),
@@ -106,6 +105,5 @@ pub fn decide_goal(alloc: Global, checked: &Checked, goal: &Goal, limits: &Limit
     requires { IsGoal checked.now goal.now }
     ensures { IfOk result (IsDecision (ceilings limits.now) checked.now goal.now) }
 {
-    let decision = obligation_decide::decide(alloc, checked, goal, limits)?;
-    Ok(decision)
+    obligation_decide::decide(alloc, checked, goal, limits)
 }

@@ -48,8 +48,7 @@ fn bounded_on<P: Progress>(
     ensures { IfOk result (IsBounded counted (ceilings_of bound.limits) model.now bound.steps) }
 {
     let limits = limits_of(bound.limits);
-    let answer = bounded(alloc, model, bound.steps as u32, counted, &limits, progress)?;
-    Ok(answer)
+    bounded(alloc, model, bound.steps as u32, counted, &limits, progress)
 }
 
 // The answer to the text of a model.

@@ -48,8 +48,7 @@ fn greatest_of<P: Progress>(
     ensures { IfOk result (IsFound counted (ceilings_of asked) model.now) }
 {
     let limits = limits_of(asked);
-    let houdini = greatest(alloc, model, counted, &limits, progress)?;
-    Ok(houdini)
+    greatest(alloc, model, counted, &limits, progress)
 }
 
 // The answer to the text of a model.

@@ -91,8 +91,7 @@ fn judge_sample<P: Progress>(alloc: Global, number: u64, progress: &mut P) -> Me
     ensures { IfOk result (IsSampleAnswer number) }
 {
     let text = sample_text(alloc, number)?;
-    let answer = judge_text(alloc, number, &text, progress)?;
-    Ok(answer)
+    judge_text(alloc, number, &text, progress)
 }
 
 #[tactic(auto, using(std::proofs::Common::append_assoc), unfolding(crate::specs::Sample::count_line))]
@@ -136,8 +135,7 @@ fn say_fault(alloc: Global, number: u64, fault: &Fault) -> Mem<Said>
     ensures { IfOk result (λ s. s ≡ model_fault_due (sample_text number) fault.now) }
 {
     let text = sample_text(alloc, number)?;
-    let said = say_model_fault(alloc, &text, fault)?;
-    Ok(said)
+    say_model_fault(alloc, &text, fault)
 }
 
 impl Command for Sample {

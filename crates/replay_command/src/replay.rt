@@ -40,8 +40,7 @@ fn judge_printed(alloc: Global, model: &Checked, text: &[u8], printed: &Printed)
     ensures { IfOk result (IsReplay model.now text.now) }
 {
     judgement_law();
-    let judged = judge(alloc, model, printed)?;
-    Ok(judged)
+    judge(alloc, model, printed)
 }
 
 // The answer to the text of a report of the model.
