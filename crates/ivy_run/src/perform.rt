@@ -40,7 +40,7 @@ fn perform_check<F: Files>(
         first.new.items [] (outcome_in result) }
 {
     let counted = Counted::Whole;
-    match one_file(
+    let done = one_file(
         &Check { asked, counted },
         alloc,
         files,
@@ -48,13 +48,11 @@ fn perform_check<F: Files>(
         MODEL_LIMIT,
         first,
         &mut Silent,
-    ) {
-        Ok(done) => Ok(Done {
-            answer: Answer::Check(done.answer),
-            said: done.said,
-        }),
-        Err(why) => Err(why),
-    }
+    )?;
+    Ok(Done {
+        answer: Answer::Check(done.answer),
+        said: done.said,
+    })
 }
 
 // `lrat CNF LOG`.
@@ -74,7 +72,7 @@ fn perform_lrat<F: Files>(
     ensures does { Does (Some (lrat formula.now log.now)) (F.told files.old) (F.faults files.old) (F.faults files.new)
         first.new.items second.new.items (outcome_in result) }
 {
-    match two_files(
+    let done = two_files(
         &Lrat,
         alloc,
         files,
@@ -85,13 +83,11 @@ fn perform_lrat<F: Files>(
         LONG_LIMIT,
         second,
         &mut Silent,
-    ) {
-        Ok(done) => Ok(Done {
-            answer: Answer::Lrat(done.answer),
-            said: done.said,
-        }),
-        Err(why) => Err(why),
-    }
+    )?;
+    Ok(Done {
+        answer: Answer::Lrat(done.answer),
+        said: done.said,
+    })
 }
 
 // `replay MODEL REPORT`.
@@ -111,7 +107,7 @@ fn perform_replay<F: Files>(
     ensures does { Does (Some (replay model.now report.now)) (F.told files.old) (F.faults files.old)
         (F.faults files.new) first.new.items second.new.items (outcome_in result) }
 {
-    match two_files(
+    let done = two_files(
         &Replay,
         alloc,
         files,
@@ -122,13 +118,11 @@ fn perform_replay<F: Files>(
         LONG_LIMIT,
         second,
         &mut Silent,
-    ) {
-        Ok(done) => Ok(Done {
-            answer: Answer::Replay(done.answer),
-            said: done.said,
-        }),
-        Err(why) => Err(why),
-    }
+    )?;
+    Ok(Done {
+        answer: Answer::Replay(done.answer),
+        said: done.said,
+    })
 }
 
 // `emit FILE GOAL WHAT`.
@@ -147,7 +141,7 @@ fn perform_emit<F: Files>(
     ensures does { Does (Some (emit file.now emission)) (F.told files.old) (F.faults files.old) (F.faults files.new)
         first.new.items [] (outcome_in result) }
 {
-    match one_file(
+    let done = one_file(
         &Emit { emission },
         alloc,
         files,
@@ -155,13 +149,11 @@ fn perform_emit<F: Files>(
         MODEL_LIMIT,
         first,
         &mut Silent,
-    ) {
-        Ok(done) => Ok(Done {
-            answer: Answer::Emit(done.answer),
-            said: done.said,
-        }),
-        Err(why) => Err(why),
-    }
+    )?;
+    Ok(Done {
+        answer: Answer::Emit(done.answer),
+        said: done.said,
+    })
 }
 
 // `houdini FILE`.
@@ -180,7 +172,7 @@ fn perform_houdini<F: Files>(
         first.new.items [] (outcome_in result) }
 {
     let counted = Counted::Whole;
-    match one_file(
+    let done = one_file(
         &Houdini { asked, counted },
         alloc,
         files,
@@ -188,13 +180,11 @@ fn perform_houdini<F: Files>(
         MODEL_LIMIT,
         first,
         &mut Silent,
-    ) {
-        Ok(done) => Ok(Done {
-            answer: Answer::Houdini(done.answer),
-            said: done.said,
-        }),
-        Err(why) => Err(why),
-    }
+    )?;
+    Ok(Done {
+        answer: Answer::Houdini(done.answer),
+        said: done.said,
+    })
 }
 
 // `bmc FILE --steps K`.
@@ -214,7 +204,7 @@ fn perform_bmc<F: Files>(
         first.new.items [] (outcome_in result) }
 {
     let counted = Counted::Whole;
-    match one_file(
+    let done = one_file(
         &Bmc { bound, counted },
         alloc,
         files,
@@ -222,13 +212,11 @@ fn perform_bmc<F: Files>(
         MODEL_LIMIT,
         first,
         &mut Silent,
-    ) {
-        Ok(done) => Ok(Done {
-            answer: Answer::Bmc(done.answer),
-            said: done.said,
-        }),
-        Err(why) => Err(why),
-    }
+    )?;
+    Ok(Done {
+        answer: Answer::Bmc(done.answer),
+        said: done.said,
+    })
 }
 
 // `sample N`.
@@ -237,13 +225,11 @@ fn perform_sample(alloc: Global, number: u64) -> Result<Done<Answer>, LoadError>
     ensures due { due_in result ≡ due_of (Some (sample number)) [] [] (outcome_in result) }
     ensures ends { EndsNone 0 0 [] [] (λ text other a. OfSample (IsSampleAnswer number) a) (outcome_in result) }
 {
-    match no_file(&Sample { number }, alloc, &mut Silent) {
-        Ok(done) => Ok(Done {
-            answer: Answer::Sample(done.answer),
-            said: done.said,
-        }),
-        Err(why) => Err(why),
-    }
+    let done = no_file(&Sample { number }, alloc, &mut Silent)?;
+    Ok(Done {
+        answer: Answer::Sample(done.answer),
+        said: done.said,
+    })
 }
 
 // Does what a command line asks for.
@@ -281,13 +267,11 @@ fn usage(alloc: Global) -> Result<Done<Answer>, LoadError>
     ensures due { due_in result ≡ due_of None [] [] (outcome_in result) }
     ensures ends { EndsNone 0 0 [] [] (λ text other a. IsUsage a) (outcome_in result) }
 {
-    match no_file(&Usage, alloc, &mut Silent) {
-        Ok(done) => Ok(Done {
-            answer: Answer::Usage,
-            said: done.said,
-        }),
-        Err(why) => Err(why),
-    }
+    let done = no_file(&Usage, alloc, &mut Silent)?;
+    Ok(Done {
+        answer: Answer::Usage,
+        said: done.said,
+    })
 }
 
 /// Reads the words, and does what they ask for.
