@@ -6,13 +6,11 @@ ghost use Rattle.told_answers.specs.RunsText.{CanTell};
 ghost use Rattle.command_parts.specs.ModelTexts.{IsTheModel};
 ghost use Rattle.model_commands.specs.Bmc.{IsBmcAnswerBy};
 ghost use Rattle.told_fault.specs.Readings.{IsReading};
-ghost use Rattle.view_run.specs.Bmc.{length_graphs, bounded_line, bounded_view};
-ghost use Rattle.view_run.specs.Questions.{OfBmc, model_due};
+ghost use Rattle.view_run.specs.Bmc.{length_graphs, bounded_line, bounded_view, bmc_view};
 
 use crate::faults::{line_of, say_fault};
-use crate::showing::View;
+use crate::showing::Showing;
 use crate::telling::telling_of;
-use crate::viewed::ModelAnswer;
 use base::Mem;
 use command_parts::shown;
 use commands::Said;
@@ -63,15 +61,13 @@ fn bounded_line(alloc: Global, file: &str, model: &Checked, bounded: &Bounded) -
     ensures { IfOk result (λ out. out.items ≡ bounded_line file.now model.now bounded.now) }
 {
     let object = bounded_object(alloc, model, bounded)?;
-    let line = line_of(alloc, file, object)?;
-    Ok(line)
+    line_of(alloc, file, object)
 }
 
 // What is shown of the lengths; in the text for a person, with what the text of the model tells.
 fn bounded_view(
     alloc: Global,
-    form: Form,
-    file: &str,
+    showing: Showing,
     text: &[u8],
     reading: &Reading,
     model: &Checked,
@@ -82,48 +78,44 @@ fn bounded_view(
     requires can_tell { AllByRecursion (CanTell model.now) bounded.now.lengths }
     requires can_render { AllByRecursion (CanRender model.now) bounded.now.lengths }
     ensures { IfOk result (λ out. out.items
-        ≡ bounded_view form file.now text.now reading.now model.now bounded.now) }
+        ≡ bounded_view showing.entry.form showing.entry.file.now text.now reading.now model.now bounded.now) }
 {
-    match form {
+    match showing.form {
         Form::Told => {
             let telling = telling_of(alloc, text, reading, model)?;
             let told = tell_runs(alloc, model, &telling, bounded);
             drop(telling);
-            let out = told?;
-            Ok(out)
+            told
         }
         Form::Dot => lengths_graphs(alloc, model, bounded.lengths.as_slice()),
-        Form::Json => bounded_line(alloc, file, model, bounded),
+        Form::Json => bounded_line(alloc, showing.file, model, bounded),
     }
 }
 
 /// What is shown of an answer of `bmc`.
 pub fn say_bmc(
     alloc: Global,
-    view: &View,
+    showing: Showing,
     bmc: &Bmc,
     text: &[u8],
     reading: &Reading,
-    answer: &ModelAnswer,
+    answer: &BmcAnswer,
 ) -> Mem<Said>
-    requires answer { OfBmc (IsBmcAnswerBy bmc.now.counted bmc.now.bound text.now) answer.now }
+    requires answer { IsBmcAnswerBy bmc.now.counted bmc.now.bound text.now answer.now }
     requires reading { IsReading text.now reading.now }
-    ensures { IfOk result (λ s. s ≡ model_due view.now.form view.now.file.now view.now.report.now text.now reading.now
-        answer.now) }
+    ensures { IfOk result (λ s. s
+        ≡ bmc_view showing.entry.form showing.entry.file.now text.now reading.now answer.now) }
 {
     bounded_text::rendering_law();
     told_answers::telling_law();
     match answer {
-        ModelAnswer::Bmc(BmcAnswer::Answered { model, bounded }) => {
+        BmcAnswer::Answered { model, bounded } => {
             // That the model is in the fragment is known where it is looked at.
             let _model = model.model();
-            let out = bounded_view(alloc, view.form, view.file, text, reading, model, bounded)?;
+            let out = bounded_view(alloc, showing, text, reading, model, bounded)?;
             let verdict = verdict_for(bounded.lengths.as_slice());
             Ok(shown(out, bounded_status(verdict)))
         }
-        ModelAnswer::Bmc(BmcAnswer::Fault(fault)) => {
-            say_fault(alloc, view.form, "bmc", view.file, text, fault, reading)
-        }
-        _ => unreachable!(),
+        BmcAnswer::Fault(fault) => say_fault(alloc, showing, "bmc", text, fault, reading),
     }
 }

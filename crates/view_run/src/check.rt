@@ -6,15 +6,13 @@ ghost use Rattle.command_parts.specs.Limits.{ceilings_of};
 ghost use Rattle.command_parts.specs.ModelTexts.{IsTheModel};
 ghost use Rattle.model_commands.specs.Check.{IsCheckAnswerBy, verdict_status};
 ghost use Rattle.told_fault.specs.Readings.{IsReading};
-ghost use Rattle.view_run.specs.Check.{checked_line, checked_text};
-ghost use Rattle.view_run.specs.Questions.{OfCheck, model_due};
+ghost use Rattle.view_run.specs.Check.{checked_line, checked_text, check_view};
 
 use crate::faults::{line_of, say_fault};
 use crate::json_ways::group_ways;
-use crate::showing::View;
+use crate::showing::Showing;
 use crate::source::source_of;
 use crate::telling::telling_of;
-use crate::viewed::ModelAnswer;
 use base::Mem;
 use branches::Source;
 use command_parts::shown;
@@ -44,15 +42,13 @@ fn checked_line(
     let branches = group_ways(alloc, source, report.groups.as_slice())?;
     let object = report_object(alloc, model, report, &branches);
     drop(branches);
-    let line = line_of(alloc, file, object?)?;
-    Ok(line)
+    line_of(alloc, file, object?)
 }
 
 // What is shown of a report; in the text for a person, with what the text of the model tells.
 fn checked_text(
     alloc: Global,
-    form: Form,
-    file: &str,
+    showing: Showing,
     text: &[u8],
     reading: &Reading,
     model: &Checked,
@@ -62,20 +58,19 @@ fn checked_text(
     requires model { IsTheModel text.now model.now }
     requires can { AllByRecursion (CanRender model.now) report.now.groups }
     ensures { IfOk result (λ out. out.items
-        ≡ checked_text form file.now text.now reading.now model.now report.now) }
+        ≡ checked_text showing.entry.form showing.entry.file.now text.now reading.now model.now report.now) }
 {
-    match form {
+    match showing.form {
         Form::Told => {
             let telling = telling_of(alloc, text, reading, model)?;
             let told = tell(alloc, model, &telling, report);
             drop(telling);
-            let out = told?;
-            Ok(out)
+            told
         }
         Form::Dot => report_graphs(alloc, model, report.groups.as_slice()),
         Form::Json => {
             let source = source_of(alloc, text, reading, model);
-            checked_line(alloc, file, &source, model, report)
+            checked_line(alloc, showing.file, &source, model, report)
         }
     }
 }
@@ -83,26 +78,23 @@ fn checked_text(
 /// What is shown of an answer of `check`.
 pub fn say_check(
     alloc: Global,
-    view: &View,
+    showing: Showing,
     check: &Check,
     text: &[u8],
     reading: &Reading,
-    answer: &ModelAnswer,
+    answer: &CheckAnswer,
 ) -> Mem<Said>
-    requires answer { OfCheck (IsCheckAnswerBy check.now.counted (ceilings_of check.now.asked) text.now) answer.now }
+    requires answer { IsCheckAnswerBy check.now.counted (ceilings_of check.now.asked) text.now answer.now }
     requires reading { IsReading text.now reading.now }
-    ensures { IfOk result (λ s. s ≡ model_due view.now.form view.now.file.now view.now.report.now text.now reading.now
-        answer.now) }
+    ensures { IfOk result (λ s. s
+        ≡ check_view showing.entry.form showing.entry.file.now text.now reading.now answer.now) }
 {
     rml_report::rendering_law();
     match answer {
-        ModelAnswer::Check(CheckAnswer::Checked { model, report }) => {
-            let out = checked_text(alloc, view.form, view.file, text, reading, model, report)?;
+        CheckAnswer::Checked { model, report } => {
+            let out = checked_text(alloc, showing, text, reading, model, report)?;
             Ok(shown(out, verdict_status(report.verdict)))
         }
-        ModelAnswer::Check(CheckAnswer::Fault(fault)) => {
-            say_fault(alloc, view.form, "check", view.file, text, fault, reading)
-        }
-        _ => unreachable!(),
+        CheckAnswer::Fault(fault) => say_fault(alloc, showing, "check", text, fault, reading),
     }
 }

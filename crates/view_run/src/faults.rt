@@ -2,6 +2,7 @@
 ghost use Rattle.std.specs.Prelude.{◌≡◌, ◌≤◌, length, IfOk};
 ghost use Rattle.view_run.specs.Views.{line_of, fault_view};
 
+use crate::showing::Showing;
 use base::Mem;
 use command_parts::{complaint, shown};
 use commands::Said;
@@ -22,31 +23,30 @@ pub fn line_of(alloc: Global, file: &str, object: JsonObject) -> Mem<Vec<u8>>
         .into_json()?;
     let text = line(alloc, &value);
     drop(value);
-    let text = text?;
-    Ok(text)
+    text
 }
 
 /// A fault, told on the sink of complaints, or as a JSON value.
 pub fn say_fault(
     alloc: Global,
-    form: Form,
+    showing: Showing,
     command: &str,
-    file: &str,
     text: &[u8],
     fault: &Fault,
     reading: &Reading,
 ) -> Mem<Said>
     requires { fault.now.at ≤ length text.now }
-    ensures { IfOk result (λ s. s ≡ fault_view form command.now file.now text.now fault.now reading.now) }
+    ensures { IfOk result (λ s. s
+        ≡ fault_view showing.entry.form command.now showing.entry.file.now text.now fault.now reading.now) }
 {
-    match form {
+    match showing.form {
         Form::Told | Form::Dot => {
-            let told = fault_text(alloc, file, text, fault, reading)?;
+            let told = fault_text(alloc, showing.file, text, fault, reading)?;
             Ok(complaint(told, 4))
         }
         Form::Json => {
             let object = faulty_object(alloc, command, text, fault)?;
-            let line = line_of(alloc, file, object)?;
+            let line = line_of(alloc, showing.file, object)?;
             Ok(shown(line, 4))
         }
     }

@@ -6,15 +6,13 @@ ghost use Rattle.command_parts.specs.Limits.{ceilings_of};
 ghost use Rattle.command_parts.specs.ModelTexts.{IsTheModel};
 ghost use Rattle.model_commands.specs.Houdini.{IsHoudiniAnswerBy};
 ghost use Rattle.told_fault.specs.Readings.{IsReading};
-ghost use Rattle.view_run.specs.Houdini.{found_line, found_text};
-ghost use Rattle.view_run.specs.Questions.{OfHoudini, model_due};
+ghost use Rattle.view_run.specs.Houdini.{found_line, found_text, houdini_view};
 
 use crate::faults::{line_of, say_fault};
 use crate::json_ways::drop_ways;
-use crate::showing::View;
+use crate::showing::Showing;
 use crate::source::source_of;
 use crate::telling::telling_of;
-use crate::viewed::ModelAnswer;
 use base::Mem;
 use branches::Source;
 use command_parts::shown;
@@ -43,15 +41,13 @@ fn found_line(
     let branches = drop_ways(alloc, source, found.dropped.as_slice())?;
     let object = houdini_object(alloc, model, found, &branches);
     drop(branches);
-    let line = line_of(alloc, file, object?)?;
-    Ok(line)
+    line_of(alloc, file, object?)
 }
 
 // What is shown of what was found; in the text for a person, with what the text of the model tells.
 fn found_text(
     alloc: Global,
-    form: Form,
-    file: &str,
+    showing: Showing,
     text: &[u8],
     reading: &Reading,
     model: &Checked,
@@ -61,20 +57,19 @@ fn found_text(
     requires model { IsTheModel text.now model.now }
     requires can { AllByRecursion (CanRender model.now) found.now.dropped }
     ensures { IfOk result (λ out. out.items
-        ≡ found_text form file.now text.now reading.now model.now found.now) }
+        ≡ found_text showing.entry.form showing.entry.file.now text.now reading.now model.now found.now) }
 {
-    match form {
+    match showing.form {
         Form::Told => {
             let telling = telling_of(alloc, text, reading, model)?;
             let told = tell_subset(alloc, model, &telling, found);
             drop(telling);
-            let out = told?;
-            Ok(out)
+            told
         }
         Form::Dot => drops_graphs(alloc, model, found.dropped.as_slice()),
         Form::Json => {
             let source = source_of(alloc, text, reading, model);
-            found_line(alloc, file, &source, model, found)
+            found_line(alloc, showing.file, &source, model, found)
         }
     }
 }
@@ -82,32 +77,26 @@ fn found_text(
 /// What is shown of an answer of `houdini`.
 pub fn say_houdini(
     alloc: Global,
-    view: &View,
+    showing: Showing,
     houdini: &Houdini,
     text: &[u8],
     reading: &Reading,
-    answer: &ModelAnswer,
+    answer: &HoudiniAnswer,
 ) -> Mem<Said>
-    requires answer { OfHoudini (IsHoudiniAnswerBy houdini.now.counted (ceilings_of houdini.now.asked) text.now)
-        answer.now }
+    requires answer { IsHoudiniAnswerBy houdini.now.counted (ceilings_of houdini.now.asked) text.now answer.now }
     requires reading { IsReading text.now reading.now }
-    ensures { IfOk result (λ s. s ≡ model_due view.now.form view.now.file.now view.now.report.now text.now reading.now
-        answer.now) }
+    ensures { IfOk result (λ s. s
+        ≡ houdini_view showing.entry.form showing.entry.file.now text.now reading.now answer.now) }
 {
     rml_houdini::rendering_law();
     match answer {
-        ModelAnswer::Houdini(
-            HoudiniAnswer::Found {
-                model,
-                houdini: found,
-            },
-        ) => {
-            let out = found_text(alloc, view.form, view.file, text, reading, model, found)?;
+        HoudiniAnswer::Found {
+            model,
+            houdini: found,
+        } => {
+            let out = found_text(alloc, showing, text, reading, model, found)?;
             Ok(shown(out, houdini_status(found)))
         }
-        ModelAnswer::Houdini(HoudiniAnswer::Fault(fault)) => {
-            say_fault(alloc, view.form, "houdini", view.file, text, fault, reading)
-        }
-        _ => unreachable!(),
+        HoudiniAnswer::Fault(fault) => say_fault(alloc, showing, "houdini", text, fault, reading),
     }
 }

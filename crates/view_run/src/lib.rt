@@ -12,6 +12,7 @@ mod houdini;
 mod inquiry;
 mod json_ways;
 mod perform;
+mod question;
 mod replay;
 mod showing;
 mod source;

@@ -12,7 +12,8 @@ ghost use Rattle.view_run.specs.Questions.{EndsAsAsked, IsWords, OfReplay, count
 
 use crate::ended::Answer;
 use crate::inquiry::Inquiry;
-use crate::showing::View;
+use crate::question::View;
+use crate::showing::Showing;
 use crate::viewed::Viewed;
 use crate::why::Why;
 use crate::words::{Words, words_said};
@@ -70,8 +71,7 @@ fn ask_one<F: Files, P: Progress>(
 {
     let view = View {
         inquiry,
-        form,
-        file,
+        showing: Showing { form, file },
         report: "",
     };
     one_file(&view, alloc, files, file, MODEL_LIMIT, first, progress)
@@ -98,8 +98,7 @@ fn ask_two<F: Files, P: Progress>(
 {
     let view = View {
         inquiry: Inquiry::Replay,
-        form,
-        file: model,
+        showing: Showing { form, file: model },
         report,
     };
     two_files(

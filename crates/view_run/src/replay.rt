@@ -2,11 +2,10 @@
 ghost use Rattle.std.specs.Prelude.{◌≡◌, IfOk};
 ghost use Rattle.replay_command.specs.Replay.{IsReplayAnswer};
 ghost use Rattle.view_run.specs.Replay.{line_view, confirmed_view, judged_text, judged_status, unread_view};
-ghost use Rattle.view_run.specs.Questions.{OfReplay, model_due};
+ghost use Rattle.view_run.specs.Replay.{replay_view};
 
 use crate::faults::{line_of, say_fault};
-use crate::showing::View;
-use crate::viewed::ModelAnswer;
+use crate::showing::Showing;
 use base::Mem;
 use command_parts::{complaint, shown};
 use commands::Said;
@@ -49,10 +48,10 @@ fn confirmed_view(alloc: Global, executions: u64) -> Mem<Vec<u8>>
 }
 
 // What is found of a report.
-fn judged_text(alloc: Global, form: Form, file: &str, report: &str, judged: Judged) -> Mem<Vec<u8>>
-    ensures { IfOk result (λ out. out.items ≡ judged_text form file.now report.now judged) }
+fn judged_text(alloc: Global, showing: Showing, report: &str, judged: Judged) -> Mem<Vec<u8>>
+    ensures { IfOk result (λ out. out.items ≡ judged_text showing.entry.form showing.entry.file.now report.now judged) }
 {
-    match form {
+    match showing.form {
         Form::Told | Form::Dot => match judged {
             Judged::Confirmed { executions } => confirmed_view(alloc, executions),
             Judged::Denied { line, code } => {
@@ -61,7 +60,7 @@ fn judged_text(alloc: Global, form: Form, file: &str, report: &str, judged: Judg
         },
         Form::Json => {
             let object = judged_object(alloc, judged)?;
-            line_of(alloc, file, object)
+            line_of(alloc, showing.file, object)
         }
     }
 }
@@ -76,17 +75,17 @@ fn judged_status(judged: Judged) -> u8
 }
 
 // A text that is no report.
-fn say_unread(alloc: Global, form: Form, file: &str, report: &str, line: u64) -> Mem<Said>
-    ensures { IfOk result (λ s. s ≡ unread_view form file.now report.now line) }
+fn say_unread(alloc: Global, showing: Showing, report: &str, line: u64) -> Mem<Said>
+    ensures { IfOk result (λ s. s ≡ unread_view showing.entry.form showing.entry.file.now report.now line) }
 {
-    match form {
+    match showing.form {
         Form::Told | Form::Dot => {
             let text = line_view(alloc, report, line, 1, "unexpected line")?;
             Ok(complaint(text, 4))
         }
         Form::Json => {
             let object = unread_object(alloc, line)?;
-            let text = line_of(alloc, file, object)?;
+            let text = line_of(alloc, showing.file, object)?;
             Ok(shown(text, 4))
         }
     }
@@ -95,27 +94,23 @@ fn say_unread(alloc: Global, form: Form, file: &str, report: &str, line: u64) ->
 /// What is shown of an answer of `replay`.
 pub fn say_replay(
     alloc: Global,
-    view: &View,
+    showing: Showing,
+    report: &str,
     text: &[u8],
     other: &[u8],
     reading: &Reading,
-    answer: &ModelAnswer,
+    answer: &ReplayAnswer,
 ) -> Mem<Said>
-    requires answer { OfReplay (IsReplayAnswer text.now other.now) answer.now }
-    ensures { IfOk result (λ s. s ≡ model_due view.now.form view.now.file.now view.now.report.now text.now reading.now
-        answer.now) }
+    requires answer { IsReplayAnswer text.now other.now answer.now }
+    ensures { IfOk result (λ s. s
+        ≡ replay_view showing.entry.form showing.entry.file.now report.now text.now reading.now answer.now) }
 {
     match answer {
-        ModelAnswer::Replay(ReplayAnswer::Fault(fault)) => {
-            say_fault(alloc, view.form, "replay", view.file, text, fault, reading)
-        }
-        ModelAnswer::Replay(ReplayAnswer::Unread(unread)) => {
-            say_unread(alloc, view.form, view.file, view.report, unread.line)
-        }
-        ModelAnswer::Replay(ReplayAnswer::Replayed(judged)) => {
-            let text = judged_text(alloc, view.form, view.file, view.report, *judged)?;
+        ReplayAnswer::Fault(fault) => say_fault(alloc, showing, "replay", text, fault, reading),
+        ReplayAnswer::Unread(unread) => say_unread(alloc, showing, report, unread.line),
+        ReplayAnswer::Replayed(judged) => {
+            let text = judged_text(alloc, showing, report, *judged)?;
             Ok(shown(text, judged_status(*judged)))
         }
-        _ => unreachable!(),
     }
 }

@@ -6,12 +6,10 @@ ghost use Rattle.command_parts.specs.Limits.{ceilings_of};
 ghost use Rattle.model_reasons.specs.Reasons.{AreReasons};
 ghost use Rattle.model_reasons.specs.Laws.{CarriedIsShown};
 ghost use Rattle.told_fault.specs.Readings.{IsReading};
-ghost use Rattle.view_run.specs.Why.{IsWhyAnswer, fails, is_open, reasons_line, reasons_view, why_status};
-ghost use Rattle.view_run.specs.Questions.{OfWhy, model_due};
+ghost use Rattle.view_run.specs.Why.{IsWhyAnswer, fails, is_open, reasons_line, reasons_view, why_status, why_view};
 
 use crate::faults::{line_of, say_fault};
-use crate::showing::View;
-use crate::viewed::ModelAnswer;
+use crate::showing::Showing;
 use base::{Mem, Refused, Row};
 use command_line::Asked;
 use command_parts::{limits_of, read_model, shown};
@@ -55,9 +53,7 @@ fn reasons_of<P: Progress>(
     requires { IsInRange asked }
     ensures { IfOk result (AreReasons (ceilings_of asked) model.now) }
 {
-    let limits = limits_of(asked);
-    let reasons = reasons(alloc, model, &limits, progress)?;
-    Ok(reasons)
+    reasons(alloc, model, &limits_of(asked), progress)
 }
 
 /// The answer to the text of a model.
@@ -127,50 +123,46 @@ fn reasons_line(alloc: Global, file: &str, model: &Checked, reasons: &[Reason]) 
     ensures { IfOk result (λ out. out.items ≡ reasons_line file.now model.now reasons.now) }
 {
     let object = reasons_object(alloc, model, reasons)?;
-    let line = line_of(alloc, file, object)?;
-    Ok(line)
+    line_of(alloc, file, object)
 }
 
 // What is shown of the reasons.
 fn reasons_view(
     alloc: Global,
-    form: Form,
-    file: &str,
+    showing: Showing,
     model: &Checked,
     reasons: &[Reason],
 ) -> Mem<Vec<u8>>
     requires { AllByRecursion (λ r. CarriedIsShown model.now r.carried) reasons.now }
-    ensures { IfOk result (λ out. out.items ≡ reasons_view form file.now model.now reasons.now) }
+    ensures { IfOk result (λ out. out.items
+        ≡ reasons_view showing.entry.form showing.entry.file.now model.now reasons.now) }
 {
-    match form {
+    match showing.form {
         Form::Told | Form::Dot => told_answers::tell_reasons(alloc, model, reasons),
-        Form::Json => reasons_line(alloc, file, model, reasons),
+        Form::Json => reasons_line(alloc, showing.file, model, reasons),
     }
 }
 
 /// What is shown of an answer of `why`.
 pub fn say_why(
     alloc: Global,
-    view: &View,
+    showing: Showing,
     why: &Why,
     text: &[u8],
     reading: &Reading,
-    answer: &ModelAnswer,
+    answer: &WhyAnswer,
 ) -> Mem<Said>
-    requires answer { OfWhy (IsWhyAnswer (ceilings_of why.now.asked) text.now) answer.now }
+    requires answer { IsWhyAnswer (ceilings_of why.now.asked) text.now answer.now }
     requires reading { IsReading text.now reading.now }
-    ensures { IfOk result (λ s. s ≡ model_due view.now.form view.now.file.now view.now.report.now text.now reading.now
-        answer.now) }
+    ensures { IfOk result (λ s. s
+        ≡ why_view showing.entry.form showing.entry.file.now text.now reading.now answer.now) }
 {
     model_reasons::showing_law();
     match answer {
-        ModelAnswer::Why(WhyAnswer::Reasons { model, reasons }) => {
-            let out = reasons_view(alloc, view.form, view.file, model, reasons.as_slice())?;
+        WhyAnswer::Reasons { model, reasons } => {
+            let out = reasons_view(alloc, showing, model, reasons.as_slice())?;
             Ok(shown(out, why_status(reasons.as_slice())))
         }
-        ModelAnswer::Why(WhyAnswer::Fault(fault)) => {
-            say_fault(alloc, view.form, "why", view.file, text, fault, reading)
-        }
-        _ => unreachable!(),
+        WhyAnswer::Fault(fault) => say_fault(alloc, showing, "why", text, fault, reading),
     }
 }
