@@ -8,9 +8,9 @@ ghost use Rattle.cti_minimise.specs.Within.{numbers_within, AreAtMost};
 
 use crate::bounds::Bounds;
 use base::Mem;
-use fol_sig::{RelId, Signature, Sort, Structure, count_tuples, tuple_laws, tuple_of_number};
+use fol_sig::{RelId, Signature, Sort, Structure, table_len, tuple_laws, tuple_of_number};
 use rml_report::Bound;
-use std::alloc::{AllocError, Global};
+use std::alloc::Global;
 
 /// The sizes of a structure's sorts, and then of how many tuples each of its relations is true.
 pub fn extent(alloc: Global, signature: &Signature, structure: &Structure) -> Mem<Vec<u64>>
@@ -57,8 +57,7 @@ fn push_true_tuples(
     Ok(())
 }
 
-// Of how many tuples a relation is true. They are taken by their numbers. More tuples than a `usize` counts have no
-// table in memory.
+// Of how many tuples a relation is true. They are taken by their numbers.
 fn true_tuples(
     alloc: Global,
     signature: &Signature,
@@ -73,12 +72,8 @@ fn true_tuples(
 {
     tuple_laws();
     let sorts = signature.sorts_of(rel);
-    let tuples = count_tuples(sizes, sorts);
-    if tuples > isize::MAX as usize {
-        return Err(AllocError);
-    }
     let mut count = 0u64;
-    for number in 0..tuples {
+    for number in 0..table_len(sizes, sorts)? {
         let tuple = tuple_of_number(alloc, sizes, sorts, number);
         if structure.rel(rel, tuple.as_slice()) {
             count += 1;

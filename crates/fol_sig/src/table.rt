@@ -6,10 +6,10 @@ ghost use Rattle.fol_sig.specs.Tuples.{tuples};
 ghost use Rattle.fol_sig.specs.Updates.{cells_from};
 ghost use Rattle.fol_sig.specs.TupleSets.{has_tuple};
 
-use crate::tuples::{count_tuples, number_of_tuple, tuple_of_number};
+use crate::tuples::{number_of_tuple, table_len, tuple_of_number};
 use crate::{Sorts, Tuple};
 use base::Mem;
-use std::alloc::{AllocError, Global};
+use std::alloc::Global;
 use std::marker::Model;
 
 /// A value for each tuple of elements of the argument sorts, in lexicographic order.
@@ -49,13 +49,8 @@ impl<T: Copy> Table<T> {
         requires { All (λ k. k < length sizes.now) sorts.now }
         ensures { IfOk result (λ t. t ≡ filled sizes.now sorts.now value) }
     {
-        let count = count_tuples(sizes, sorts.as_slice());
-        // There may be more cells than are counted, and no memory has room for these.
-        if count == usize::MAX {
-            return Err(AllocError);
-        }
         let mut cells = Vec::new(alloc);
-        cells.resize(count, value)?;
+        cells.resize(table_len(sizes, sorts.as_slice())?, value)?;
         Ok(Table {
             sorts: sorts.copy(),
             cells,

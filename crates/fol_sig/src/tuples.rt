@@ -1,12 +1,13 @@
 // The numbers of tuples. Whatever has a value for each tuple lies in a row and is read at the tuple's number, so these
 // calls take no memory, and a number costs one product and one sum for each element.
-ghost use Rattle.std.specs.Prelude.{◌≡◌, ◌<◌, ◌≤◌, ◌^◌, length, min, All};
+ghost use Rattle.std.specs.Prelude.{◌≡◌, ◌<◌, ◌≤◌, ◌^◌, length, min, All, IfOk};
 ghost use Rattle.fol_sig.specs.Tables.{InRange, tuple_count, place_of, numbers};
 ghost use Rattle.fol_sig.specs.Tuples.{tuple_at};
 ghost use Rattle.fol_sig.specs.TupleSets.{is_in_range, are_in_range};
 
 use crate::{Sort, Tuple};
-use std::alloc::Global;
+use base::Mem;
+use std::alloc::{AllocError, Global};
 
 /// How many tuples of elements of these sorts there are, or `usize::MAX` where there are more.
 pub fn count_tuples(sizes: &[u32], sorts: &[Sort]) -> usize
@@ -18,6 +19,20 @@ pub fn count_tuples(sizes: &[u32], sorts: &[Sort]) -> usize
         count = count.saturating_mul(sizes[sort.0 as usize] as usize);
     }
     count
+}
+
+/// How many cells a table over these sorts has: one for each tuple. Err: there are 2^63 or more, and no table has more
+/// cells than memory has bytes.
+pub fn table_len(sizes: &[u32], sorts: &[Sort]) -> Mem<usize>
+    requires { All (λ k. k < length sizes.now) (numbers sorts.now) }
+    ensures count { IfOk result (λ n. n ≡ tuple_count sizes.now (numbers sorts.now)) }
+    ensures room { IfOk result (λ n. n < 2 ^ 63) }
+{
+    let count = count_tuples(sizes, sorts);
+    if count > isize::MAX as usize {
+        return Err(AllocError);
+    }
+    Ok(count)
 }
 
 /// The number of a tuple in lexicographic order.

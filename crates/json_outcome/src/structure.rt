@@ -12,11 +12,11 @@ ghost use Rattle.json_outcome.specs.StructureData.{member_data, members_data};
 
 use crate::group::name_value;
 use base::Mem;
-use fol_sig::{FunId, RelId, Sort, Structure, Symbol, Tuple, tuple_of_number};
+use fol_sig::{FunId, RelId, Sort, Structure, Symbol, Tuple, table_len, tuple_of_number};
 use json_values::{Json, JsonList, ObjectBuilder, numbers};
 use rml_command::{Model, Name, Names};
 use std::alloc::Global;
-use told_states::{has_tuple, sizes, tuples};
+use told_states::{has_tuple, sizes};
 
 /// What a structure has a list of.
 #[derive(Clone, Copy)]
@@ -68,7 +68,7 @@ fn cells(alloc: Global, structure: &Structure, sizes: &[u32], symbol: Symbol) ->
     ensures { IfOk result (λ j. j ≡ list_data (cells_data structure.now symbol)) }
 {
     let sorts = structure.arguments(symbol);
-    let count = tuples(sizes, sorts)?;
+    let count = table_len(sizes, sorts)?;
     let mut list = JsonList::new(alloc);
     for number in 0..count {
         let tuple = tuple_of_number(alloc, sizes, sorts, number);
@@ -101,7 +101,7 @@ pub fn members_value(
 {
     let sizes = sizes(alloc, model, structure)?;
     let sorts = structure.relation_sorts(rel);
-    let count = tuples(&sizes, sorts)?;
+    let count = table_len(&sizes, sorts)?;
     let mut list = JsonList::new(alloc);
     for number in 0..count {
         let tuple = tuple_of_number(alloc, &sizes, sorts, number);

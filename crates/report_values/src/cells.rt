@@ -1,6 +1,6 @@
 // The cells of relations and functions, as a line gives them.
-ghost use Rattle.std.specs.Prelude.{◌≡◌, ◌<◌, ◌≤◌, ◌^◌, ◌++◌, [], All, length, slice_index, codes, decimal, IfOk};
-ghost use Rattle.fol_sig.specs.Tables.{numbers, tuple_count, relation_at, function_at, size_at, IsStructure};
+ghost use Rattle.std.specs.Prelude.{◌≡◌, ◌<◌, ◌≤◌, ◌++◌, [], All, length, slice_index, codes, decimal, IfOk};
+ghost use Rattle.fol_sig.specs.Tables.{numbers, relation_at, function_at, size_at, IsStructure};
 ghost use Rattle.rml_report.specs.TableText.{more_text, listed_text, tuple_text, bare_text};
 ghost use Rattle.line_scan.specs.Scanning.{behind, name_at};
 ghost use Rattle.report_values.specs.ValueReading.{behind_labelled, all_tuples, tuple_in, truths_end};
@@ -9,10 +9,10 @@ ghost use Rattle.report_values.specs.ValueReading.{truth_end, relation_end, trut
 
 use crate::elements::{element_at, value_at};
 use base::{Mem, Row};
-use fol_sig::{FunId, RelId, Sort, Structure, count_tuples, tuple_of_number};
+use fol_sig::{FunId, RelId, Sort, Structure, table_len, tuple_of_number};
 use line_scan::Scan;
 use rml_command::Name;
-use std::alloc::{AllocError, Global};
+use std::alloc::Global;
 
 /// Behind a name between two words.
 pub fn behind_labelled<'a>(
@@ -85,19 +85,6 @@ fn behind_tuple<'a>(scan: &Scan<'a>, tuple: &[u32]) -> Option<Scan<'a>>
     sign.behind_word(")")
 }
 
-/// How many tuples there are. No table has more cells than memory has bytes.
-pub fn tuples(sizes: &[u32], sorts: &[Sort]) -> Mem<usize>
-    requires { All (λ k. k < length sizes.now) (numbers sorts.now) }
-    ensures count { IfOk result (λ n. n ≡ tuple_count sizes.now (numbers sorts.now)) }
-    ensures room { IfOk result (λ n. n < 2 ^ 63) }
-{
-    let count = count_tuples(sizes, sorts);
-    if count > isize::MAX as usize {
-        return Err(AllocError);
-    }
-    Ok(count)
-}
-
 // Whether a tuple stands in front, and what is left behind it.
 fn take_tuple<'a>(scan: Scan<'a>, tuple: &[u32]) -> (bool, Scan<'a>)
     ensures { result ≡ tuple_in tuple.now scan.entry }
@@ -116,7 +103,7 @@ fn truths_end(alloc: Global, first: Scan, sizes: &[u32], sorts: &[Sort]) -> Mem<
 {
     let mut scan = first;
     let mut cells = Row::new(alloc);
-    for number in 0..tuples(sizes, sorts)? {
+    for number in 0..table_len(sizes, sorts)? {
         let tuple = tuple_of_number(alloc, sizes, sorts, number);
         let (truth, next) = take_tuple(scan, tuple.as_slice());
         cells.push(truth)?;
@@ -162,7 +149,7 @@ fn values_end(
 {
     let mut scan = first;
     let mut cells = Row::new(alloc);
-    for number in 0..tuples(sizes, sorts)? {
+    for number in 0..table_len(sizes, sorts)? {
         let tuple = tuple_of_number(alloc, sizes, sorts, number);
         let Some((value, behind)) = mapped_at(&scan, structure, into, tuple.as_slice()) else {
             return Ok(None);

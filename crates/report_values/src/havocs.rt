@@ -1,6 +1,6 @@
 // The line of a path's havocs: the element of each variable, the table of each relation.
 ghost use Rattle.std.specs.Prelude.{◌≡◌, ◌<◌, ◌≤◌, [], All, length, IfOk};
-ghost use Rattle.fol_sig.specs.Tables.{numbers, tuple_count, relation_at, IsStructure};
+ghost use Rattle.fol_sig.specs.Tables.{numbers, relation_at, IsStructure};
 ghost use Rattle.fol_sig.specs.Symbols.{FitsStructure, symbols};
 ghost use Rattle.rml_command.specs.View.{primitive as primitive_view};
 ghost use Rattle.rml_command.specs.Models.{FitsPath};
@@ -11,10 +11,10 @@ ghost use Rattle.report_values.specs.ValueReading.{all_tuples};
 ghost use Rattle.report_values.specs.HavocReading.{truth_at, member_in, members_at, set_at, table_at, entry_at};
 ghost use Rattle.report_values.specs.HavocReading.{entries_in, entries_end};
 
-use crate::cells::{behind_bare, tuples};
+use crate::cells::behind_bare;
 use crate::elements::element_at;
 use base::{Mem, Row};
-use fol_sig::{FunId, RelId, Sort, Structure, Tuple, tuple_of_number};
+use fol_sig::{FunId, RelId, Sort, Structure, Tuple, table_len, tuple_of_number};
 use line_scan::Scan;
 use rml_command::{Checked, Havoc, Path, Primitive};
 use std::alloc::Global;
@@ -64,7 +64,7 @@ fn members_at<'a>(
 {
     let mut scan = first;
     let mut members = Row::new(alloc);
-    for number in 0..tuples(sizes, sorts)? {
+    for number in 0..table_len(sizes, sorts)? {
         let tuple = tuple_of_number(alloc, sizes, sorts, number);
         let (more, behind) = take_member(members, scan, tuple)?;
         members = more;

@@ -6,9 +6,9 @@ ghost use Rattle.told_derived.specs.Definitions.{CanAsk};
 ghost use Rattle.told_derived.specs.DerivedText.{fact_text, facts_line, signed_text, change_text, change_lines};
 
 use crate::derived::Derived;
-use fol_sig::{Structure, tuple_of_number};
+use fol_sig::{Structure, table_len, tuple_of_number};
 use std::alloc::Global;
-use told_states::{Labels, push_arguments, push_line, tuples};
+use told_states::{Labels, push_arguments, push_line};
 use told_text::Text;
 
 // A comma, and the name with the arguments, where it is true of them.
@@ -44,7 +44,7 @@ pub fn push_facts_line(
     requires sizes { sizes.now ≡ structure.now.sizes }
     ensures { Wrote out.old out.new (facts_line labels.now structure.now derived.now) }
 {
-    let Ok(count) = tuples(sizes, derived.sorts) else {
+    let Ok(count) = table_len(sizes, derived.sorts) else {
         out.want();
         return;
     };
@@ -108,7 +108,7 @@ pub fn push_change_lines(
     requires alike { sizes.now ≡ after.now.sizes }
     ensures { Wrote out.old out.new (change_lines labels.now before.now after.now derived.now) }
 {
-    let Ok(count) = tuples(sizes, derived.sorts) else {
+    let Ok(count) = table_len(sizes, derived.sorts) else {
         out.want();
         return;
     };

@@ -1,7 +1,7 @@
 // What is told of each cell of a structure's tables. The texts differ in what they say of a cell, so they share one
 // walk.
-ghost use Rattle.std.specs.Prelude.{◌≡◌, ◌<◌, ◌^◌, All, length, List, ℕ, IfOk};
-ghost use Rattle.fol_sig.specs.Tables.{Tables, numbers, tuple_count};
+ghost use Rattle.std.specs.Prelude.{◌≡◌, List, ℕ};
+ghost use Rattle.fol_sig.specs.Tables.{Tables};
 ghost use Rattle.fol_sig.specs.Symbols.{FitsStructure, symbols};
 ghost use Rattle.told_states.specs.Alike.{AreAlike};
 ghost use Rattle.fol_sig.specs.SymbolTables.{HasSymbol, IsCell};
@@ -10,10 +10,9 @@ ghost use Rattle.told_states.specs.SymbolText.{cells_text, all_cells};
 ghost use Rattle.fol_sig.specs.declared.symbol.Symbol.{Symbol};
 
 use crate::symbols::{all_symbols, sizes};
-use base::Mem;
-use fol_sig::{Sort, Structure, Symbol, count_tuples, tuple_of_number};
+use fol_sig::{Structure, Symbol, table_len, tuple_of_number};
 use rml_command::Model;
-use std::alloc::{AllocError, Global};
+use std::alloc::Global;
 use told_text::Text;
 
 /// What is told of a cell of a structure, beside the same cell of another one.
@@ -34,19 +33,6 @@ pub trait OfCells {
         ensures { Wrote out.old out.new (text self.now here.now there.now symbol tuple.now) };
 }
 
-/// How many tuples there are. No table has more cells than memory has bytes. Err: there are 2^63 or more.
-pub fn tuples(sizes: &[u32], sorts: &[Sort]) -> Mem<usize>
-    requires { All (λ k. k < length sizes.now) (numbers sorts.now) }
-    ensures count { IfOk result (λ n. n ≡ tuple_count sizes.now (numbers sorts.now)) }
-    ensures room { IfOk result (λ n. n < 2 ^ 63) }
-{
-    let count = count_tuples(sizes, sorts);
-    if count > isize::MAX as usize {
-        return Err(AllocError);
-    }
-    Ok(count)
-}
-
 /// Adds what is told of each cell of a symbol.
 pub fn push_cells<T: OfCells>(
     alloc: Global,
@@ -63,7 +49,7 @@ pub fn push_cells<T: OfCells>(
     ensures { Wrote out.old out.new (cells_text here.now (T.text told.now here.now there.now) symbol) }
 {
     let sorts = here.arguments(symbol);
-    let Ok(count) = tuples(sizes, sorts) else {
+    let Ok(count) = table_len(sizes, sorts) else {
         out.want();
         return;
     };

@@ -16,7 +16,7 @@ mod symbols;
 mod tables;
 
 pub use before::push_before;
-pub use cells::{OfCells, push_all_cells, push_cells, tuples};
+pub use cells::{OfCells, push_all_cells, push_cells};
 pub use changes::push_changes;
 pub use elements::{push_arguments, push_element, push_label, push_line, push_values};
 pub use label::Label;
