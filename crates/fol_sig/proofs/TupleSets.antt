@@ -101,7 +101,13 @@ in_range-is sizes (k ∷ ks) (x ∷ xs) h =
     let both = and_parts (nat_lt x (get_or sizes k 0)) (is_in_range sizes ks xs) h in
     (ltb-true x (get_or sizes k 0) both.0, in_range-is sizes ks xs both.1)
 
--- the test of tuples decides what `InRange` says
+-- the test of a tuple decides what `InRange` says
+pub is_in_range_decides : (sizes ks xs : List ℕ) (answer : Bool) → answer ≡ is_in_range sizes ks xs
+    → IsTrue answer ↔ InRange sizes ks xs
+is_in_range_decides sizes ks xs answer is =
+    ((λ e. in_range-is sizes ks xs (sym is ∙ e)), (λ h. is ∙ in_range-true sizes ks xs h))
+
+-- and that of tuples for each of them
 pub range-decided : (sizes ks : List ℕ) (xss : List (List ℕ)) (answer : Bool) → answer ≡ are_in_range sizes ks xss
     → IsTrue answer ↔ All (InRange sizes ks) xss
 range-decided sizes ks xss answer is = (

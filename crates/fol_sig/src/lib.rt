@@ -31,7 +31,7 @@ pub use structure::{Function, Structure};
 pub use symbol::Symbol;
 pub use table::Table;
 pub use tuple::Tuple;
-pub use tuples::{count_tuples, number_of_tuple, table_len, tuple_of_number};
+pub use tuples::{count_tuples, is_in_range, number_of_tuple, table_len, tuple_of_number};
 
 /// A sort, by its place in the signature.
 #[derive(Clone, Copy, PartialEq, Eq, Hash, Debug, Default)]

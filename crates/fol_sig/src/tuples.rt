@@ -1,6 +1,6 @@
 // The numbers of tuples. Whatever has a value for each tuple lies in a row and is read at the tuple's number, so these
 // calls take no memory, and a number costs one product and one sum for each element.
-ghost use Rattle.std.specs.Prelude.{◌≡◌, ◌<◌, ◌≤◌, ◌^◌, length, min, All, IfOk};
+ghost use Rattle.std.specs.Prelude.{◌≡◌, ◌<◌, ◌≤◌, ◌^◌, ◌↔◌, length, min, All, IfOk, IsTrue};
 ghost use Rattle.fol_sig.specs.Tables.{InRange, tuple_count, place_of, numbers};
 ghost use Rattle.fol_sig.specs.Tuples.{tuple_at};
 ghost use Rattle.fol_sig.specs.TupleSets.{is_in_range, are_in_range};
@@ -86,9 +86,11 @@ pub(crate) fn are_in_range(sizes: &[u32], sorts: &[Sort], tuples: &[Tuple]) -> b
     true
 }
 
-fn is_in_range(sizes: &[u32], sorts: &[Sort], tuple: &[u32]) -> bool
+/// Whether a tuple has an element of each of these sorts, and no more.
+pub fn is_in_range(sizes: &[u32], sorts: &[Sort], tuple: &[u32]) -> bool
     requires { All (λ k. k < length sizes.now) (numbers sorts.now) }
-    ensures { result ≡ is_in_range sizes.now (numbers sorts.now) tuple.now }
+    ensures value { result ≡ is_in_range sizes.now (numbers sorts.now) tuple.now }
+    ensures decides { IsTrue result ↔ InRange sizes.now (numbers sorts.now) tuple.now }
 {
     if sorts.len() != tuple.len() {
         return false;

@@ -1,9 +1,6 @@
 -- Where the atoms of each relation and each sort begin.
-use Rattle.std.proofs.Common.{◌≡◌, ℕ, suc, ◌+◌, ◌*◌, ◌<◌, ◌^◌, All, List, [], ◌∷◌, ◌++◌, length, get_or, min, ap, subst}
+use Rattle.std.proofs.Common.{◌≡◌, ℕ, suc, ◌+◌, ◌*◌, ◌<◌, ◌^◌, List, [], ◌∷◌, ◌++◌, length, get_or, min, ap}
 use Rattle.std.proofs.Common.{arith}
-use Rattle.std.proofs.lemmas.List.{get_or-map, length-map}
-use Rattle.fol_sig.specs.declared.Sort.{Sort}
-use Rattle.fol_sig.specs.Tables.{numbers}
 use Rattle.std.proofs.lemmas.Nat.{mul-add-lt}
 use Rattle.ground_terms.specs.TermCounts.{sum_below}
 use Rattle.ground_terms.specs.AtomNumbers.{equation_atoms}
@@ -23,13 +20,6 @@ pub one-first : (g : ℕ → ℕ) (xs : List ℕ) → xs ≡ [] → (x : ℕ) (y
     → AreValues g 1 ys
 one-first g xs none x ys e is =
     values-more g 0 x xs ys (record { long = ap length none; each = λ i lt. absurd (omega (arith, lt)) }) e is
-
--- a sort of a list is one that there is
-pub sort-known : (n : ℕ) (ks : List Sort) (i : ℕ) (d : Sort) → All (λ k. k < n) (numbers ks) → i < length ks
-    → (get_or ks i d).0 < n
-sort-known n ks i d sorted lt =
-    let inside : i < length (numbers ks) = omega (arith, lt, length-map ks (λ (k : Sort). k.0)) in
-    subst (λ k. k < n) (get_or-map (λ (k : Sort). k.0) ks i d 0 lt) (sorted i 0 inside)
 
 -- an equation's number among the equations
 pub record EquationNumber (counts firsts : List ℕ) (k x y : ℕ) : Type 0 where

@@ -1,15 +1,14 @@
 // The numbers of atoms, by which what is kept for each atom lies in a row and is found without a search.
-ghost use Rattle.std.specs.Prelude.{◌≡◌, ◌<◌, ◌≤◌, ◌^◌, ◌+◌, ◌*◌, ℕ, All, IfOk, IfSome, None, IsTrue, ◌↔◌, length};
+ghost use Rattle.std.specs.Prelude.{◌≡◌, ◌<◌, ◌≤◌, ◌^◌, ◌+◌, ◌*◌, ℕ, IfOk, IfSome, None, length};
 ghost use Rattle.std.specs.Prelude.{slice_index};
 ghost use Rattle.fol_sig.specs.Symbols.{symbols};
-ghost use Rattle.fol_sig.specs.Tables.{InRange, numbers};
 ghost use Rattle.ground_terms.specs.declared.atom.Atom.TheVariants.{Rel};
 ghost use Rattle.ground_terms.specs.AtomSpaces.{AreRelationFirsts, AreEquationFirsts, IsEquation};
 ghost use Rattle.ground_terms.specs.AtomNumbers.{FitsAtom, atom_number, atom_count, relation_atoms, equation_atoms};
 
 use crate::Atom;
 use base::Mem;
-use fol_sig::{RelId, Signature, Sort, count_tuples, number_of_tuple, range_laws, tuple_laws};
+use fol_sig::{RelId, Signature, Sort, count_tuples, is_in_range, number_of_tuple, tuple_laws};
 use std::alloc::Global;
 use std::marker::Model;
 
@@ -121,23 +120,6 @@ fn equation_firsts(alloc: Global, counts: &[u32]) -> Mem<Vec<usize>>
         firsts.push(before)?;
     }
     Ok(firsts)
-}
-
-// Whether each term is one of its sort.
-fn is_in_range(counts: &[u32], sorts: &[Sort], terms: &[u32]) -> bool
-    requires { All (λ k. k < length counts.now) (numbers sorts.now) }
-    ensures { IsTrue result ↔ InRange counts.now (numbers sorts.now) terms.now }
-{
-    range_laws();
-    if sorts.len() != terms.len() {
-        return false;
-    }
-    for i in 0..sorts.len() {
-        if terms[i] >= counts[sorts[i].0 as usize] {
-            return false;
-        }
-    }
-    true
 }
 
 // The number of a relation at terms.

@@ -1,5 +1,5 @@
 // The tables of the relations: true at the classes of the terms of each true atom.
-ghost use Rattle.std.specs.Prelude.{◌≡◌, ◌<◌, ◌≤◌, ◌↔◌, IsTrue, All, List, ℕ, false, length, map};
+ghost use Rattle.std.specs.Prelude.{◌≡◌, ◌<◌, ◌≤◌, All, List, ℕ, false, length, map};
 ghost use Rattle.fol_sig.specs.Symbols.{symbols, FitsStructure};
 ghost use Rattle.fol_sig.specs.Tables.{InRange, numbers, rel_at};
 ghost use Rattle.ground_terms.specs.Terms.{term_counts};
@@ -12,7 +12,7 @@ ghost use Rattle.structure_back.specs.Tables.{AreInClasses, SetsAtom, AreRelatio
 
 use crate::classes::TermClasses;
 use crate::per_sort::PerSort;
-use fol_sig::{RelId, Signature, Sort, Structure, Tuple, range_laws};
+use fol_sig::{RelId, Signature, Sort, Structure, Tuple, is_in_range, range_laws};
 use ground_terms::{Assignment, Atom, Herbrand, atom_laws};
 use std::alloc::Global;
 
@@ -107,23 +107,6 @@ fn set_relation(
     }
     let elements = elements(alloc, &classes.numbers, sorts, terms);
     structure.set_rel(relation, elements.as_slice(), true);
-}
-
-// Whether each term is one of its sort.
-fn is_in_range(counts: &[u32], sorts: &[Sort], terms: &[u32]) -> bool
-    requires { All (λ k. k < length counts.now) (numbers sorts.now) }
-    ensures { IsTrue result ↔ InRange counts.now (numbers sorts.now) terms.now }
-{
-    range_laws();
-    if sorts.len() != terms.len() {
-        return false;
-    }
-    for i in 0..sorts.len() {
-        if terms[i] >= counts[sorts[i].0 as usize] {
-            return false;
-        }
-    }
-    true
 }
 
 /// What the rows have at some places.

@@ -38,7 +38,7 @@ returns-clause-some c =
     let first = (c.requires.firsts c.args.relation.0 (omega (arith, lt))).1 in
     let exact : get_or c.args.firsts.now c.args.relation.0 0 ≡ relation_atoms sig counts c.args.relation.0 =
     omega (arith, ends, first, c.requires.few) in
-    let inside = c.is_in_range.ensures.0 c.if-not-is_in_range.false in (
+    let inside = c.is_in_range.ensures.decides.0 c.if-not-is_in_range.false in (
       (lt, subst (λ ks. InRange counts ks c.args.terms.now) c.sorts_of-sorts.ensures.value inside),
       (λ i. exact i
           + (c.number_of_tuple.ensures.value

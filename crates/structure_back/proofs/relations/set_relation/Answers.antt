@@ -21,7 +21,7 @@ inside : (c : After-as_slice) → InRange c.args.counts.now
     ((symbols c.args.signature.now).sorts_of c.args.relation.0) c.args.terms.now
 inside c =
     subst (λ ks. InRange c.args.counts.now ks c.args.terms.now) c.sorts_of-sorts.ensures.value
-    (c.is_in_range.ensures.0 c.if-not-is_in_range.false)
+    (c.is_in_range.ensures.decides.0 c.if-not-is_in_range.false)
 
 pub set_rel-requires-clause-in_range : goal.set_rel-requires-clause-in_range
 set_rel-requires-clause-in_range c =

@@ -1,7 +1,0 @@
-use Rattle.structure_back.proofs.Picking.{sort-known}
-use Rattle.std.proofs.Common.{length}
-use Rattle.structure_back.proofs.relations.is_in_range.Goals as goal
-
-pub bounds-counts-sorts : goal.bounds-counts-sorts
-bounds-counts-sorts c =
-    sort-known (length c.args.counts.now) c.args.sorts.now c.loop-i.i (record { 0 = 0 }) c.requires c.loop-i-test.true
