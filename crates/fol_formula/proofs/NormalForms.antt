@@ -10,7 +10,7 @@ use Rattle.fol_formula.proofs.Below.{all_below-same, any_below-same, all_below-o
 use Rattle.fol_formula.specs.NormalForms.{normal_form, normal_forms, HasNoExistential, HaveNoExistential}
 use Rattle.fol_formula.specs.NormalForms.{HasNoExistentialUnderUniversal, HaveNoExistentialUnderUniversal}
 use Rattle.fol_formula.specs.NormalForms.{UniversalByNormalForm, ExistsForallByNormalForm, NormalFormKeepsTruth}
-use Rattle.fol_formula.specs.NormalForms.{NormalFormStays, signed}
+use Rattle.fol_formula.specs.NormalForms.{NormalFormStays}
 
 always : Unit {0} ↔ Unit {0}
 always = (λ h. tt, λ h. tt)
@@ -155,7 +155,7 @@ other false false = refl
 module _ (s : Reading) where
   mutual
     keeps-truth : (positive : Bool) (p : FormTree) (env : List ℕ) → truth s (normal_form positive p) env
-        ≡ signed positive (truth s p env)
+        ≡ same_truth positive (truth s p env)
     keeps-truth true top env = refl
     keeps-truth false top env = refl
     keeps-truth true bottom env = refl

@@ -3,7 +3,7 @@ use Rattle.std.specs.Prelude.{Bool, true, false, not, ◌↔◌, ◌≡◌, List
 use Rattle.fol_sig.specs.Tables.{Reading}
 use Rattle.fol_formula.specs.Syntax.{FormTree, FormTrees, top, bottom, rel, equal, negation, conjunction, disjunction}
 use Rattle.fol_formula.specs.Syntax.{implication, equivalence, for_all, for_some, no_forms, form_then}
-use Rattle.fol_formula.specs.Truth.{truth}
+use Rattle.fol_formula.specs.Truth.{truth, same_truth}
 use Rattle.fol_formula.specs.Fragments.{IsUniversal, IsExistsForall, IsNormalForm}
 
 -- the And of two formulas
@@ -97,15 +97,14 @@ ExistsForallByNormalForm =
     (positive : Bool) (p : FormTree) → IsExistsForall positive p
     ↔ HasNoExistentialUnderUniversal (normal_form positive p)
 
--- a truth value as it is, or its opposite
-abbrev pub signed : Bool → Bool → Bool
-signed true b = b
-signed false b = not b
+-- a form of each formula, which is true where the formula is, and one of its negation, which is true where it is not
+abbrev pub KeepsTruth : (Bool → FormTree → FormTree) → Type 0
+KeepsTruth form = (s : Reading) (positive : Bool) (p : FormTree) (env : List ℕ)
+    → truth s (form positive p) env ≡ same_truth positive (truth s p env)
 
--- the normal form is true where the formula is, and that of its negation where it is not
+-- so are the normal forms
 abbrev pub NormalFormKeepsTruth : Type 0
-NormalFormKeepsTruth = (s : Reading) (positive : Bool) (p : FormTree) (env : List ℕ)
-    → truth s (normal_form positive p) env ≡ signed positive (truth s p env)
+NormalFormKeepsTruth = KeepsTruth normal_form
 
 -- what is in normal form already stays
 abbrev pub NormalFormStays : Type 0
