@@ -11,7 +11,7 @@ use Rattle.fol_formula.specs.Syntax.{FormTree, top}
 use Rattle.fol_formula.specs.Fits.{FitsForm}
 use Rattle.fol_formula.specs.Fragments.{IsEa}
 use Rattle.fol_formula.specs.Quantified.{AllBelow, AnyBelow}
-use Rattle.rml_command.specs.Outcomes.{is_true}
+use Rattle.fol_formula.specs.Sentences.{is_true}
 use Rattle.cti_minimise.specs.SizeBounds.{size_bound, short_bound}
 use Rattle.cti_minimise.specs.TupleBounds.{tuple_bound}
 use Rattle.cti_minimise.specs.Bounding.{relation_bound, bound_at}

@@ -26,7 +26,7 @@ use Rattle.fol_formula.specs.Syntax.{FormTree, for_all, disjunction}
 use Rattle.fol_formula.specs.Truth.{truth, any_true}
 use Rattle.fol_formula.specs.Quantified.{AllBelow, AnyBelow}
 use Rattle.cti_minimise.specs.SizeBounds.{equations, for_some_times, size_bound}
-use Rattle.rml_command.specs.Outcomes.{is_true}
+use Rattle.fol_formula.specs.Sentences.{is_true}
 use Rattle.cti_minimise.proofs.Pigeons.{pigeons}
 
 module _ (s : Reading) where

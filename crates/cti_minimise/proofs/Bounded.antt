@@ -11,7 +11,7 @@ use Rattle.fol_formula.specs.Syntax.{FormTree, forms_of}
 use Rattle.fol_formula.specs.Truth.{all_true}
 use Rattle.fol_formula.specs.Fits.{FitsForm}
 use Rattle.fol_formula.specs.Fragments.{IsEa}
-use Rattle.rml_command.specs.Outcomes.{satisfies, is_true}
+use Rattle.fol_formula.specs.Sentences.{satisfies, is_true}
 use Rattle.cti_minimise.specs.Bounding.{bounds_by}
 use Rattle.cti_minimise.specs.Extents.{extent, places}
 use Rattle.cti_minimise.specs.Minimal.{IsSmaller}

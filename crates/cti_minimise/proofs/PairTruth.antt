@@ -33,7 +33,7 @@ use Rattle.fol_sig.specs.Tables.{Tables, Reading, reading, size_at}
 use Rattle.fol_formula.specs.Syntax.{FormTree, FormTrees, disjunction}
 use Rattle.fol_formula.specs.Truth.{truth, any_true}
 use Rattle.fol_formula.specs.Quantified.{AllBelow}
-use Rattle.rml_command.specs.Outcomes.{is_true}
+use Rattle.fol_formula.specs.Sentences.{is_true}
 use Rattle.cti_minimise.specs.SizeBounds.{equations_with, pair_equations, for_all_times, pair_bound}
 use Rattle.cti_minimise.proofs.Pigeons.{pigeons}
 

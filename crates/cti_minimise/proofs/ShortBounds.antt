@@ -6,7 +6,7 @@ use Rattle.fol_sig.specs.Symbols.{Symbols}
 use Rattle.fol_formula.specs.Syntax.{FormTree}
 use Rattle.fol_formula.specs.Fits.{FitsForm}
 use Rattle.fol_formula.specs.Fragments.{IsEa}
-use Rattle.rml_command.specs.Outcomes.{is_true}
+use Rattle.fol_formula.specs.Sentences.{is_true}
 use Rattle.fol_formula.specs.Quantified.{AllBelow, AnyBelow}
 use Rattle.cti_minimise.specs.SizeBounds.{most_paired, size_bound, pair_bound, short_bound}
 use Rattle.cti_minimise.specs.Laws.{SizesAreBounded}

@@ -8,7 +8,7 @@ use Rattle.std.proofs.lemmas.Bool.{cases_Bool, cases_lt, false≢true}
 use Rattle.fol_sig.specs.Tables.{Tables, InRange, tuple_count, place_of, relation_at, rel_at}
 use Rattle.fol_sig.specs.Tuples.{tuples, tuple_at, AreNumbered, TuplesAreNumbered}
 use Rattle.fol_formula.specs.Quantified.{AllBelow, AnyBelow}
-use Rattle.rml_command.specs.Outcomes.{is_true}
+use Rattle.fol_formula.specs.Sentences.{is_true}
 use Rattle.cti_minimise.specs.TupleBounds.{tuple_bound}
 use Rattle.cti_minimise.specs.Extents.{true_tuples}
 use Rattle.cti_minimise.proofs.Pigeons.{counted}

@@ -5,7 +5,7 @@ use Rattle.fol_sig.specs.Symbols.{FitsStructure, AreSorted, symbols}
 use Rattle.fol_formula.specs.Syntax.{FormTree}
 use Rattle.fol_formula.specs.Fits.{FitsForm}
 use Rattle.fol_formula.specs.Fragments.{IsEa}
-use Rattle.rml_command.specs.Outcomes.{is_true}
+use Rattle.fol_formula.specs.Sentences.{is_true}
 use Rattle.cti_minimise.specs.Extents.{true_tuples, extent, places}
 use Rattle.cti_minimise.specs.Bounding.{relation_bound}
 

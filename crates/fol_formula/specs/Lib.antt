@@ -1,6 +1,7 @@
 pub mod Syntax
 pub mod View
 pub mod Truth
+pub mod Sentences
 pub mod Fits
 pub mod Counts
 pub mod Indices

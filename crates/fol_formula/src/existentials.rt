@@ -2,7 +2,8 @@
 // negation is counted beside it: an equivalence needs both of both sides, and two walks would double
 // the work at each level.
 ghost use Rattle.std.specs.Prelude.{◌≡◌, ◌+◌, true, false};
-ghost use Rattle.fol_formula.specs.Syntax.{conjunction, forms_of};
+ghost use Rattle.fol_formula.specs.Syntax.{forms_of};
+ghost use Rattle.fol_formula.specs.Sentences.{all_of};
 ghost use Rattle.fol_formula.specs.View.{form, forms};
 ghost use Rattle.fol_formula.specs.Counts.{saturated};
 ghost use Rattle.fol_formula.specs.Witnesses.{existentials};
@@ -84,7 +85,7 @@ impl Formula {
 /// How many existentials the normal form of the sentences' conjunction has, or the greatest number where
 /// it has more.
 pub fn existentials_of_all(sentences: &[Sentence]) -> u64
-    ensures { result ≡ saturated (existentials (conjunction (forms_of sentences.now))) }
+    ensures { result ≡ saturated (existentials (all_of sentences.now)) }
 {
     count_sentences(sentences)
 }

@@ -21,7 +21,7 @@ pub use fragment::{
 pub use laws::{
     agreement, classification, decision, growth, inclusion, indices, lists, quantified, witnesses,
 };
-pub use sentence::Sentence;
+pub use sentence::{Sentence, conjunction};
 
 /// A term. The number in `Bound` counts binders outward; the nearest is 0. `Ite` has the value of its
 /// second part where the formula is true, and that of its third part elsewhere.

@@ -2,6 +2,7 @@
 ghost use Rattle.std.specs.Prelude.{◌≡◌, IfOk};
 ghost use Rattle.fol_formula.specs.View.{form};
 ghost use Rattle.fol_formula.specs.Fits.{BoundForm};
+ghost use Rattle.fol_formula.specs.Sentences.{all_of};
 ghost use Rattle.fol_formula.specs.Counts.{form_nodes, form_depth, saturated};
 
 use crate::Formula;
@@ -76,4 +77,15 @@ impl Sentence {
             formula: self.formula.copy(alloc)?,
         })
     }
+}
+
+/// The And of sentences.
+pub fn conjunction(alloc: Global, sentences: &[Sentence]) -> Mem<Formula>
+    ensures { IfOk result (λ f. form f ≡ all_of sentences.now) }
+{
+    let mut all = Vec::new(alloc);
+    for sentence in sentences {
+        all.push(sentence.formula().copy(alloc)?)?;
+    }
+    Ok(Formula::And(all))
 }

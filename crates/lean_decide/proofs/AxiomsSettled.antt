@@ -6,7 +6,7 @@ use Rattle.fol_formula.specs.Syntax.{FormTree}
 use Rattle.fol_formula.specs.Fits.{FitsForm}
 use Rattle.lrat_check.specs.Checked.{Checked}
 use Rattle.rml_command.specs.Models.{ModelTree}
-use Rattle.rml_command.specs.Outcomes.{all_of}
+use Rattle.fol_formula.specs.Sentences.{all_of}
 use Rattle.rml_report.specs.Reports.{AxiomsAre}
 use Rattle.rml_report.specs.declared.report.Axioms.TheVariants.{Consistent, Inconsistent}
 use Rattle.ea_decide.specs.Passing.{Ceilings, Passes}

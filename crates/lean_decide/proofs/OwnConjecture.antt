@@ -10,7 +10,7 @@ use Rattle.fol_formula.specs.Syntax.{FormTree, top, negation, forms_of}
 use Rattle.fol_formula.specs.Truth.{truth, all_true}
 use Rattle.fol_formula.specs.Fits.{FitsForm}
 use Rattle.rml_command.specs.Models.{ModelTree, FitsModel}
-use Rattle.rml_command.specs.Outcomes.{all_of, is_true}
+use Rattle.fol_formula.specs.Sentences.{all_of, is_true}
 use Rattle.rml_command.specs.Fragment.{IsChecked}
 use Rattle.rml_command.specs.Goals.{IsGoal, HasNone}
 use Rattle.rml_command.specs.declared.goal.Goal.{Goal}

@@ -2,7 +2,7 @@
 use Rattle.std.specs.Prelude.{[], ◌∷◌}
 use Rattle.fol_formula.specs.Syntax.{FormTree, negation}
 use Rattle.rml_command.specs.Models.{ModelTree}
-use Rattle.rml_command.specs.Outcomes.{all_of}
+use Rattle.fol_formula.specs.Sentences.{all_of}
 use Rattle.rml_command.specs.declared.goal.Goal.{Goal}
 use Rattle.rml_wp.specs.declared.premises.Premises.TheVariants.{Affected}
 use Rattle.rml_wp.specs.Preconditions.{target_of, goal_precondition_by}

@@ -5,7 +5,7 @@ ghost use Rattle.fol_formula.specs.View.{form};
 ghost use Rattle.fol_formula.specs.Syntax.{negation};
 ghost use Rattle.fol_formula.specs.Fragments.{IsPlainUniversal};
 ghost use Rattle.rml_command.specs.Goals.{IsGoal, HasNone};
-ghost use Rattle.rml_command.specs.Outcomes.{all_of};
+ghost use Rattle.fol_formula.specs.Sentences.{all_of};
 ghost use Rattle.rml_command.specs.declared.goal.About.TheVariants.{Conjecture};
 ghost use Rattle.rml_wp.specs.Preconditions.{answered as answered_of, goal_precondition_by};
 ghost use Rattle.rml_wp.specs.declared.premises.Premises.TheVariants.{Affected};

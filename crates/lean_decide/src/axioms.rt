@@ -1,6 +1,6 @@
 // Whether the axioms of a model can be satisfied. They are decided as goals are, by the lean form of their And first.
 ghost use Rattle.std.specs.Prelude.{◌≡◌, IfOk, None};
-ghost use Rattle.rml_command.specs.Outcomes.{all_of};
+ghost use Rattle.fol_formula.specs.Sentences.{all_of};
 ghost use Rattle.ea_decide.specs.Passing.{ceilings, Passes};
 ghost use Rattle.obligation_decide.specs.GoalDecisions.{AreAxiomsDecided};
 

@@ -11,7 +11,7 @@ use Rattle.fol_formula.specs.Fragments.{IsEa, AreExistsForall, HavePlainTerms}
 use Rattle.fol_nnf.specs.Normal.{normal}
 use Rattle.fol_nnf.specs.Laws.{TruthIsKept, FittingIsKept}
 use Rattle.skolem.specs.Laws.{EachIsSkolemised}
-use Rattle.rml_command.specs.Outcomes.{all_of}
+use Rattle.fol_formula.specs.Sentences.{all_of}
 use Rattle.rml_command.specs.Models.{ModelTree, FitsModel}
 use Rattle.rml_report.specs.Reports.{SatisfiesAxioms}
 use Rattle.obligation_decide.specs.WithConstants.{HoldsWithConstants}

@@ -29,7 +29,7 @@ use Rattle.fol_nnf.specs.Normal.{normal}
 use Rattle.fol_nnf.specs.Laws.{TruthIsKept}
 use Rattle.skolem.specs.Laws.{EachIsSkolemised, IsModel}
 use Rattle.rml_command.specs.Models.{ModelTree, FitsModel}
-use Rattle.rml_command.specs.Outcomes.{all_of, is_true, satisfies}
+use Rattle.fol_formula.specs.Sentences.{all_of, is_true, satisfies}
 use Rattle.rml_command.specs.Goals.{IsGoal}
 use Rattle.rml_command.specs.declared.goal.Goal.{Goal}
 use Rattle.rml_wp.specs.declared.premises.Premises.TheVariants.{All}

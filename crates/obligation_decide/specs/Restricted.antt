@@ -4,7 +4,7 @@ use Rattle.std.specs.Prelude.{◌≡◌, ◌≤◌, ℕ, true, List, ◌∷◌, 
 use Rattle.fol_sig.specs.Tables.{Tables}
 use Rattle.fol_formula.specs.Syntax.{FormTree, conjunction, list_of_forms}
 use Rattle.rml_command.specs.Models.{ModelTree}
-use Rattle.rml_command.specs.Outcomes.{all_of, satisfies}
+use Rattle.fol_formula.specs.Sentences.{all_of, satisfies}
 use Rattle.rml_command.specs.Goals.{IsCounterexample}
 use Rattle.rml_command.specs.declared.goal.Goal.{Goal}
 use Rattle.rml_command.specs.declared.havoc.Havoc.{Havoc}

@@ -1,14 +1,13 @@
 // Whether the axioms of a model can be satisfied.
 ghost use Rattle.std.specs.Prelude.{◌≡◌, IfOk};
-ghost use Rattle.fol_formula.specs.View.{form};
-ghost use Rattle.rml_command.specs.Outcomes.{all_of as all_of_them};
+ghost use Rattle.fol_formula.specs.Sentences.{all_of};
 ghost use Rattle.ea_decide.specs.Passing.{ceilings};
 ghost use Rattle.obligation_decide.specs.GoalDecisions.{AreAxiomsDecided};
 
 use crate::cause_of;
 use base::Mem;
 use ea_decide::Decided;
-use fol_formula::{Ea, Formula, Sentence};
+use fol_formula::{Ea, Sentence, conjunction};
 use lrat_log::Limits;
 use rml_command::Checked;
 use rml_report::Axioms;
@@ -33,21 +32,10 @@ pub fn decide_axioms(alloc: Global, checked: &Checked, limits: &Limits) -> Mem<A
 
 /// The And of the axioms, by which they are decided.
 pub fn all_axioms(alloc: Global, checked: &Checked) -> Mem<Ea>
-    ensures { IfOk result (λ s. s ≡ all_of_them checked.now.axioms) }
+    ensures { IfOk result (λ s. s ≡ all_of checked.now.axioms) }
 {
     fol_formula::indices();
     let model = checked.model();
-    let axioms = all_of(alloc, model.axioms())?;
+    let axioms = conjunction(alloc, model.axioms())?;
     Ok(Ea::new(Sentence::of(axioms)))
-}
-
-// The And of sentences.
-fn all_of(alloc: Global, sentences: &[Sentence]) -> Mem<Formula>
-    ensures { IfOk result (λ f. form f ≡ all_of_them sentences.now) }
-{
-    let mut all = Vec::new(alloc);
-    for sentence in sentences {
-        all.push(sentence.formula().copy(alloc)?)?;
-    }
-    Ok(Formula::And(all))
 }

@@ -1,7 +1,7 @@
 -- The parts of a refuting sentence.
 use Rattle.std.proofs.Common.{◌≡◌, [], ◌∷◌, ◌++◌, refl}
 use Rattle.fol_formula.specs.Syntax.{FormTree, negation, form_then, no_forms, forms_of}
-use Rattle.rml_command.specs.Outcomes.{all_of}
+use Rattle.fol_formula.specs.Sentences.{all_of}
 use Rattle.rml_command.specs.Models.{ModelTree}
 use Rattle.rml_command.specs.declared.goal.Stage.{Stage}
 use Rattle.rml_command.specs.declared.goal.Stage.TheVariants as stage

@@ -6,7 +6,7 @@ use Rattle.rml_command.specs.declared.goal.Stage.TheVariants as stage
 use Rattle.fol_pool.specs.Trees.{Tree, IsAt, a_form}
 use Rattle.fol_pool.specs.Rows.{AreForms}
 use Rattle.rml_command.specs.Models.{ModelTree}
-use Rattle.rml_command.specs.Outcomes.{all_of}
+use Rattle.fol_formula.specs.Sentences.{all_of}
 use Rattle.pool_wp.specs.declared.model_nodes.ModelNodes.{ModelNodes}
 
 -- the nodes are those of all axioms together, of each of the model's conjectures, and of all conjectures together

@@ -4,7 +4,7 @@ use Rattle.fol_pool.specs.Trees.{Tree, Grows, a_form}
 use Rattle.fol_pool.specs.Growing.{stays_at}
 use Rattle.fol_pool.specs.Rows.{forms_stay}
 use Rattle.rml_command.specs.Models.{ModelTree}
-use Rattle.rml_command.specs.Outcomes.{all_of}
+use Rattle.fol_formula.specs.Sentences.{all_of}
 use Rattle.pool_wp.specs.declared.model_nodes.ModelNodes.{ModelNodes}
 use Rattle.pool_wp.specs.Standing.{AreNodesOf}
 

@@ -2,7 +2,7 @@
 ghost use Rattle.std.specs.Prelude.{IfOk};
 ghost use Rattle.fol_pool.specs.Trees.{IsAt, Grows, a_form};
 ghost use Rattle.fol_pool.specs.Rows.{AreForms};
-ghost use Rattle.rml_command.specs.Outcomes.{all_of};
+ghost use Rattle.fol_formula.specs.Sentences.{all_of};
 ghost use Rattle.pool_wp.specs.Standing.{AreNodesOf};
 
 use base::Mem;

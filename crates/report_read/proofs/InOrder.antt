@@ -11,7 +11,8 @@ use Rattle.fol_sig.specs.Tuples.{tuples, TuplesAreNumbered}
 use Rattle.fol_sig.specs.TupleSets.{has_tuple, with_tuples, TablesAreTuples}
 use Rattle.fol_formula.specs.Syntax.{FormTree}
 use Rattle.rml_command.specs.Trees.{PrimitiveTree, assume, set_rel, set_fun, havoc, havoc_rel, abort}
-use Rattle.rml_command.specs.Outcomes.{Outcome, ended, aborted, follow_path, is_true, satisfies, set_relation}
+use Rattle.fol_formula.specs.Sentences.{is_true, satisfies}
+use Rattle.rml_command.specs.Outcomes.{Outcome, ended, aborted, follow_path, set_relation}
 use Rattle.rml_command.specs.Outcomes.{set_function, set_variable, range_of, are_tuples_of}
 use Rattle.rml_command.specs.Paths.{EndsAtAbort}
 use Rattle.rml_command.specs.Models.{ModelTree, FitsPath}

@@ -11,7 +11,8 @@ use Rattle.fol_formula.specs.Syntax.{FormTree}
 use Rattle.fol_formula.specs.Truth.{truth, all_below, same_truth}
 use Rattle.rml_command.specs.Trees.{PrimitiveTree, assume, set_rel, set_fun, havoc, havoc_rel, abort}
 use Rattle.base.specs.Lists.{count_from}
-use Rattle.rml_command.specs.Outcomes.{Outcome, ended, aborted, satisfies, follow_path}
+use Rattle.fol_formula.specs.Sentences.{satisfies}
+use Rattle.rml_command.specs.Outcomes.{Outcome, ended, aborted, follow_path}
 use Rattle.rml_command.specs.Paths.{has_abort, havoc_count}
 use Rattle.rml_command.specs.Models.{ModelTree}
 use Rattle.rml_command.specs.Goals.{FailsGoal, goal_path, is_allowed, is_for}

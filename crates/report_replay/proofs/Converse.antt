@@ -8,7 +8,8 @@ use Rattle.base.specs.Lists.{count_from}
 use Rattle.fol_sig.specs.Tables.{Tables, InRange, tuple_count, relation_at, function_at, rel_at, fun_at, reading}
 use Rattle.fol_sig.specs.Tuples.{tuple_at, TuplesAreNumbered}
 use Rattle.fol_formula.specs.Truth.{truth, all_below, same_truth}
-use Rattle.rml_command.specs.Outcomes.{Outcome, ended, aborted, satisfies, follow_path}
+use Rattle.fol_formula.specs.Sentences.{satisfies}
+use Rattle.rml_command.specs.Outcomes.{Outcome, ended, aborted, follow_path}
 use Rattle.rml_command.specs.Models.{ModelTree}
 use Rattle.rml_command.specs.Goals.{FailsGoal, is_allowed, body_of}
 use Rattle.rml_command.specs.declared.goal.Goal.{Goal}

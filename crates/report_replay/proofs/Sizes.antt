@@ -5,7 +5,8 @@ use Rattle.fol_sig.specs.Tables.{Tables}
 use Rattle.fol_sig.specs.TupleSets.{with_tuples}
 use Rattle.fol_formula.specs.Syntax.{FormTree}
 use Rattle.rml_command.specs.Trees.{PrimitiveTree, assume, set_rel, set_fun, havoc, havoc_rel, abort}
-use Rattle.rml_command.specs.Outcomes.{Outcome, ended, follow_path, is_true, satisfies, set_relation}
+use Rattle.fol_formula.specs.Sentences.{is_true, satisfies}
+use Rattle.rml_command.specs.Outcomes.{Outcome, ended, follow_path, set_relation}
 use Rattle.rml_command.specs.Outcomes.{set_function, set_variable, range_of, are_tuples_of}
 use Rattle.rml_command.specs.declared.havoc.Havoc.{Havoc}
 use Rattle.rml_command.specs.declared.havoc.Havoc.TheVariants.{Element, Tuples}

@@ -6,7 +6,8 @@ use Rattle.fol_sig.specs.Tuples.{tuple_at}
 use Rattle.fol_formula.specs.Syntax.{FormTree}
 use Rattle.fol_formula.specs.Truth.{truth, all_below, same_truth}
 use Rattle.base.specs.Lists.{count_from}
-use Rattle.rml_command.specs.Outcomes.{Outcome, ended, aborted, satisfies}
+use Rattle.fol_formula.specs.Sentences.{satisfies}
+use Rattle.rml_command.specs.Outcomes.{Outcome, ended, aborted}
 use Rattle.rml_command.specs.Models.{ModelTree}
 use Rattle.rml_command.specs.Goals.{body_of}
 use Rattle.rml_command.specs.declared.goal.Stage.{Stage}

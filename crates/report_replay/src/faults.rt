@@ -2,7 +2,7 @@
 ghost use Rattle.std.specs.Prelude.{◌≡◌, ◌<◌, ◌≤◌, ◌+◌, ◌^◌, ◌∷◌, [], Some, slice_get, IfOk};
 ghost use Rattle.fol_sig.specs.Tables.{InRange};
 ghost use Rattle.fol_sig.specs.Symbols.{FitsStructure, symbols};
-ghost use Rattle.rml_command.specs.Outcomes.{satisfies};
+ghost use Rattle.fol_formula.specs.Sentences.{satisfies};
 ghost use Rattle.rml_command.specs.Goals.{leading_sorts};
 ghost use Rattle.rml_report.specs.ReportText.{outcome_of};
 ghost use Rattle.rml_exec.specs.Followed.{outcome_of as outcome_in};

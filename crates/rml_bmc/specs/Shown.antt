@@ -5,7 +5,8 @@ use Rattle.fol_sig.specs.Symbols.{Symbols, FitsStructure, symbols}
 use Rattle.rml_command.specs.Trees.{PrimitiveTree}
 use Rattle.base.specs.Lists.{numbered}
 use Rattle.rml_command.specs.Paths.{havoc_count}
-use Rattle.rml_command.specs.Outcomes.{Outcome, ended, aborted, follow_path, satisfies}
+use Rattle.fol_formula.specs.Sentences.{satisfies}
+use Rattle.rml_command.specs.Outcomes.{Outcome, ended, aborted, follow_path}
 use Rattle.rml_command.specs.Models.{ModelTree}
 use Rattle.rml_command.specs.Goals.{stage_paths, FailsGoal}
 use Rattle.rml_command.specs.Runs as runs

@@ -6,7 +6,8 @@ use Rattle.fol_sig.specs.Tables.{Tables}
 use Rattle.fol_sig.specs.Symbols.{Symbols}
 use Rattle.fol_formula.specs.Syntax.{FormTree}
 use Rattle.rml_command.specs.Trees.{PrimitiveTree, assume, set_rel, set_fun, havoc, havoc_rel, abort}
-use Rattle.rml_command.specs.Outcomes.{Outcome, follow_path, is_true, satisfies, set_relation, set_function}
+use Rattle.fol_formula.specs.Sentences.{is_true, satisfies}
+use Rattle.rml_command.specs.Outcomes.{Outcome, follow_path, set_relation, set_function}
 use Rattle.rml_command.specs.Outcomes.{set_variable, range_of}
 use Rattle.rml_command.specs.Paths.{EndsAtAbort, havoc_count}
 use Rattle.rml_command.specs.Models.{FitsSteps}

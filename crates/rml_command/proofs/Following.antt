@@ -9,7 +9,8 @@ use Rattle.fol_sig.specs.TupleSets.{has_tuple, with_table, with_tuples, tuples_w
 use Rattle.fol_formula.specs.Syntax.{FormTree}
 use Rattle.rml_command.specs.Trees.{PrimitiveTree, assume, set_rel, set_fun, havoc, havoc_rel, abort}
 use Rattle.rml_command.specs.Outcomes.{Outcome, ended, aborted, PrimitiveHasOutcome, PathHasOutcome, follow_path}
-use Rattle.rml_command.specs.Outcomes.{is_true, satisfies, set_relation, set_function, set_variable, range_of}
+use Rattle.fol_formula.specs.Sentences.{is_true, satisfies}
+use Rattle.rml_command.specs.Outcomes.{set_relation, set_function, set_variable, range_of}
 use Rattle.rml_command.specs.Outcomes.{are_tuples_of}
 use Rattle.rml_command.specs.Paths.{havoc_count}
 use Rattle.rml_command.specs.Laws.{IsFollowed, PathHasFollowedOutcomes}

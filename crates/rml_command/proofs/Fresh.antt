@@ -27,7 +27,8 @@ use Rattle.fol_formula.specs.Fits.{FitsForm, FitsForms, FitsTerm, FitsTerms}
 use Rattle.fol_formula.specs.Fragments.{AreQuantifierFreeTerms}
 use Rattle.fol_formula.specs.Growing.{ReadsItsOwn, TruthReadsItsOwn, FittingIsKept}
 use Rattle.rml_command.specs.Trees.{PrimitiveTree, assume, set_rel, set_fun, havoc, havoc_rel, abort}
-use Rattle.rml_command.specs.Outcomes.{Outcome, follow_path, all_of, is_true, satisfies, set_relation}
+use Rattle.fol_formula.specs.Sentences.{all_of, is_true, satisfies}
+use Rattle.rml_command.specs.Outcomes.{Outcome, follow_path, set_relation}
 use Rattle.rml_command.specs.Outcomes.{set_function, set_variable, range_of, are_tuples_of}
 use Rattle.rml_command.specs.Models.{FitsPrimitive, FitsPath}
 use Rattle.rml_command.specs.Laws.{UpdatesKeepSymbols}

@@ -11,7 +11,8 @@ use Rattle.fol_sig.specs.TupleSets.{TablesAreTuples}
 use Rattle.fol_formula.specs.Syntax.{FormTree, forms_of}
 use Rattle.fol_formula.specs.Truth.{all_true}
 use Rattle.rml_command.specs.Trees.{PrimitiveTree, CommandTree}
-use Rattle.rml_command.specs.Outcomes.{Outcome, ended, aborted, HasOutcome, PathHasOutcome, is_true, satisfies}
+use Rattle.fol_formula.specs.Sentences.{is_true, satisfies}
+use Rattle.rml_command.specs.Outcomes.{Outcome, ended, aborted, HasOutcome, PathHasOutcome}
 use Rattle.rml_command.specs.Outcomes.{follow_path}
 use Rattle.base.specs.Lists.{count_from}
 use Rattle.rml_command.specs.Paths.{paths_of}

@@ -7,7 +7,8 @@ use Rattle.fol_formula.specs.Syntax.{FormTree}
 use Rattle.rml_command.specs.Trees.{PrimitiveTree, assume, set_rel, set_fun, havoc, havoc_rel, abort, CommandTree}
 use Rattle.rml_command.specs.Trees.{CommandTrees, prim, seq, choose, no_commands, command_then, EachPrimitiveOf}
 use Rattle.rml_command.specs.Outcomes.{ended, PrimitiveHasOutcome, HasOutcome, SequenceHasOutcome, ChoiceHasOutcome}
-use Rattle.rml_command.specs.Outcomes.{satisfies, set_relation, set_function, set_variable}
+use Rattle.fol_formula.specs.Sentences.{satisfies}
+use Rattle.rml_command.specs.Outcomes.{set_relation, set_function, set_variable}
 use Rattle.rml_command.specs.Models.{FitsPrimitive, FitsCommand}
 use Rattle.rml_command.specs.Laws.{UpdatesKeepSymbols}
 use Rattle.rml_command.proofs.Following.{same_end}

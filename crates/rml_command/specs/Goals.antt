@@ -28,7 +28,8 @@ use Rattle.fol_sig.specs.Symbols.{FitsStructure, symbols}
 use Rattle.fol_formula.specs.Syntax.{FormTree, for_all}
 use Rattle.fol_formula.specs.Truth.{truth}
 use Rattle.rml_command.specs.Trees.{PrimitiveTree, CommandTree}
-use Rattle.rml_command.specs.Outcomes.{Outcome, ended, aborted, satisfies, follow_path}
+use Rattle.fol_formula.specs.Sentences.{satisfies}
+use Rattle.rml_command.specs.Outcomes.{Outcome, ended, aborted, follow_path}
 use Rattle.base.specs.Lists.{count_from, numbered}
 use Rattle.rml_command.specs.Paths.{has_abort, paths_of, havoc_count}
 use Rattle.rml_command.specs.Models.{ModelTree}

@@ -17,6 +17,7 @@ use Rattle.rml_command.specs.Trees.{
   choose,
   followed_by,
 }
+use Rattle.fol_formula.specs.Sentences.{is_true}
 use Rattle.rml_command.specs.Outcomes.{
   Outcome,
   ended,
@@ -24,7 +25,6 @@ use Rattle.rml_command.specs.Outcomes.{
   HasOutcome,
   PathHasOutcome,
   follow_path,
-  is_true,
   set_relation,
   set_function,
   set_variable,

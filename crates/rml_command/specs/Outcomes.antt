@@ -3,7 +3,8 @@ use Rattle.std.specs.Prelude.{◌≡◌, ◌⊎◌, ℕ, ◌<◌, nat_lt, Bool, 
 use Rattle.fol_sig.specs.Tables.{Tables, reading, size_at, relation_at, function_at}
 use Rattle.fol_sig.specs.Updates.{with_relation, with_function}
 use Rattle.fol_sig.specs.TupleSets.{are_in_range, with_table, with_tuples}
-use Rattle.fol_formula.specs.Syntax.{FormTree, TermTree, conjunction, forms_of}
+use Rattle.fol_formula.specs.Sentences.{is_true, satisfies}
+use Rattle.fol_formula.specs.Syntax.{FormTree, TermTree}
 use Rattle.fol_formula.specs.Truth.{truth, value}
 use Rattle.rml_command.specs.Trees.{
   PrimitiveTree,
@@ -28,18 +29,6 @@ use Rattle.rml_command.specs.declared.havoc.Havoc.TheVariants.{Element, Tuples}
 pub data Outcome : Type 0 where
   ended : Tables → Outcome
   aborted : Outcome
-
--- the And of sentences
-abbrev pub all_of : List FormTree → FormTree
-all_of ps = conjunction (forms_of ps)
-
--- whether a sentence is true in a structure
-abbrev pub is_true : Tables → FormTree → Bool
-is_true s p = truth (reading s) p []
-
--- whether a structure satisfies all of these sentences
-abbrev pub satisfies : Tables → List FormTree → Bool
-satisfies s ps = is_true s (all_of ps)
 
 -- the structure with r read as the formula, evaluated in the old structure at each tuple
 abbrev pub set_relation : Tables → ℕ → FormTree → Tables

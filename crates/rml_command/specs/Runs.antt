@@ -4,7 +4,8 @@ use Rattle.fol_sig.specs.Tables.{Tables}
 use Rattle.fol_sig.specs.Symbols.{FitsStructure, symbols}
 use Rattle.fol_formula.specs.Syntax.{FormTree}
 use Rattle.rml_command.specs.Trees.{CommandTree}
-use Rattle.rml_command.specs.Outcomes.{Outcome, ended, aborted, HasOutcome, is_true, satisfies}
+use Rattle.fol_formula.specs.Sentences.{is_true, satisfies}
+use Rattle.rml_command.specs.Outcomes.{Outcome, ended, aborted, HasOutcome}
 use Rattle.rml_command.specs.Models.{ModelTree}
 
 -- one outcome of an action, by the action's number

@@ -6,7 +6,8 @@ use Rattle.fol_sig.specs.Symbols.{Symbols, FitsStructure}
 use Rattle.fol_sig.specs.TupleSets.{with_tuples}
 use Rattle.fol_formula.specs.Syntax.{FormTree}
 use Rattle.rml_command.specs.Trees.{PrimitiveTree, havoc_rel}
-use Rattle.rml_command.specs.Outcomes.{Outcome, follow_path, satisfies, are_tuples_of}
+use Rattle.fol_formula.specs.Sentences.{satisfies}
+use Rattle.rml_command.specs.Outcomes.{Outcome, follow_path, are_tuples_of}
 use Rattle.rml_command.specs.declared.havoc.Havoc.{Havoc}
 use Rattle.rml_command.specs.declared.havoc.Havoc.TheVariants.{Tuples}
 use Rattle.rml_exec.specs.Steps.{MovesTo, StepsTo, Judges}

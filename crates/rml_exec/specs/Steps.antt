@@ -6,7 +6,8 @@ use Rattle.fol_sig.specs.Symbols.{Symbols, FitsStructure}
 use Rattle.fol_formula.specs.Syntax.{FormTree}
 use Rattle.fol_formula.specs.Fits.{FitsForm}
 use Rattle.rml_command.specs.Trees.{PrimitiveTree, assume, set_rel, set_fun, havoc, havoc_rel, abort}
-use Rattle.rml_command.specs.Outcomes.{aborted, follow_path, satisfies}
+use Rattle.fol_formula.specs.Sentences.{satisfies}
+use Rattle.rml_command.specs.Outcomes.{aborted, follow_path}
 use Rattle.rml_command.specs.Models.{FitsPrimitive}
 use Rattle.rml_command.specs.declared.havoc.Havoc.{Havoc}
 use Rattle.rml_exec.specs.declared.trace.Followed.{Followed}

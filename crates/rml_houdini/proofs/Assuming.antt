@@ -15,7 +15,7 @@ use Rattle.skolem.specs.Laws.{EachIsSkolemised, IsModel}
 use Rattle.ground_size.specs.Counting.{skolem_signature}
 use Rattle.rml_command.specs.Models.{ModelTree, FitsModel}
 use Rattle.rml_command.specs.Fragment.{IsChecked}
-use Rattle.rml_command.specs.Outcomes.{all_of, is_true}
+use Rattle.fol_formula.specs.Sentences.{all_of, is_true}
 use Rattle.rml_command.specs.Goals.{IsGoal}
 use Rattle.rml_command.specs.declared.goal.Goal.{Goal}
 use Rattle.rml_command.specs.declared.goal.Stage.{Stage}

@@ -11,7 +11,8 @@ use Rattle.fol_formula.specs.Syntax.{FormTree}
 use Rattle.rml_command.specs.Trees.{PrimitiveTree, CommandTree}
 use Rattle.base.specs.Lists.{SomeOf, count_from, numbered}
 use Rattle.rml_command.specs.Models.{ModelTree}
-use Rattle.rml_command.specs.Outcomes.{ended, is_true, PathHasOutcome}
+use Rattle.fol_formula.specs.Sentences.{is_true}
+use Rattle.rml_command.specs.Outcomes.{ended, PathHasOutcome}
 use Rattle.rml_command.specs.Paths.{has_abort}
 use Rattle.rml_command.specs.Laws.{PathHasFollowedOutcomes, PathsKeepKind, FalsehoodHasValues}
 use Rattle.rml_command.specs.Goals.{goals_among, group_goals, stage_paths, paths_of_block, is_for}

@@ -17,7 +17,7 @@ use Rattle.skolem.specs.Constants.{new_sorts, all_new_sorts}
 use Rattle.ground_terms.specs.TermCounts.{AreCounts}
 use Rattle.ground_size.specs.Sizes.{instance_nodes, all_instance_nodes, axiom_count, size_of}
 use Rattle.rml_command.specs.Models.{ModelTree}
-use Rattle.rml_command.specs.Outcomes.{all_of}
+use Rattle.fol_formula.specs.Sentences.{all_of}
 use Rattle.rml_command.specs.declared.goal.Goal.{Goal}
 use Rattle.rml_command.specs.declared.goal.Stage.{Stage}
 use Rattle.rml_command.specs.declared.goal.Stage.TheVariants as stage

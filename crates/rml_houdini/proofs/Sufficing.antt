@@ -13,7 +13,7 @@ use Rattle.fol_nnf.specs.Laws.{FragmentsAreKept}
 use Rattle.rml_command.specs.Trees.{PrimitiveTree}
 use Rattle.rml_command.specs.Models.{ModelTree}
 use Rattle.rml_command.specs.Fragment.{IsChecked}
-use Rattle.rml_command.specs.Outcomes.{satisfies}
+use Rattle.fol_formula.specs.Sentences.{satisfies}
 use Rattle.rml_command.specs.Goals.{goals_among, group_goals, is_for, stage_paths}
 use Rattle.rml_command.specs.declared.goal.Head.{Head}
 use Rattle.rml_command.specs.declared.goal.Goal.{Goal}

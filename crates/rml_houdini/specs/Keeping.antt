@@ -5,7 +5,7 @@ use Rattle.fol_sig.specs.Tables.{Tables}
 use Rattle.fol_sig.specs.Symbols.{FitsStructure, symbols}
 use Rattle.rml_command.specs.Models.{ModelTree}
 use Rattle.rml_command.specs.Fragment.{IsChecked}
-use Rattle.rml_command.specs.Outcomes.{satisfies}
+use Rattle.fol_formula.specs.Sentences.{satisfies}
 use Rattle.rml_command.specs.Goals.{group_goals}
 use Rattle.rml_command.specs.declared.goal.Goal.{Goal}
 use Rattle.rml_command.specs.declared.goal.Stage.{Stage}

@@ -6,7 +6,8 @@ use Rattle.fol_formula.specs.Syntax.{FormTree}
 use Rattle.rml_command.specs.Trees.{PrimitiveTree}
 use Rattle.base.specs.Lists.{SomeOf, numbered}
 use Rattle.rml_command.specs.Models.{ModelTree}
-use Rattle.rml_command.specs.Outcomes.{ended, is_true, satisfies, PathHasOutcome}
+use Rattle.fol_formula.specs.Sentences.{is_true, satisfies}
+use Rattle.rml_command.specs.Outcomes.{ended, PathHasOutcome}
 use Rattle.rml_command.specs.Goals.{stage_paths}
 use Rattle.rml_command.specs.declared.goal.Stage.{Stage}
 use Rattle.rml_command.specs.declared.goal.Stage.TheVariants as stage

@@ -4,13 +4,13 @@ ghost use Rattle.std.specs.Prelude.{◌≡◌, ◌<◌, ◌++◌, ◌∷◌, [],
 ghost use Rattle.fol_formula.specs.View.{form};
 ghost use Rattle.fol_formula.specs.Syntax.{top, negation};
 ghost use Rattle.rml_command.specs.Goals.{IsGoal};
-ghost use Rattle.rml_command.specs.Outcomes.{all_of as all_of_them};
+ghost use Rattle.fol_formula.specs.Sentences.{all_of};
 ghost use Rattle.rml_wp.specs.declared.premises.Premises.TheVariants.{Affected};
 ghost use Rattle.rml_wp.specs.Preconditions.{goal_precondition_by};
 ghost use Rattle.rml_houdini.specs.Assuming.{lawful_parts, held_parts, assumed_sentence};
 
 use base::Mem;
-use fol_formula::{Ae, Ea, Formula, Sentence};
+use fol_formula::{Ae, Ea, Formula, Sentence, conjunction};
 use rml_command::{Checked, Goal, Stage};
 use std::alloc::Global;
 
@@ -55,7 +55,7 @@ pub fn assumed_sentence(
 
 // The And of these and of the other's negation.
 fn but_not(alloc: Global, parts: Vec<Formula>, broken: Formula) -> Mem<Formula>
-    ensures { IfOk result (λ f. form f ≡ all_of_them (map form parts.items ++ negation (form broken) ∷ [])) }
+    ensures { IfOk result (λ f. form f ≡ all_of (map form parts.items ++ negation (form broken) ∷ [])) }
 {
     let mut parts = parts;
     parts.push(Formula::Not(Box::new(alloc, broken)?))?;
@@ -70,7 +70,7 @@ fn lawful_parts(alloc: Global, axioms: &[Sentence], lawful: bool) -> Mem<Vec<For
     if !lawful {
         return Ok(parts);
     }
-    let axioms = all_of(alloc, axioms)?;
+    let axioms = conjunction(alloc, axioms)?;
     parts.push(axioms)?;
     Ok(parts)
 }
@@ -91,22 +91,11 @@ fn push_held(
         Stage::Init => Ok(()),
         _ => {
             let chosen = sentences_of(alloc, conjectures, held)?;
-            let held = all_of(alloc, &chosen)?;
+            let held = conjunction(alloc, &chosen)?;
             parts.push(held)?;
             Ok(())
         }
     }
-}
-
-// The And of sentences.
-fn all_of(alloc: Global, sentences: &[Sentence]) -> Mem<Formula>
-    ensures { IfOk result (λ f. form f ≡ all_of_them sentences.now) }
-{
-    let mut all = Vec::new(alloc);
-    for sentence in sentences {
-        all.push(sentence.formula().copy(alloc)?)?;
-    }
-    Ok(Formula::And(all))
 }
 
 /// The sentences of these numbers.

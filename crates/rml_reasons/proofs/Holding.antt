@@ -6,7 +6,7 @@ use Rattle.base.proofs.Lists.{all_more}
 use Rattle.fol_sig.specs.Tables.{Tables}
 use Rattle.fol_formula.specs.Syntax.{FormTree, top}
 use Rattle.rml_command.specs.Models.{ModelTree}
-use Rattle.rml_command.specs.Outcomes.{is_true, satisfies}
+use Rattle.fol_formula.specs.Sentences.{is_true, satisfies}
 use Rattle.rml_command.specs.Goals.{group_goals, is_allowed, HasNone}
 use Rattle.rml_command.specs.declared.goal.Stage.{Stage}
 use Rattle.rml_command.specs.declared.goal.Stage.TheVariants as stage

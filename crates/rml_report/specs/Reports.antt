@@ -4,7 +4,7 @@ use Rattle.std.specs.Prelude.{◌≡◌, ℕ, ◌<◌, Bool, true, false, if◌t
 use Rattle.std.specs.List.{AllByRecursion, list_all, list_any}
 use Rattle.fol_sig.specs.Tables.{Tables}
 use Rattle.fol_sig.specs.Symbols.{FitsStructure, symbols}
-use Rattle.rml_command.specs.Outcomes.{satisfies}
+use Rattle.fol_formula.specs.Sentences.{satisfies}
 use Rattle.rml_command.specs.Models.{ModelTree}
 use Rattle.rml_command.specs.Goals.{stage_paths, groups_of, IsGoal, IsCounterexample, HasNone, Holds}
 use Rattle.rml_command.specs.declared.goal.Head.{Head}

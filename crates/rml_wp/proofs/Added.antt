@@ -7,7 +7,7 @@ use Rattle.fol_formula.specs.Syntax.{FormTree, negation}
 use Rattle.fol_formula.specs.Fits.{FitsForm}
 use Rattle.fol_formula.specs.Fragments.{IsEa, IsAe, IsPlainUniversal}
 use Rattle.fol_formula.specs.Inclusions.{UniversalIsEa, UniversalIsAe}
-use Rattle.rml_command.specs.Outcomes.{all_of}
+use Rattle.fol_formula.specs.Sentences.{all_of}
 use Rattle.base.proofs.Lists.{all_more}
 use Rattle.rml_command.specs.Goals.{goal_path}
 use Rattle.rml_command.specs.Laws.{GoalPathsFit}

@@ -14,7 +14,8 @@ use Rattle.fol_subst.specs.Replace.{change_const, changed_form}
 use Rattle.fol_occurs.specs.Occurs.{Named, the_rel, the_fun, form_mentions}
 use Rattle.fol_occurs.specs.Laws.{AreReadAlikeAt, TruthReadsOccurring}
 use Rattle.rml_command.specs.Trees.{PrimitiveTree, assume, set_rel, set_fun, havoc, havoc_rel, abort}
-use Rattle.rml_command.specs.Outcomes.{is_true, satisfies, set_relation, set_function, set_variable, range_of, all_of}
+use Rattle.fol_formula.specs.Sentences.{is_true, satisfies, all_of}
+use Rattle.rml_command.specs.Outcomes.{set_relation, set_function, set_variable, range_of}
 use Rattle.rml_command.specs.Models.{FitsPath}
 use Rattle.rml_command.specs.Laws.{UpdatesKeepSymbols}
 use Rattle.rml_command.specs.declared.goal.Stage.{Stage}

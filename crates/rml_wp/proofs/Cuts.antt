@@ -9,7 +9,8 @@ use Rattle.fol_sig.specs.Growing.{SortsAreKept, StructuresExtendByTables, IsExte
 use Rattle.fol_formula.specs.Syntax.{FormTree}
 use Rattle.fol_formula.specs.Fits.{FitsForm}
 use Rattle.rml_command.specs.Trees.{PrimitiveTree}
-use Rattle.rml_command.specs.Outcomes.{Outcome, aborted, ended, follow_path, is_true}
+use Rattle.fol_formula.specs.Sentences.{is_true}
+use Rattle.rml_command.specs.Outcomes.{Outcome, aborted, ended, follow_path}
 use Rattle.rml_command.specs.Models.{ModelTree, FitsModel}
 use Rattle.rml_command.specs.Goals.{goal_path, IsGoal, FailsGoal}
 use Rattle.rml_command.specs.Fresh.{havocked}

@@ -12,7 +12,8 @@ use Rattle.fol_sig.specs.Growing.{GrowsByRelations}
 use Rattle.fol_formula.specs.Syntax.{FormTree, negation}
 use Rattle.fol_formula.specs.Fits.{FitsForm}
 use Rattle.rml_command.specs.Trees.{PrimitiveTree, assume, set_rel, set_fun, havoc, havoc_rel, abort}
-use Rattle.rml_command.specs.Outcomes.{Outcome, ended, aborted, follow_path, is_true, satisfies, all_of}
+use Rattle.fol_formula.specs.Sentences.{is_true, satisfies, all_of}
+use Rattle.rml_command.specs.Outcomes.{Outcome, ended, aborted, follow_path}
 use Rattle.rml_command.specs.Paths.{has_abort, EndsAtAbort, havoc_count}
 use Rattle.rml_command.specs.Models.{ModelTree, FitsModel, FitsPath}
 use Rattle.rml_command.specs.Goals.{goal_path, IsGoal, is_for, FailsGoal}

@@ -10,7 +10,7 @@ use Rattle.fol_subst.specs.Replace.{Change, change_const, CanChange, changed_for
 use Rattle.fol_subst.specs.Outcome.{CanReplace, ShortListsSuffice}
 use Rattle.fol_subst.specs.Unchanged.{is_own_value, OwnValueChangesNothing}
 use Rattle.rml_command.specs.Trees.{PrimitiveTree, havoc}
-use Rattle.rml_command.specs.Outcomes.{all_of}
+use Rattle.fol_formula.specs.Sentences.{all_of}
 use Rattle.rml_command.specs.Models.{FitsStep, FitsSteps}
 use Rattle.rml_command.specs.Fresh.{written}
 use Rattle.rml_wp.specs.Written.{relation_havocs, written_step}

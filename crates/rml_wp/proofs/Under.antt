@@ -14,7 +14,8 @@ use Rattle.fol_formula.specs.Syntax.{equivalence, for_all, for_some}
 use Rattle.fol_formula.specs.Fits.{FitsForm}
 use Rattle.fol_formula.specs.Growing.{ReadsItsOwn, TruthReadsItsOwn}
 use Rattle.rml_command.specs.Trees.{PrimitiveTree, assume, set_rel, set_fun, havoc, havoc_rel, abort}
-use Rattle.rml_command.specs.Outcomes.{Outcome, ended, aborted, follow_path, is_true, satisfies, set_relation}
+use Rattle.fol_formula.specs.Sentences.{is_true, satisfies}
+use Rattle.rml_command.specs.Outcomes.{Outcome, ended, aborted, follow_path, set_relation}
 use Rattle.rml_command.specs.Outcomes.{set_function, set_variable, range_of}
 use Rattle.rml_command.specs.Paths.{EndsAtAbort, havoc_count}
 use Rattle.rml_command.specs.Models.{ModelTree, FitsPath}

@@ -8,7 +8,7 @@ use Rattle.fol_sig.specs.Constants.{reduct}
 use Rattle.fol_sig.specs.Growing.{Grows}
 use Rattle.fol_formula.specs.Syntax.{FormTree}
 use Rattle.fol_formula.specs.Fits.{FitsForm}
-use Rattle.rml_command.specs.Outcomes.{is_true}
+use Rattle.fol_formula.specs.Sentences.{is_true}
 use Rattle.rml_command.specs.Models.{ModelTree, FitsModel}
 use Rattle.rml_command.specs.Goals.{IsGoal}
 use Rattle.rml_command.specs.declared.goal.Goal.{Goal}

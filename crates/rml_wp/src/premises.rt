@@ -4,11 +4,11 @@ ghost use Rattle.fol_formula.specs.View.{form};
 ghost use Rattle.fol_formula.specs.Counts.{saturated};
 ghost use Rattle.fol_formula.specs.Witnesses.{existentials};
 ghost use Rattle.fol_occurs.specs.View.{named};
-ghost use Rattle.rml_command.specs.Outcomes.{all_of as all_of_them};
+ghost use Rattle.fol_formula.specs.Sentences.{all_of};
 ghost use Rattle.rml_wp.specs.Preconditions.{mentioning, premises_at};
 
 use base::Mem;
-use fol_formula::{Formula, Sentence, existentials_of_all};
+use fol_formula::{Formula, Sentence, conjunction, existentials_of_all};
 use fol_occurs::mentions;
 use fol_sig::Symbol;
 use std::alloc::Global;
@@ -24,11 +24,11 @@ pub enum Premises {
 impl Premises {
     // The And of the axioms that are premises behind a change of the symbol.
     pub(crate) fn lawful(self, alloc: Global, axioms: &[Sentence], symbol: Symbol) -> Mem<Formula>
-        ensures { IfOk result (λ f. form f ≡ all_of_them (premises_at self axioms.now (named symbol))) }
+        ensures { IfOk result (λ f. form f ≡ all_of (premises_at self axioms.now (named symbol))) }
     {
         match self {
             Premises::All => {
-                let all = all_of(alloc, axioms)?;
+                let all = conjunction(alloc, axioms)?;
                 Ok(all)
             }
             Premises::Affected => {
@@ -40,7 +40,7 @@ impl Premises {
 
     // How many existentials these have in normal form.
     pub(crate) fn existentials(self, axioms: &[Sentence], symbol: Symbol) -> u64
-        ensures { result ≡ saturated (existentials (all_of_them (premises_at self axioms.now (named symbol)))) }
+        ensures { result ≡ saturated (existentials (all_of (premises_at self axioms.now (named symbol)))) }
     {
         match self {
             Premises::All => existentials_of_all(axioms),
@@ -49,20 +49,9 @@ impl Premises {
     }
 }
 
-/// The And of sentences.
-pub fn all_of(alloc: Global, sentences: &[Sentence]) -> Mem<Formula>
-    ensures { IfOk result (λ f. form f ≡ all_of_them sentences.now) }
-{
-    let mut all = Vec::new(alloc);
-    for sentence in sentences {
-        all.push(sentence.formula().copy(alloc)?)?;
-    }
-    Ok(Formula::And(all))
-}
-
 // The And of those in which the symbol occurs.
 fn all_mentioning(alloc: Global, sentences: &[Sentence], symbol: Symbol) -> Mem<Formula>
-    ensures { IfOk result (λ f. form f ≡ all_of_them (mentioning (named symbol) sentences.now)) }
+    ensures { IfOk result (λ f. form f ≡ all_of (mentioning (named symbol) sentences.now)) }
 {
     let mut some = Vec::new(alloc);
     for sentence in sentences {
@@ -75,7 +64,7 @@ fn all_mentioning(alloc: Global, sentences: &[Sentence], symbol: Symbol) -> Mem<
 }
 
 fn existentials_mentioning(sentences: &[Sentence], symbol: Symbol) -> u64
-    ensures { result ≡ saturated (existentials (all_of_them (mentioning (named symbol) sentences.now))) }
+    ensures { result ≡ saturated (existentials (all_of (mentioning (named symbol) sentences.now))) }
 {
     let mut count = 0u64;
     for sentence in sentences {

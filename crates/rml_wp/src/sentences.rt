@@ -7,7 +7,7 @@ ghost use Rattle.fol_formula.specs.View.{form};
 ghost use Rattle.fol_formula.specs.Syntax.{negation, top};
 ghost use Rattle.fol_formula.specs.Fits.{BoundForm};
 ghost use Rattle.fol_formula.specs.Fragments.{IsEa};
-ghost use Rattle.rml_command.specs.Outcomes.{all_of as all_of_them};
+ghost use Rattle.fol_formula.specs.Sentences.{all_of};
 ghost use Rattle.rml_command.specs.Goals.{IsGoal};
 ghost use Rattle.rml_wp.specs.Preconditions.{goal_precondition, goal_passes_limit, conjectures_of, parts_before};
 ghost use Rattle.rml_wp.specs.Preconditions.{goal_precondition_by, goal_passes_limit_by, refuting_of, refuting_by};
@@ -20,10 +20,10 @@ ghost use Rattle.rml_wp.specs.Written.{havoc_of};
 ghost use Rattle.rml_wp.specs.Held.{held_at};
 
 use crate::laws::fragment_law;
-use crate::premises::{Premises, all_of};
+use crate::premises::Premises;
 use crate::steps::along;
 use base::{Mem, Refused};
-use fol_formula::{Ae, Ea, Formula, Sentence};
+use fol_formula::{Ae, Ea, Formula, Sentence, conjunction};
 use fol_sig::{RelId, Signature, with_fresh_relations};
 use fol_subst::FormulaLimit;
 use rml_command::{Checked, Goal, Model, Path, Primitive, Stage};
@@ -178,12 +178,12 @@ fn signature_along(alloc: Global, model: &Model, path: &Path) -> Mem<Signature>
 
 // What holds before a stage beside the axioms. Before init there is nothing, and nothing is copied.
 fn held_before(alloc: Global, model: &Model, stage: Stage) -> Mem<Formula>
-    ensures { IfOk result (λ f. form f ≡ held_at stage (all_of_them model.now.conjectures)) }
+    ensures { IfOk result (λ f. form f ≡ held_at stage (all_of model.now.conjectures)) }
 {
     match stage {
         Stage::Init => Ok(Formula::True),
         _ => {
-            let held = all_of(alloc, model.conjectures())?;
+            let held = conjunction(alloc, model.conjectures())?;
             Ok(held)
         }
     }
@@ -192,7 +192,7 @@ fn held_before(alloc: Global, model: &Model, stage: Stage) -> Mem<Formula>
 // The same, where of the conjectures those with these numbers hold.
 fn chosen_before(alloc: Global, model: &Model, chosen: &[u32], stage: Stage) -> Mem<Formula>
     requires { All (λ k. k < length model.now.conjectures) chosen.now }
-    ensures { IfOk result (λ f. form f ≡ held_at stage (all_of_them (conjectures_of model.now chosen.now))) }
+    ensures { IfOk result (λ f. form f ≡ held_at stage (all_of (conjectures_of model.now chosen.now))) }
 {
     match stage {
         Stage::Init => Ok(Formula::True),
@@ -215,12 +215,12 @@ fn with_allowed(
     requires held { IsEa (form held) }
     requires bound { BoundForm 0 (form held) }
     ensures { IfOk result
-        (λ f. f ≡ all_of_them (parts_before stage (all_of_them model.now.axioms) (form held) ++ negation precondition
+        (λ f. f ≡ all_of (parts_before stage (all_of model.now.axioms) (form held) ++ negation precondition
         ∷ [])) }
 {
     fol_formula::indices();
     let axioms = model.axioms();
-    let lawful = all_of(alloc, axioms)?;
+    let lawful = conjunction(alloc, axioms)?;
     let precondition = precondition.into_sentence().into_formula();
     let sentence = conjoined(alloc, lawful, held, stage, precondition)?;
     Ok(Ea::new(Sentence::of(sentence)))
@@ -236,7 +236,7 @@ fn conjoined(
 ) -> Mem<Formula>
     ensures { IfOk result
         (λ f. form f
-        ≡ all_of_them (parts_before stage (form lawful) (form held) ++ negation (form precondition) ∷ [])) }
+        ≡ all_of (parts_before stage (form lawful) (form held) ++ negation (form precondition) ∷ [])) }
 {
     let mut parts = Vec::new(alloc);
     parts.push(lawful)?;
@@ -251,7 +251,7 @@ fn conjoined(
 // The And of the sentences with these numbers.
 fn all_of_chosen(alloc: Global, sentences: &[Sentence], chosen: &[u32]) -> Mem<Formula>
     requires { All (λ k. k < length sentences.now) chosen.now }
-    ensures { IfOk result (λ f. form f ≡ all_of_them (map (λ k. slice_index_or sentences.now k top) chosen.now)) }
+    ensures { IfOk result (λ f. form f ≡ all_of (map (λ k. slice_index_or sentences.now k top) chosen.now)) }
 {
     let mut all = Vec::new(alloc);
     for number in chosen {

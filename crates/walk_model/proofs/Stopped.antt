@@ -3,7 +3,8 @@ use Rattle.std.proofs.Common.{◌≡◌, inl, inr, Bool, true, false, ◌||◌, 
 use Rattle.fol_sig.specs.Tables.{Tables}
 use Rattle.fol_sig.specs.Symbols.{FitsStructure, symbols}
 use Rattle.rml_command.specs.Trees.{PrimitiveTree, abort}
-use Rattle.rml_command.specs.Outcomes.{Outcome, ended, aborted, PathHasOutcome, satisfies}
+use Rattle.fol_formula.specs.Sentences.{satisfies}
+use Rattle.rml_command.specs.Outcomes.{Outcome, ended, aborted, PathHasOutcome}
 use Rattle.rml_command.specs.Paths.{is_abort, has_abort}
 use Rattle.rml_command.specs.Models.{ModelTree}
 use Rattle.rml_command.specs.Fragment.{IsChecked}

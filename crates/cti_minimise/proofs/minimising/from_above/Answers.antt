@@ -2,7 +2,7 @@ use Rattle.std.proofs.Common.{◌≡◌, ◌+◌, ◌-◌, ◌<◌, ℕ, true, L
 use Rattle.std.proofs.Common.{subst, arith}
 use Rattle.std.proofs.lemmas.Grind.{get_or_default_zero}
 use Rattle.rml_command.specs.Models.{ModelTree}
-use Rattle.rml_command.specs.Outcomes.{satisfies}
+use Rattle.fol_formula.specs.Sentences.{satisfies}
 use Rattle.obligation_decide.specs.Restricted.{HasNoneWhere}
 use Rattle.cti_minimise.specs.Bounding.{bounds_on}
 use Rattle.cti_minimise.specs.Extents.{extent, lowest}

@@ -1,7 +1,7 @@
 use Rattle.std.proofs.Common.{sym, ap, ◌∙◌, subst}
 use Rattle.fol_formula.specs.Fits.{BoundForm}
 use Rattle.fol_formula.specs.Fragments.{IsEa}
-use Rattle.rml_command.specs.Outcomes.{all_of}
+use Rattle.fol_formula.specs.Sentences.{all_of}
 use Rattle.obligation_decide.proofs.SameAnswer.{axioms_of}
 use Rattle.obligation_decide.proofs.Conjoined.{axioms-bound, axioms-ea}
 use Rattle.obligation_decide.proofs.axioms.all_axioms.Goals as goal

@@ -4,7 +4,7 @@ use Rattle.fol_sig.specs.Symbols.{symbols}
 use Rattle.fol_sig.specs.Constants.{reduct}
 use Rattle.fol_formula.specs.Syntax.{FormTree}
 use Rattle.fol_formula.specs.Fits.{FitsForm}
-use Rattle.rml_command.specs.Outcomes.{all_of}
+use Rattle.fol_formula.specs.Sentences.{all_of}
 use Rattle.ea_decide.specs.Passing.{ceilings}
 use Rattle.obligation_decide.proofs.SameAnswer.{signature_of, same_answer}
 use Rattle.obligation_decide.proofs.Conjoined.{axioms-fit, satisfied}

@@ -2,7 +2,7 @@ use Rattle.std.proofs.Common.{◌≡◌, ap, ◌∙◌}
 use Rattle.fol_formula.specs.Syntax.{FormTree, FormTrees, conjunction, form_then, negation, no_forms}
 use Rattle.fol_pool.specs.Trees.{a_form, as_formula, as_formulas, form_at, forms_at}
 use Rattle.fol_pool.specs.Growing.{grows_on}
-use Rattle.rml_command.specs.Outcomes.{all_of}
+use Rattle.fol_formula.specs.Sentences.{all_of}
 use Rattle.rml_wp.specs.Preconditions.{goal_precondition}
 use Rattle.pool_wp.specs.Standing.{AreNodesOf, held_row}
 use Rattle.pool_wp.specs.Staying.{nodes_stay}

@@ -3,7 +3,7 @@ use Rattle.std.specs.List.{AllByRecursion}
 use Rattle.fol_sig.specs.Symbols.{symbols}
 use Rattle.fol_formula.specs.Syntax.{FormTree}
 use Rattle.fol_formula.specs.Fits.{FitsForm}
-use Rattle.rml_command.specs.Outcomes.{satisfies}
+use Rattle.fol_formula.specs.Sentences.{satisfies}
 use Rattle.rml_houdini.proofs.Sufficing.{held_at_init, held_behind, chosen_of}
 use Rattle.rml_houdini.proofs.keeping.are_held_before.Goals as goal
 

@@ -1,5 +1,5 @@
 use Rattle.std.proofs.Common.{◌≡◌, drop}
-use Rattle.rml_command.specs.Outcomes.{satisfies}
+use Rattle.fol_formula.specs.Sentences.{satisfies}
 use Rattle.rml_exec.specs.Steps.{CanJudge}
 use Rattle.rml_houdini.proofs.keeping.are_true.Given as goal
 

@@ -4,7 +4,7 @@ use Rattle.fol_formula.specs.Syntax.{FormTree}
 use Rattle.fol_formula.specs.Counts.{saturated}
 use Rattle.fol_formula.specs.Witnesses.{existentials}
 use Rattle.fol_occurs.specs.View.{named}
-use Rattle.rml_command.specs.Outcomes.{all_of}
+use Rattle.fol_formula.specs.Sentences.{all_of}
 use Rattle.rml_wp.specs.Preconditions.{mentioning}
 use Rattle.rml_wp.proofs.premises.existentials_mentioning.Goals as goal
 

@@ -2,7 +2,7 @@ use Rattle.std.proofs.Common.{◌≡◌, ◌+◌, drop}
 use Rattle.fol_formula.specs.Counts.{saturated}
 use Rattle.fol_formula.specs.Witnesses.{existentials}
 use Rattle.fol_occurs.specs.View.{named}
-use Rattle.rml_command.specs.Outcomes.{all_of}
+use Rattle.fol_formula.specs.Sentences.{all_of}
 use Rattle.rml_wp.specs.Preconditions.{mentioning}
 use Rattle.rml_wp.proofs.premises.existentials_mentioning.Given as goal
 

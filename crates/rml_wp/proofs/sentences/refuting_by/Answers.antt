@@ -5,7 +5,7 @@ use Rattle.fol_formula.specs.View.{form}
 use Rattle.fol_formula.specs.Fits.{BoundForm}
 use Rattle.fol_formula.specs.Fragments.{IsEa}
 use Rattle.rml_command.specs.Models.{ModelTree}
-use Rattle.rml_command.specs.Outcomes.{all_of}
+use Rattle.fol_formula.specs.Sentences.{all_of}
 use Rattle.rml_wp.specs.Preconditions.{parts_before}
 use Rattle.rml_wp.specs.Held.{held_at}
 use Rattle.rml_wp.proofs.Closed.{all-bound, universal-ea}

@@ -1,6 +1,0 @@
-use Rattle.std.proofs.Common.{◌≡◌, map, take}
-use Rattle.fol_formula.specs.View.{form}
-use Rattle.rml_wp.proofs.premises.all_of.Given as goal
-
-abbrev pub invariant-loop-sentence : goal.invariant-loop-sentence
-invariant-loop-sentence l = map form l.all.items ≡ take l.sentence-index l.sentences
