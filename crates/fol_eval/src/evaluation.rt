@@ -4,12 +4,13 @@ ghost use Rattle.fol_sig.specs.Tables.{reading};
 ghost use Rattle.fol_formula.specs.View.{form, term as term_view, forms, terms as terms_view};
 ghost use Rattle.fol_formula.specs.Syntax.{for_all, for_some, size_of};
 ghost use Rattle.fol_formula.specs.Truth.{truth, all_true, any_true, value as value_of, values};
-ghost use Rattle.fol_formula.specs.Fits.{HasTruth, HasValue};
+ghost use Rattle.fol_formula.specs.Fits.{HasTruth, HaveTruth, HasValue};
+ghost use Rattle.fol_formula.specs.Sentences.{satisfies};
 ghost use Rattle.fol_eval.specs.Elements.{elements};
 ghost use Rattle.fol_eval.specs.Safe.{SafeForm, SafeForms, SafeTerm, SafeTerms};
 
 use crate::Env;
-use fol_formula::{Formula, Term};
+use fol_formula::{Formula, Sentence, Term};
 use fol_sig::{Sort, Structure, range_laws};
 
 /// Whether the formula is true.
@@ -19,6 +20,19 @@ pub fn holds(structure: &Structure, formula: &Formula, env: &Env) -> bool
 {
     range_laws();
     is_true(structure, formula, env)
+}
+
+/// Whether a structure satisfies all of these sentences.
+pub fn satisfies(structure: &Structure, sentences: &[Sentence]) -> bool
+    requires { HaveTruth structure.now sentences.now }
+    ensures { result ≡ satisfies structure.now sentences.now }
+{
+    for sentence in sentences {
+        if !holds(structure, sentence.formula(), &Env::Empty) {
+            return false;
+        }
+    }
+    true
 }
 
 /// The value of a term.

@@ -6,7 +6,7 @@ mod cutting;
 mod evaluation;
 
 pub use cutting::cut;
-pub use evaluation::{holds, value};
+pub use evaluation::{holds, satisfies, value};
 
 /// The elements that the indices stand for, the nearest binder's first: a chain of borrowed links, so
 /// that a quantifier puts an element in front without memory.

@@ -19,9 +19,9 @@ ghost use Rattle.report_replay.specs.declared.denial.DenialCode.TheVariants as d
 use crate::denial::DenialCode;
 use crate::ends::table_fault;
 use crate::judged::Fault;
-use crate::truths::{are_true, is_body_true};
+use crate::truths::is_body_true;
 use base::Mem;
-use fol_eval::Env;
+use fol_eval::{Env, satisfies};
 use fol_sig::Structure;
 use printed_report::{PrintedAnswer, PrintedGroup};
 use rml_command::{About, Checked, Stage};
@@ -35,7 +35,7 @@ fn is_kept_before(checked: &Checked, stage: Stage, structure: &Structure) -> boo
 {
     match stage {
         Stage::Init => true,
-        Stage::Action(_) | Stage::Final => are_true(checked.model().conjectures(), structure),
+        Stage::Action(_) | Stage::Final => satisfies(structure, checked.model().conjectures()),
     }
 }
 
@@ -50,7 +50,7 @@ fn fault_before(checked: &Checked, stage: Stage, structure: &Structure, line: u6
           met = is_kept_before checked.now stage structure.now;
         } ∷ []) }
 {
-    if !are_true(checked.model().axioms(), structure) {
+    if !satisfies(structure, checked.model().axioms()) {
         return Some(Fault {
             line,
             code: DenialCode::AxiomIsFalse,

@@ -28,13 +28,7 @@ pub record CanUpdate (q : PrimitiveTree) (s : Tables) : Type 0 where
   pub structure : FitsStructure sig s
   pub fits : FitsPrimitive sig q
 
--- so have the axioms and the structure
-pub record CanJudge (axioms : List FormTree) (s : Tables) : Type 0 where
-  pub sig : Symbols
-  pub structure : FitsStructure sig s
-  pub axioms_fit : AllByRecursion (FitsForm sig []) axioms
-
--- and all three
+-- so have the axioms too
 pub record CanStep (axioms : List FormTree) (q : PrimitiveTree) (s : Tables) : Type 0 where
   pub sig : Symbols
   pub structure : FitsStructure sig s

@@ -3,16 +3,16 @@ ghost use Rattle.std.specs.Prelude.{◌≡◌, IfOk};
 ghost use Rattle.fol_sig.specs.Symbols.{symbols, FitsStructure};
 ghost use Rattle.rml_command.specs.View.{primitive as primitive_view};
 ghost use Rattle.rml_command.specs.Trees.{havoc as havoc_tree, havoc_rel as havoc_rel_tree};
-ghost use Rattle.fol_formula.specs.Sentences.{satisfies};
+ghost use Rattle.fol_formula.specs.Fits.{HaveTruth};
 ghost use Rattle.rml_command.specs.Outcomes.{follow_path};
 ghost use Rattle.rml_command.specs.Models.{FitsPath};
 ghost use Rattle.rml_exec.specs.Followed.{outcome_of, EndFits};
-ghost use Rattle.rml_exec.specs.Steps.{havocs_after, CanStep, CanJudge, StepsTo, Judges};
+ghost use Rattle.rml_exec.specs.Steps.{havocs_after, CanStep, StepsTo, Judges};
 
 use crate::tables::{set_function, set_relation, set_variable};
 use crate::trace::{Followed, Trace};
 use base::Mem;
-use fol_eval::{Env, holds};
+use fol_eval::{Env, holds, satisfies};
 use fol_formula::Sentence;
 use fol_sig::{FunId, RelId, Structure};
 use rml_command::{Checked, Havoc, Path, Primitive};
@@ -140,24 +140,12 @@ fn havoc_relation(
 
 // A structure that breaks an axiom is no end of a step.
 fn judge(axioms: &[Sentence], structure: Structure) -> Followed
-    requires { CanJudge axioms.now structure }
+    requires { HaveTruth structure axioms.now }
     ensures { Judges axioms.now structure result }
 {
-    if are_true(axioms, &structure) {
+    if satisfies(&structure, axioms) {
         Followed::Ended(structure)
     } else {
         Followed::Blocked
     }
-}
-
-fn are_true(sentences: &[Sentence], structure: &Structure) -> bool
-    requires { CanJudge sentences.now structure.now }
-    ensures { result ≡ satisfies structure.now sentences.now }
-{
-    for sentence in sentences {
-        if !holds(structure, sentence.formula(), &Env::Empty) {
-            return false;
-        }
-    }
-    true
 }

@@ -4,8 +4,6 @@
 ghost use Rattle.std.specs.Prelude.{◌≡◌, ◌<◌, length, true, All, IfOk, OnOk, IfSome};
 ghost use Rattle.fol_sig.specs.Symbols.{FitsStructure, symbols};
 ghost use Rattle.rml_command.specs.Goals.{IsGoal};
-ghost use Rattle.fol_formula.specs.Sentences.{satisfies};
-ghost use Rattle.rml_exec.specs.Steps.{CanJudge};
 ghost use Rattle.rml_wp.specs.declared.premises.Premises.TheVariants.{Affected};
 ghost use Rattle.rml_wp.specs.Preconditions.{answered as answered_of, conjectures_of, goal_precondition_by};
 ghost use Rattle.ea_decide.specs.Passing.{ceilings};
@@ -16,7 +14,7 @@ ghost use Rattle.rml_houdini.specs.Keeping.{Grows, IsTurn, AreHeldBefore};
 use crate::assumed::{Assumed, sentences_of};
 use crate::trying::{Tried, try_with};
 use base::{Mem, Refused};
-use fol_eval::{Env, holds};
+use fol_eval::{Env, holds, satisfies};
 use fol_formula::{Ae, Formula, Sentence};
 use fol_sig::{Signature, Structure};
 use lrat_log::Limits;
@@ -164,7 +162,7 @@ fn assume_broken(
     requires held { All (λ k. k < length checked.now.conjectures) held.now }
     ensures { OnOk result (Grows held.now assumed.old.held.items assumed.new.held.items) }
 {
-    if are_true(checked.model().axioms(), structure) {
+    if satisfies(structure, checked.model().axioms()) {
         if let Some(conjecture) = broken_before(checked, stage, held, structure) {
             assumed.held.push(conjecture)?;
             return Ok(());
@@ -227,21 +225,9 @@ fn are_held_before(
         Stage::Init => Ok(true),
         _ => {
             let chosen = sentences_of(alloc, checked.model().conjectures(), held)?;
-            Ok(are_true(&chosen, structure))
+            Ok(satisfies(structure, &chosen))
         }
     }
-}
-
-fn are_true(sentences: &[Sentence], structure: &Structure) -> bool
-    requires { CanJudge sentences.now structure.now }
-    ensures { result ≡ satisfies structure.now sentences.now }
-{
-    for sentence in sentences {
-        if !holds(structure, sentence.formula(), &Env::Empty) {
-            return false;
-        }
-    }
-    true
 }
 
 // A held conjecture that the structure breaks; before init none is needed. What is found guides the search, and is

@@ -8,7 +8,7 @@ ghost use Rattle.rml_bmc.specs.declared.answer.Length.TheVariants as answer;
 
 use crate::Seen;
 use base::Mem;
-use fol_eval::{Env, holds};
+use fol_eval::{Env, holds, satisfies};
 use fol_sig::Structure;
 use lean_decide::Counted;
 use lrat_log::Limits;
@@ -84,14 +84,7 @@ fn follow_parts(
 fn begins_lawfully(checked: &Checked, start: &Structure) -> bool
     requires { FitsStructure (symbols checked.now.signature) start.now }
 {
-    let mut rest = checked.model().axioms();
-    while let [sentence, after @ ..] = rest {
-        if !holds(start, sentence.formula(), &Env::Empty) {
-            return false;
-        }
-        rest = after;
-    }
-    true
+    satisfies(start, checked.model().axioms())
 }
 
 // Whether a run does what it is said to do.

@@ -7,8 +7,8 @@ use Rattle.fol_formula.specs.Sentences.{satisfies}
 use Rattle.rml_houdini.proofs.Sufficing.{held_at_init, held_behind, chosen_of}
 use Rattle.rml_houdini.proofs.keeping.are_held_before.Goals as goal
 
-pub are_true-requires : goal.are_true-requires
-are_true-requires c =
+pub satisfies-requires : goal.satisfies-requires
+satisfies-requires c =
     let m = c.args.checked.now in
     let is = c.deref.ensures.value ∙ c.in_ok-chosen-in_default.ensures
     ∙ chosen_of m _ c.args.held.now _ c.conjectures.ensures.value c.model.ensures.value in
@@ -16,7 +16,7 @@ are_true-requires c =
     record {
       sig = symbols m.signature;
       structure = c.requires.structure;
-      axioms_fit = subst (λ (ps : List FormTree). AllByRecursion (FitsForm (symbols m.signature) []) ps) (sym is)
+      sentences = subst (λ (ps : List FormTree). AllByRecursion (FitsForm (symbols m.signature) []) ps) (sym is)
           added.universal_fit;
     }
 
@@ -29,4 +29,4 @@ returns-in_ok-chosen-in_default c = λ yes.
     let is = c.deref.ensures.value ∙ c.in_ok-chosen-in_default.ensures
     ∙ chosen_of m _ c.args.held.now _ c.conjectures.ensures.value c.model.ensures.value in
     held_behind m c.args.stage c.args.held.now c.args.structure.now
-    (subst (λ (ps : List FormTree). satisfies c.args.structure.now ps ≡ true) is (sym c.are_true.ensures ∙ yes))
+    (subst (λ (ps : List FormTree). satisfies c.args.structure.now ps ≡ true) is (sym c.satisfies.ensures ∙ yes))
