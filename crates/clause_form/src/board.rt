@@ -4,7 +4,6 @@ ghost use Rattle.std.specs.Prelude.{◌≡◌, ◌<◌, ◌≤◌, ◌^◌, List
 ghost use Rattle.std.specs.Prelude.{None, Ok, OnOk, OnErr, IfOk};
 ghost use Rattle.ground_terms.specs.Calls.{a_literal, a_node};
 ghost use Rattle.clause_form.specs.Numbers.{variable_in};
-ghost use Rattle.cnf_base.specs.Literals.{literal_of};
 ghost use Rattle.clause_form.specs.Clauses.{unless_true, implies, implies_each, definition};
 ghost use Rattle.clause_form.specs.Machine.{settle, act};
 ghost use Rattle.clause_form.specs.Boards.{state_of, IsOpen};
@@ -175,7 +174,7 @@ impl Board {
     {
         match self.atoms.variable(&atom) {
             Some(variable) => {
-                self.lits.push(literal_of(variable, positive))?;
+                self.lits.push(Lit::new(variable, positive))?;
                 Ok(true)
             }
             None => {
@@ -198,7 +197,7 @@ impl Board {
     {
         let variable = self.variables + 1;
         let before = self.lits.len();
-        self.lits.push(literal_of(variable, positive))?;
+        self.lits.push(Lit::new(variable, positive))?;
         match self.atoms.add(atom, variable) {
             Ok(()) => {
                 self.variables = variable;
@@ -238,17 +237,5 @@ impl Board {
                 Err(e)
             }
         }
-    }
-}
-
-// The literal of a variable.
-fn literal_of(variable: u32, positive: bool) -> Lit
-    requires { (0 < variable) × (variable < 2 ^ 31) }
-    ensures { result ≡ literal_of positive variable }
-{
-    if positive {
-        Lit::positive(variable)
-    } else {
-        Lit::negative(variable)
     }
 }

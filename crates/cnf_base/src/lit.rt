@@ -50,6 +50,18 @@ impl Lit {
         }
     }
 
+    /// The literal that says that this variable is true, or the one that says that it is false.
+    pub fn new(variable: u32, positive: bool) -> Lit
+        requires { (0 < variable) × (variable < 2 ^ 31) }
+        ensures { result ≡ literal_of positive variable }
+    {
+        if positive {
+            Lit::positive(variable)
+        } else {
+            Lit::negative(variable)
+        }
+    }
+
     /// The number of its variable, from 1 on.
     pub fn variable(self) -> u32
         ensures variable { result ≡ variable_of self }

@@ -73,9 +73,5 @@ pub fn literal_of(number: Numeral) -> Lit
     requires small { number.value < 2 ^ 31 }
     ensures { result ≡ literal_of (not number.negative) number.value }
 {
-    if number.negative {
-        Lit::negative(number.value)
-    } else {
-        Lit::positive(number.value)
-    }
+    Lit::new(number.value, !number.negative)
 }

@@ -1,7 +1,7 @@
 // The names: the variables that stand in a formula, rising. The dense variable of a name is its place from 1 on.
 ghost use Rattle.std.specs.Prelude.{◌≡◌, ◌^◌, ◌<◌, ◌≤◌, length, IfSome};
 ghost use Rattle.std.specs.Bool.{OnTrue};
-ghost use Rattle.cnf_base.specs.Literals.{IsLiteral, literal_of};
+ghost use Rattle.cnf_base.specs.Literals.{IsLiteral};
 ghost use Rattle.renumbering.specs.Named.{named};
 ghost use Rattle.cnf_base.specs.Rising.{AreRising};
 
@@ -47,17 +47,6 @@ pub fn are_rising(names: &[u32], most: u32) -> bool
     true
 }
 
-fn with_sign(positive: bool, variable: u32) -> Lit
-    requires { (0 < variable) × (variable < 2 ^ 31) }
-    ensures { result ≡ literal_of positive variable }
-{
-    if positive {
-        Lit::positive(variable)
-    } else {
-        Lit::negative(variable)
-    }
-}
-
 /// The literal that has a literal's name, if there is one.
 pub fn dense_literal(names: &[u32], literal: Lit) -> Option<Lit>
     ensures name { IfSome result (λ d. named names.now d ≡ literal) }
@@ -70,7 +59,7 @@ pub fn dense_literal(names: &[u32], literal: Lit) -> Option<Lit>
     if place >= names.len() || place >= MOST || names[place] != literal.variable() {
         return None;
     }
-    Some(with_sign(literal.is_positive(), place as u32 + 1))
+    Some(Lit::new(place as u32 + 1, literal.is_positive()))
 }
 
 /// The literal under its name.
@@ -79,8 +68,8 @@ pub fn name_of(names: &[u32], literal: Lit) -> Lit
     requires rising { AreRising 2147483647 0 names.now }
     ensures { result ≡ named names.now literal }
 {
-    with_sign(
-        literal.is_positive(),
+    Lit::new(
         names[literal.variable() as usize - 1],
+        literal.is_positive(),
     )
 }

@@ -2,8 +2,8 @@ use Rattle.std.proofs.Common.{◌-◌, arith}
 use Rattle.renumbering.proofs.Numbers.{rising_at}
 use Rattle.renumbering.proofs.names.name_of.Goals as goal
 
-pub with_sign-requires : goal.with_sign-requires
-with_sign-requires c =
+pub new-requires : goal.new-requires
+new-requires c =
     let v = c.variable.ensures.variable in
     let a = c.requires.literal.0 in
     let b = c.requires.literal.1 in
