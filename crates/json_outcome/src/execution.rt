@@ -16,9 +16,8 @@ use base::Mem;
 use fol_sig::{FunId, RelId, Structure, Tuple};
 use json_values::{Json, JsonList, ObjectBuilder, numbers};
 use rml_command::{Checked, Havoc, Model, Names, Path, Primitive};
-use rml_exec::{Counterexample, Followed, follow};
+use rml_exec::{Counterexample, Followed, follow, havocs_after};
 use std::alloc::Global;
-use told_states::behind;
 
 // A variable, and the element that it takes.
 #[tactic(auto, unfolding(crate::specs::ExecutionData::element_data))]
@@ -104,7 +103,7 @@ pub fn havocs_value(
     let mut left = havocs;
     for primitive in path.primitives() {
         push_havoc(alloc, &mut list, model, structure, primitive, left);
-        left = behind(primitive, left);
+        left = havocs_after(primitive, left);
     }
     list.into_json()
 }

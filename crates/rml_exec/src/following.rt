@@ -44,13 +44,13 @@ pub fn follow(
             Followed::Aborted => return Ok(Followed::Aborted),
             Followed::Blocked => return Ok(Followed::Blocked),
         }
-        havocs = behind(primitive, havocs);
+        havocs = havocs_after(primitive, havocs);
     }
     Ok(Followed::Ended(now))
 }
 
-// The entries that a step leaves.
-fn behind<'a>(primitive: &Primitive, havocs: &'a [Havoc]) -> &'a [Havoc]
+/// The entries of a trace that a step of a path leaves.
+pub fn havocs_after<'a>(primitive: &Primitive, havocs: &'a [Havoc]) -> &'a [Havoc]
     ensures { result.now ≡ havocs_after (primitive_view primitive.now) havocs.now }
 {
     match primitive {

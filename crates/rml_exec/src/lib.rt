@@ -5,5 +5,5 @@ mod following;
 mod tables;
 mod trace;
 
-pub use following::follow;
+pub use following::{follow, havocs_after};
 pub use trace::{Counterexample, Followed, Trace};

@@ -6,7 +6,7 @@ ghost use Rattle.fol_sig.specs.Symbols.{FitsStructure, symbols};
 ghost use Rattle.fol_sig.specs.TupleSets.{has_tuple};
 ghost use Rattle.rml_command.specs.View.{primitive as primitive_view};
 ghost use Rattle.rml_command.specs.Models.{FitsPath};
-ghost use Rattle.rml_exec.specs.Steps.{CanUpdate, havocs_after};
+ghost use Rattle.rml_exec.specs.Steps.{CanUpdate};
 ghost use Rattle.rml_report.specs.TableText.{each_tuple, bare_text, member_text, set_text};
 ghost use Rattle.rml_report.specs.HavocText.{element_text, relation_text, havoc_text, havocs_text, havoc_line};
 
@@ -15,6 +15,7 @@ use crate::words::push_truth;
 use base::{Mem, push_number, push_text};
 use fol_sig::{RelId, Sort, Structure, Tuple};
 use rml_command::{Checked, Havoc, Path, Primitive};
+use rml_exec::havocs_after;
 use std::alloc::Global;
 
 // Whether the tuple is one of these.
@@ -148,17 +149,6 @@ fn push_havoc(
     }
 }
 
-// The entries that a step leaves.
-fn behind<'a>(primitive: &Primitive, havocs: &'a [Havoc]) -> &'a [Havoc]
-    ensures { result.now ≡ havocs_after (primitive_view primitive.now) havocs.now }
-{
-    match primitive {
-        Primitive::Havoc(_) if !havocs.is_empty() => &havocs[1..],
-        Primitive::HavocRel(_) if !havocs.is_empty() => &havocs[1..],
-        _ => havocs,
-    }
-}
-
 #[tactic(auto, using(std::proofs::Common::append_assoc))]
 fn push_havocs(
     alloc: Global,
@@ -175,7 +165,7 @@ fn push_havocs(
     let mut left = havocs;
     for primitive in path.primitives() {
         push_havoc(alloc, out, structure, primitive, left)?;
-        left = behind(primitive, left);
+        left = havocs_after(primitive, left);
     }
     Ok(())
 }

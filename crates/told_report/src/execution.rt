@@ -16,11 +16,11 @@ ghost use Rattle.told_report.specs.ExecutionText.{false_text, after_text, execut
 use crate::in_text::InText;
 use fol_sig::Structure;
 use rml_command::{About, Checked, Havoc, Model, Names, Path, Primitive, Stage};
-use rml_exec::{Counterexample, Followed, follow};
+use rml_exec::{Counterexample, Followed, follow, havocs_after};
 use std::alloc::Global;
 use told_states::{
-    Labels, behind, end_law, path_at, push_before, push_changes, push_label, push_labelled,
-    push_line, push_table, push_values,
+    Labels, end_law, path_at, push_before, push_changes, push_label, push_labelled, push_line,
+    push_table, push_values,
 };
 use told_text::Text;
 
@@ -92,7 +92,7 @@ fn push_havocs(
     let mut left = havocs;
     for primitive in path.primitives() {
         push_havoc(alloc, out, model, &labels, structure, primitive, left);
-        left = behind(primitive, left);
+        left = havocs_after(primitive, left);
     }
 }
 

@@ -23,6 +23,6 @@ pub use label::Label;
 pub use labels::Labels;
 pub use laws::end_law;
 pub use names::{push_head, push_labelled, push_name, push_stage};
-pub use steps::{behind, path_at};
+pub use steps::path_at;
 pub use symbols::{all_symbols, is_variable, push_symbol, sizes};
 pub use tables::{has_tuple, push_table};

@@ -22,10 +22,10 @@ loop-primitive-preserved c =
           c.loop-primitive.invariant.fits).1;
       list =
           listed_turn (havocs_data names s c.loop-primitive.primitive-iterator left) (havoc_data names s q left)
-          (havocs_data names s rest c.behind-left.result.now) (havocs_data names s c.args.path.now c.args.havocs.now)
+          (havocs_data names s rest c.havocs_after-left.result.now) (havocs_data names s c.args.path.now c.args.havocs.now)
           list after
           (ap (λ qs. havocs_data names s qs left) c.in-Some.ensures.steps
-          ∙ ap (λ hs. havoc_data names s q left ++ havocs_data names s rest hs) (sym c.behind-left.ensures))
+          ∙ ap (λ hs. havoc_data names s q left ++ havocs_data names s rest hs) (sym c.havocs_after-left.ensures))
           (subst (λ (m : ModelTree). IsListedBy list (havoc_data m.names s q left) after) c.model-model.ensures.value
           c.push_havoc.ensures) c.loop-primitive.invariant.list;
     }

@@ -11,8 +11,8 @@ loop-primitive-preserved c =
     let step = rw c.in-Ended.is at c.in_ok-next.ensures in
     let r = advanced c.args.checked.now.axioms c.axioms-axioms.result.now (symbols c.args.checked.now.signature)
     (primitive c.in-Some.primitive.now) c.loop-primitive.primitive-iterator c.next.new.self
-    c.loop-primitive.havocs.now c.behind-havocs.result.now c.loop-primitive.now c.in-Ended.next _
+    c.loop-primitive.havocs.now c.havocs_after-havocs.result.now c.loop-primitive.now c.in-Ended.next _
     c.in-Some.ensures.steps (c.axioms-axioms.ensures.value
-    ∙ ap (λ (m : ModelTree). m.axioms) c.model-model.ensures.value) c.behind-havocs.ensures step h.fits
+    ∙ ap (λ (m : ModelTree). m.axioms) c.model-model.ensures.value) c.havocs_after-havocs.ensures step h.fits
     h.structure h.same in
     record { fits = r.fits; structure = r.structure; same = r.same }
