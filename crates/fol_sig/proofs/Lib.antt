@@ -3,6 +3,7 @@ pub mod Places
 pub mod Ranges
 pub mod TuplePlaces
 pub mod TupleTurns
+pub mod Walks
 pub mod Updates
 pub mod Sets
 pub mod Blank

@@ -17,6 +17,7 @@ mod symbol;
 mod table;
 mod tuple;
 mod tuples;
+mod walk;
 
 pub use growing::{with_constants, with_fresh_relations};
 pub use laws::{
@@ -32,6 +33,7 @@ pub use symbol::Symbol;
 pub use table::Table;
 pub use tuple::Tuple;
 pub use tuples::{count_tuples, is_in_range, number_of_tuple, table_len, tuple_of_number};
+pub use walk::{TuplesLeft, each_tuple};
 
 /// A sort, by its place in the signature.
 #[derive(Clone, Copy, PartialEq, Eq, Hash, Debug, Default)]
