@@ -1,14 +1,15 @@
 -- A confirmed report shows counterexamples.
 use Rattle.std.proofs.Common.{◌≡◌, ℕ, zero, suc, ◌+◌, ◌<◌, Bool, true, false, List, [], ◌∷◌, ◌++◌, Option, Some}
-use Rattle.std.proofs.Common.{None, length, map, refl, sym, ap, ◌∙◌, subst, cond, arith, ⊎_elim}
+use Rattle.std.proofs.Common.{None, length, map, refl, sym, ap, ◌∙◌, subst, cond, arith}
 use Rattle.std.specs.Prelude.{◌==◌, slice_get, reverse}
-use Rattle.std.specs.List.{AllByRecursion, flat_map}
-use Rattle.std.proofs.lemmas.Bool.{and_parts, and_from, not-true, eqb-true, cases_lt}
+use Rattle.std.specs.List.{AllByRecursion, flat_map, list_all}
+use Rattle.std.proofs.lemmas.Bool.{and_parts, and_from, not-true, eqb-true}
+use Rattle.std.proofs.lemmas.List.Sums.{AllPass-from_list_all}
 use Rattle.fol_sig.specs.Tables.{Tables, InRange, tuple_count, place_of, relation_at, function_at, rel_at, fun_at}
 use Rattle.fol_sig.specs.Tables.{reading}
-use Rattle.fol_sig.specs.Tuples.{tuple_at, TuplesAreNumbered}
+use Rattle.fol_sig.specs.Tuples.{tuples, TuplesAreNumbered}
 use Rattle.fol_formula.specs.Syntax.{FormTree}
-use Rattle.fol_formula.specs.Truth.{truth, all_below, same_truth}
+use Rattle.fol_formula.specs.Truth.{truth, same_truth}
 use Rattle.rml_command.specs.Trees.{PrimitiveTree, assume, set_rel, set_fun, havoc, havoc_rel, abort}
 use Rattle.base.specs.Lists.{count_from}
 use Rattle.fol_formula.specs.Sentences.{satisfies}
@@ -91,15 +92,6 @@ each_met D k (suc n) (suc i) e lt =
     subst (λ j. (D j).met ≡ true) (sym z)
     (each_met D (suc k) n i (tail_met (D k) (map D (count_from (suc k) n)) e) (omega arith))
 
-all_below-at : (n x : ℕ) (p : ℕ → Bool) → all_below n p ≡ true → x < n → p x ≡ true
-all_below-at zero x p h lt = absurd (omega arith)
-all_below-at (suc n) x p h lt =
-    let both : (all_below n p ≡ true) × (p n ≡ true) = and_parts (all_below n p) (p n) h in
-    ⊎_elim
-    (λ below. all_below-at n x p both.0 below)
-    (λ last. let e : n ≡ x = omega arith in subst (λ j. p j ≡ true) e both.1)
-    (cases_lt x n)
-
 truths_same : (a b : Bool) → same_truth a b ≡ true → a ≡ b
 truths_same true b e = sym e
 truths_same false b e = sym (not-true b e)
@@ -107,34 +99,29 @@ truths_same false b e = sym (not-true b e)
 from_zero : (n : ℕ) → 0 + n ≡ n
 from_zero n = omega arith
 
--- the same values at the numbers of tuples, and at the tuples
+-- the same values
 module _ (numbered : TuplesAreNumbered) (t s : Tables) where
+  -- what passes at all tuples passes at each
+  at_each : (sizes ks : List ℕ) (p : List ℕ → Bool) → list_all p (tuples sizes ks) ≡ true → (xs : List ℕ)
+      → InRange sizes ks xs → p xs ≡ true
+  at_each sizes ks p all xs range =
+      let are = numbered sizes ks in
+      let n : ℕ = place_of sizes ks xs in
+      let within : n < tuple_count sizes ks = are.place_within xs range in
+      subst (λ (ys : List ℕ). p ys ≡ true) (are.listed n within ∙ are.tuple_of_place xs range)
+      (AllPass-from_list_all p (tuples sizes ks) all n [] (subst (λ m. n < m) (sym are.count) within))
+
   relation_same : (r : ℕ) → same_relation t s r ≡ true → (xs : List ℕ) → InRange t.sizes (relation_at t r).sorts xs
       → rel_at t r xs ≡ rel_at s r xs
   relation_same r e xs range =
-      let ks : List ℕ = (relation_at t r).sorts in
-      let are = numbered t.sizes (relation_at t r).sorts in
-      let n : ℕ = place_of t.sizes (relation_at t r).sorts xs in
-      let at : same_truth (rel_at t r (tuple_at t.sizes (relation_at t r).sorts
-      (place_of t.sizes (relation_at t r).sorts xs)))
-      (rel_at s r (tuple_at t.sizes (relation_at t r).sorts (place_of t.sizes (relation_at t r).sorts xs))) ≡ true =
-      all_below-at (tuple_count t.sizes (relation_at t r).sorts) (place_of t.sizes (relation_at t r).sorts xs)
-      (λ n. same_truth (rel_at t r (tuple_at t.sizes (relation_at t r).sorts n))
-      (rel_at s r (tuple_at t.sizes (relation_at t r).sorts n))) e (are.place_within xs range) in
       truths_same (rel_at t r xs) (rel_at s r xs)
-      (subst (λ (ys : List ℕ). same_truth (rel_at t r ys) (rel_at s r ys) ≡ true) (are.tuple_of_place xs range) at)
+      (at_each t.sizes (relation_at t r).sorts (λ ys. same_truth (rel_at t r ys) (rel_at s r ys)) e xs range)
 
   function_same : (f : ℕ) → same_function t s f ≡ true → (xs : List ℕ) → InRange t.sizes (function_at t f).sorts xs
       → fun_at t f xs ≡ fun_at s f xs
   function_same f e xs range =
-      let are = numbered t.sizes (function_at t f).sorts in
-      let at : (fun_at t f (tuple_at t.sizes (function_at t f).sorts (place_of t.sizes (function_at t f).sorts xs))
-      == fun_at s f (tuple_at t.sizes (function_at t f).sorts (place_of t.sizes (function_at t f).sorts xs))) ≡ true =
-      all_below-at (tuple_count t.sizes (function_at t f).sorts) (place_of t.sizes (function_at t f).sorts xs)
-      (λ n. fun_at t f (tuple_at t.sizes (function_at t f).sorts n)
-      == fun_at s f (tuple_at t.sizes (function_at t f).sorts n)) e (are.place_within xs range) in
       eqb-true (fun_at t f xs) (fun_at s f xs)
-      (subst (λ (ys : List ℕ). (fun_at t f ys == fun_at s f ys) ≡ true) (are.tuple_of_place xs range) at)
+      (at_each t.sizes (function_at t f).sorts (λ ys. fun_at t f ys == fun_at s f ys) e xs range)
 
   tables_same : (m : ModelTree) (line : ℕ) → first_unmet (table_demands m t s line) ≡ None → HasSameTables m t s
   tables_same m line e =

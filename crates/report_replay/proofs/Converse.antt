@@ -2,12 +2,14 @@
 use Rattle.std.proofs.Common.{◌≡◌, ℕ, zero, suc, ◌+◌, ◌<◌, Bool, true, false, List, [], ◌∷◌, ◌++◌, Option, Some}
 use Rattle.std.proofs.Common.{None, length, map, refl, sym, ap, ◌∙◌, subst, cond, arith}
 use Rattle.std.specs.Prelude.{◌==◌, not, slice_get, reverse}
-use Rattle.std.specs.List.{AllByRecursion, flat_map}
+use Rattle.std.specs.List.{AllByRecursion, flat_map, list_all}
 use Rattle.std.proofs.lemmas.Bool.{and_parts, and_from, eq-eqb}
+use Rattle.std.proofs.lemmas.List.{get_or_default}
+use Rattle.std.proofs.lemmas.List.Sums.{list_all-from_AllPass}
 use Rattle.base.specs.Lists.{count_from}
 use Rattle.fol_sig.specs.Tables.{Tables, InRange, tuple_count, relation_at, function_at, rel_at, fun_at, reading}
-use Rattle.fol_sig.specs.Tuples.{tuple_at, TuplesAreNumbered}
-use Rattle.fol_formula.specs.Truth.{truth, all_below, same_truth}
+use Rattle.fol_sig.specs.Tuples.{tuples, tuple_at, TuplesAreNumbered}
+use Rattle.fol_formula.specs.Truth.{truth, same_truth}
 use Rattle.fol_formula.specs.Sentences.{satisfies}
 use Rattle.rml_command.specs.Outcomes.{Outcome, ended, aborted, follow_path}
 use Rattle.rml_command.specs.Models.{ModelTree}
@@ -38,11 +40,6 @@ use Rattle.report_replay.specs.declared.denial.DenialCode.TheVariants as denial
 use Rattle.report_replay.proofs.Unmet.{unmet_append}
 use Rattle.report_replay.proofs.Ready.{can_judge}
 
-all_below-from : (n : ℕ) (p : ℕ → Bool) → ((x : ℕ) → x < n → p x ≡ true) → all_below n p ≡ true
-all_below-from zero p h = refl
-all_below-from (suc n) p h =
-    and_from (all_below n p) (p n) (all_below-from n p (λ x lt. h x (omega (arith, lt)))) (h n (omega arith))
-
 same_as : (a b : Bool) → a ≡ b → same_truth a b ≡ true
 same_as true b e = sym e
 same_as false b e = ap not (sym e)
@@ -62,31 +59,31 @@ each_below D k (suc n) h =
     first_met (D k) (map D (count_from (suc k) n)) (h k (omega arith))
     (each_below D (suc k) n (λ i lt. h i (omega (arith, lt))))
 
--- the same tables at each tuple, and at each number of one
+-- the same tables
 module _ (numbered : TuplesAreNumbered) (t s : Tables) where
+  -- what passes at each tuple passes at all
+  at_all : (sizes ks : List ℕ) (p : List ℕ → Bool) → ((xs : List ℕ) → InRange sizes ks xs → p xs ≡ true)
+      → list_all p (tuples sizes ks) ≡ true
+  at_all sizes ks p each =
+      let are = numbered sizes ks in
+      list_all-from_AllPass p (tuples sizes ks) (λ n d lt.
+      let low : n < tuple_count sizes ks = subst (λ m. n < m) are.count lt in
+      subst (λ (ys : List ℕ). p ys ≡ true) (sym (get_or_default (tuples sizes ks) n d [] lt ∙ are.listed n low))
+      (each (tuple_at sizes ks n) (are.tuple_within n low)))
+
   relation_is_same : (r : ℕ)
       → ((xs : List ℕ) → InRange t.sizes (relation_at t r).sorts xs → rel_at t r xs ≡ rel_at s r xs)
       → same_relation t s r ≡ true
   relation_is_same r same =
-      let are = numbered t.sizes (relation_at t r).sorts in
-      all_below-from (tuple_count t.sizes (relation_at t r).sorts)
-      (λ n. same_truth (rel_at t r (tuple_at t.sizes (relation_at t r).sorts n))
-      (rel_at s r (tuple_at t.sizes (relation_at t r).sorts n)))
-      (λ n lt. same_as (rel_at t r (tuple_at t.sizes (relation_at t r).sorts n))
-      (rel_at s r (tuple_at t.sizes (relation_at t r).sorts n))
-      (same (tuple_at t.sizes (relation_at t r).sorts n) (are.tuple_within n lt)))
+      at_all t.sizes (relation_at t r).sorts (λ xs. same_truth (rel_at t r xs) (rel_at s r xs))
+      (λ xs range. same_as (rel_at t r xs) (rel_at s r xs) (same xs range))
 
   function_is_same : (f : ℕ)
       → ((xs : List ℕ) → InRange t.sizes (function_at t f).sorts xs → fun_at t f xs ≡ fun_at s f xs)
       → same_function t s f ≡ true
   function_is_same f same =
-      let are = numbered t.sizes (function_at t f).sorts in
-      all_below-from (tuple_count t.sizes (function_at t f).sorts)
-      (λ n. fun_at t f (tuple_at t.sizes (function_at t f).sorts n)
-      == fun_at s f (tuple_at t.sizes (function_at t f).sorts n))
-      (λ n lt. eq-eqb (fun_at t f (tuple_at t.sizes (function_at t f).sorts n))
-      (fun_at s f (tuple_at t.sizes (function_at t f).sorts n))
-      (same (tuple_at t.sizes (function_at t f).sorts n) (are.tuple_within n lt)))
+      at_all t.sizes (function_at t f).sorts (λ xs. fun_at t f xs == fun_at s f xs)
+      (λ xs range. eq-eqb (fun_at t f xs) (fun_at s f xs) (same xs range))
 
   tables_are_met : (m : ModelTree) (line : ℕ) → HasSameTables m t s → first_unmet (table_demands m t s line) ≡ None
   tables_are_met m line same =

@@ -1,27 +1,12 @@
--- The first demand that is not met, and tests of each number below another.
-use Rattle.std.proofs.Common.{◌≡◌, ℕ, zero, suc, ◌+◌, ◌-◌, ◌<◌, ◌≤◌, Bool, true, false, ◌&&◌, List, [], ◌∷◌, ◌++◌, Some}
-use Rattle.std.proofs.Common.{None, Option, map, refl, sym, ap, ◌∙◌, ⊎_elim, cond, arith}
-use Rattle.std.proofs.lemmas.Bool.{cases_lt}
+-- The first demand that is not met.
+use Rattle.std.proofs.Common.{◌≡◌, ℕ, zero, suc, ◌+◌, ◌-◌, ◌<◌, ◌≤◌, Bool, true, false, List, [], ◌∷◌, ◌++◌, Some}
+use Rattle.std.proofs.Common.{None, Option, map, refl, sym, ap, ◌∙◌, cond, arith}
 use Rattle.std.specs.Prelude.{not}
-use Rattle.fol_formula.specs.Truth.{all_below}
 use Rattle.base.specs.Lists.{count_from}
 use Rattle.report_replay.specs.Demands.{Demand}
 use Rattle.report_replay.specs.Judgements.{first_unmet}
 use Rattle.report_replay.specs.Judging.{or_else}
 use Rattle.report_replay.specs.declared.judged.Fault.{Fault}
-
-and_false : (b : Bool) → b && false ≡ false
-and_false true = refl
-and_false false = refl
-
-pub all_below-false : (n x : ℕ) (p : ℕ → Bool) → x < n → p x ≡ false → all_below n p ≡ false
-all_below-false zero x p lt h = absurd (omega arith)
-all_below-false (suc n) x p lt h =
-    ⊎_elim
-    (λ below. ap (λ b. b && p n) (all_below-false n x p below h))
-    (λ last. let e : n ≡ x = omega arith in
-    ap (λ m. all_below n p && p m) e ∙ ap (λ b. all_below n p && b) h ∙ and_false (all_below n p))
-    (cases_lt x n)
 
 pub unmet_append : (xs ys : List Demand) → first_unmet (xs ++ ys) ≡ or_else (first_unmet xs) (first_unmet ys)
 unmet_append [] ys = refl
@@ -84,6 +69,3 @@ negated false e = refl
 pub affirmed : (b : Bool) → not b ≡ false → b ≡ true
 affirmed true e = refl
 affirmed false e = cc e
-
-pub differs : (count x : ℕ) (p : ℕ → Bool) → x < count → p x ≡ false → false ≡ all_below count p
-differs count x p lt h = sym (all_below-false count x p lt h)

@@ -1,10 +1,11 @@
 -- What is asked of the lines of a printed report, in their order.
 use Rattle.std.specs.Prelude.{ℕ, ◌+◌, Bool, true, false, not, ◌==◌, List, [], ◌∷◌, ◌++◌, length, map}
 use Rattle.std.specs.Prelude.{reverse, Option, Some, None, slice_get}
-use Rattle.fol_sig.specs.Tables.{Tables, tuple_count, relation_at, function_at, rel_at, fun_at, reading}
-use Rattle.fol_sig.specs.Tuples.{tuple_at}
+use Rattle.std.specs.List.{list_all}
+use Rattle.fol_sig.specs.Tables.{Tables, relation_at, function_at, rel_at, fun_at, reading}
+use Rattle.fol_sig.specs.Tuples.{tuples}
 use Rattle.fol_formula.specs.Syntax.{FormTree}
-use Rattle.fol_formula.specs.Truth.{truth, all_below, same_truth}
+use Rattle.fol_formula.specs.Truth.{truth, same_truth}
 use Rattle.base.specs.Lists.{count_from}
 use Rattle.fol_formula.specs.Sentences.{satisfies}
 use Rattle.rml_command.specs.Outcomes.{Outcome, ended, aborted}
@@ -57,15 +58,12 @@ goes_through (Some o) = true
 
 -- two structures of the same sizes have the same values
 abbrev pub same_relation : Tables → Tables → ℕ → Bool
-same_relation s t r = all_below (tuple_count s.sizes (relation_at s r).sorts) (λ n.
-    same_truth (rel_at s r (tuple_at s.sizes (relation_at s r).sorts n))
-    (rel_at t r (tuple_at s.sizes (relation_at s r).sorts n)))
+same_relation s t r =
+    list_all (λ xs. same_truth (rel_at s r xs) (rel_at t r xs)) (tuples s.sizes (relation_at s r).sorts)
 
 -- the same of the function f
 abbrev pub same_function : Tables → Tables → ℕ → Bool
-same_function s t f = all_below (tuple_count s.sizes (function_at s f).sorts) (λ n.
-    fun_at s f (tuple_at s.sizes (function_at s f).sorts n)
-    == fun_at t f (tuple_at s.sizes (function_at s f).sorts n))
+same_function s t f = list_all (λ xs. fun_at s f xs == fun_at t f xs) (tuples s.sizes (function_at s f).sorts)
 
 -- each line of a table behind `after` is that of the path's end
 abbrev pub relation_demands : Tables → Tables → ℕ → ℕ → ℕ → List Demand
