@@ -1,11 +1,11 @@
 -- What is told of derived relations: the tuples of which they are true, and those of which they come to be true or
 -- false.
 use Rattle.std.specs.Prelude.{ℕ, Bool, true, false, if◌then◌else◌, List, [], ◌++◌, length, codes}
+use Rattle.std.specs.List.{flat_map}
 use Rattle.fol_sig.specs.Tables.{Tables}
-use Rattle.fol_sig.specs.Tuples.{join_below}
+use Rattle.fol_sig.specs.Tuples.{join_below, tuples}
 use Rattle.rml_command.specs.Models.{ModelTree}
 use Rattle.told_states.specs.Labels.{Labels, labels_of}
-use Rattle.told_states.specs.SymbolText.{at_tuples}
 use Rattle.told_states.specs.ElementText.{arguments_text, line_text}
 use Rattle.told_derived.specs.Definitions.{Derived, Definitions, definition_at, is_true_of}
 
@@ -23,7 +23,7 @@ fact_text l s r xs = if is_true_of s r xs then true_text l r xs else []
 
 -- in a line, which is missing where it is true of none
 abbrev pub facts_line : Labels → Tables → Derived → List ℕ
-facts_line l s r = line_text (codes "    ") (at_tuples s.sizes r.sorts (fact_text l s r))
+facts_line l s r = line_text (codes "    ") (flat_map (fact_text l s r) (tuples s.sizes r.sorts))
 
 -- of each a line
 abbrev pub facts_text : Definitions → ModelTree → Tables → List ℕ
@@ -46,7 +46,7 @@ change_text l s t r xs = flip_text l r xs (is_true_of s r xs) (is_true_of t r xs
 
 -- a line for each tuple at which it differs, in lexicographic order
 abbrev pub change_lines : Labels → Tables → Tables → Derived → List ℕ
-change_lines l s t r = at_tuples s.sizes r.sorts (change_text l s t r)
+change_lines l s t r = flat_map (change_text l s t r) (tuples s.sizes r.sorts)
 
 -- what differs between two structures of the same sizes; the elements have their names of the first
 abbrev pub changes_text : Definitions → ModelTree → Tables → Tables → List ℕ

@@ -6,7 +6,7 @@ ghost use Rattle.told_derived.specs.Definitions.{CanAsk};
 ghost use Rattle.told_derived.specs.DerivedText.{fact_text, facts_line, signed_text, change_text, change_lines};
 
 use crate::derived::Derived;
-use fol_sig::{Structure, table_len, tuple_of_number};
+use fol_sig::{Structure, each_tuple};
 use std::alloc::Global;
 use told_states::{Labels, push_arguments, push_line};
 use told_text::Text;
@@ -32,6 +32,7 @@ fn push_fact(
 }
 
 /// Adds the line of a derived relation.
+#[tactic(auto, using(std::proofs::Common::append_assoc))]
 pub fn push_facts_line(
     alloc: Global,
     out: &mut Text,
@@ -44,13 +45,12 @@ pub fn push_facts_line(
     requires sizes { sizes.now ≡ structure.now.sizes }
     ensures { Wrote out.old out.new (facts_line labels.now structure.now derived.now) }
 {
-    let Ok(count) = table_len(sizes, derived.sorts) else {
+    let Ok(tuples) = each_tuple(alloc, sizes, derived.sorts) else {
         out.want();
         return;
     };
     let mut pieces = Text::new(alloc);
-    for number in 0..count {
-        let tuple = tuple_of_number(alloc, sizes, derived.sorts, number);
+    for tuple in tuples {
         push_fact(&mut pieces, labels, structure, derived, tuple.as_slice());
     }
     out.needs(&pieces);
@@ -93,6 +93,7 @@ fn push_change(
 }
 
 /// Adds what differs of a derived relation between two structures of the same sizes.
+#[tactic(auto, using(std::proofs::Common::append_assoc))]
 pub fn push_change_lines(
     alloc: Global,
     out: &mut Text,
@@ -108,12 +109,11 @@ pub fn push_change_lines(
     requires alike { sizes.now ≡ after.now.sizes }
     ensures { Wrote out.old out.new (change_lines labels.now before.now after.now derived.now) }
 {
-    let Ok(count) = table_len(sizes, derived.sorts) else {
+    let Ok(tuples) = each_tuple(alloc, sizes, derived.sorts) else {
         out.want();
         return;
     };
-    for number in 0..count {
-        let tuple = tuple_of_number(alloc, sizes, derived.sorts, number);
+    for tuple in tuples {
         push_change(out, labels, before, after, derived, tuple.as_slice());
     }
 }

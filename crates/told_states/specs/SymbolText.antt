@@ -3,9 +3,9 @@ use Rattle.std.specs.Prelude.{ℕ, Bool, true, false, List, [], ◌∷◌, ◌++
 use Rattle.std.specs.List.{flat_map}
 use Rattle.fol_sig.specs.declared.symbol.Symbol.{Symbol}
 use Rattle.fol_sig.specs.declared.symbol.Symbol.TheVariants as symbol
-use Rattle.fol_sig.specs.Tables.{Tables, tuple_count}
+use Rattle.fol_sig.specs.Tables.{Tables}
 use Rattle.fol_sig.specs.SymbolTables.{arguments_of}
-use Rattle.fol_sig.specs.Tuples.{join_below, tuple_at}
+use Rattle.fol_sig.specs.Tuples.{join_below, tuples}
 use Rattle.rml_command.specs.declared.names.Names.{Names}
 use Rattle.rml_report.specs.Words.{name_at}
 
@@ -18,10 +18,6 @@ abbrev pub is_variable : Symbol → List ℕ → Bool
 is_variable (symbol.Relation r) ks = false
 is_variable (symbol.Function f) [] = true
 is_variable (symbol.Function f) (k ∷ ks) = false
-
--- a text for each tuple of elements of these sorts, in lexicographic order
-abbrev pub at_tuples : List ℕ → List ℕ → (List ℕ → List ℕ) → List ℕ
-at_tuples sizes ks text = join_below (tuple_count sizes ks) (λ n. text (tuple_at sizes ks n))
 
 abbrev pub relation_symbol : ℕ → Symbol
 relation_symbol r = symbol.Relation (record { 0 = r })
@@ -38,7 +34,7 @@ symbols_of s =
 
 -- a text for each cell of a symbol, and for each cell of each symbol
 abbrev pub cells_text : Tables → (Symbol → List ℕ → List ℕ) → Symbol → List ℕ
-cells_text s text q = at_tuples s.sizes (arguments_of s q) (text q)
+cells_text s text q = flat_map (text q) (tuples s.sizes (arguments_of s q))
 
 -- the relations first
 abbrev pub all_cells : Tables → (Symbol → List ℕ → List ℕ) → List ℕ

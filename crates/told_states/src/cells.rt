@@ -10,7 +10,7 @@ ghost use Rattle.told_states.specs.SymbolText.{cells_text, all_cells};
 ghost use Rattle.fol_sig.specs.declared.symbol.Symbol.{Symbol};
 
 use crate::symbols::{all_symbols, sizes};
-use fol_sig::{Structure, Symbol, table_len, tuple_of_number};
+use fol_sig::{Structure, Symbol, each_tuple};
 use rml_command::Model;
 use std::alloc::Global;
 use told_text::Text;
@@ -34,6 +34,7 @@ pub trait OfCells {
 }
 
 /// Adds what is told of each cell of a symbol.
+#[tactic(auto, using(std::proofs::Common::append_assoc))]
 pub fn push_cells<T: OfCells>(
     alloc: Global,
     out: &mut Text,
@@ -49,12 +50,11 @@ pub fn push_cells<T: OfCells>(
     ensures { Wrote out.old out.new (cells_text here.now (T.text told.now here.now there.now) symbol) }
 {
     let sorts = here.arguments(symbol);
-    let Ok(count) = table_len(sizes, sorts) else {
+    let Ok(tuples) = each_tuple(alloc, sizes, sorts) else {
         out.want();
         return;
     };
-    for number in 0..count {
-        let tuple = tuple_of_number(alloc, sizes, sorts, number);
+    for tuple in tuples {
         told.push(alloc, out, here, there, symbol, tuple.as_slice());
     }
 }
