@@ -1,19 +1,11 @@
 -- A list that is built step by step.
-use Rattle.std.proofs.Common.{◌≡◌, ℕ, ◌+◌, ◌-◌, ◌≤◌, List, [], ◌∷◌, ◌++◌, length, get_or, take, drop, Option, Some, None}
-use Rattle.std.proofs.Common.{Result, Ok, Err, IfOk, IfSome, IsSomeAnd, IsOkAnd, refl, sym, ap, ◌∙◌, subst, append_assoc}
-use Rattle.std.proofs.Common.{add-one, arith}
+use Rattle.std.proofs.Common.{◌≡◌, ◌-◌, ◌≤◌, List, [], ◌∷◌, ◌++◌, length, get_or, take, drop, Option, Some, None}
+use Rattle.std.proofs.Common.{Result, Ok, Err, IfOk, IfSome, IsSomeAnd, IsOkAnd, sym, ap, ◌∙◌, subst, append_assoc}
+use Rattle.std.proofs.Common.{arith}
 use Rattle.std.proofs.lemmas.List.{take_all}
 use Rattle.std.specs.List.{AllByRecursion}
 use Rattle.serde_json.specs.Data.{Data}
-use Rattle.fol_sig.specs.Tuples.{join_below}
 use Rattle.json_values.specs.Values.{IsListedBy}
-
--- one more of the lists of the numbers below n
-pub one_listed : (n : ℕ) (f : ℕ → List Data) (a b : Option (List Data)) → IfSome a (λ ds. ds ≡ join_below n f)
-    → IsListedBy a (f n) b → IfSome b (λ ds. ds ≡ join_below (n + 1) f)
-one_listed n f a None p q = tt
-one_listed n f None (Some z) p q = absurd q
-one_listed n f (Some y) (Some z) p q = rw (q, p, add-one) refl
 
 behind_first : {A : Type 0} (x : A) (xs : List A) → take (length (x ∷ xs) - 1) (drop 1 (x ∷ xs)) ≡ xs
 behind_first x xs = take_all (length (x ∷ xs) - 1) xs (omega arith)

@@ -1,7 +1,8 @@
 -- A structure as data. Elements are numbers from 0.
 use Rattle.std.specs.Prelude.{ℕ, if◌then◌else◌, List, [], ◌∷◌, length, codes}
-use Rattle.fol_sig.specs.Tables.{Tables, tuple_count, size_at, rel_at, fun_at}
-use Rattle.fol_sig.specs.Tuples.{join_below, tuple_at}
+use Rattle.fol_sig.specs.Tables.{Tables, size_at, rel_at, fun_at}
+use Rattle.fol_sig.specs.Tuples.{join_below, tuples}
+use Rattle.std.specs.List.{flat_map}
 use Rattle.fol_sig.specs.TupleSets.{has_tuple}
 use Rattle.serde_json.specs.Data.{Data}
 use Rattle.rml_command.specs.declared.names.Names.{Names}
@@ -26,8 +27,7 @@ cell_data s (symbol.Function f) xs = value_data xs (fun_at s f.0 xs) ∷ []
 -- the tuples of which a relation is true, or the values of a function at each tuple, in lexicographic order
 abbrev pub cells_data : Tables → Symbol → List Data
 cells_data s q =
-    join_below (tuple_count s.sizes (arguments_of s q))
-    (λ n. cell_data s q (tuple_at s.sizes (arguments_of s q) n))
+    flat_map (cell_data s q) (tuples s.sizes (arguments_of s q))
 
 -- a tuple, where it is one of the given ones
 abbrev pub member_data : List (List ℕ) → List ℕ → List Data
@@ -36,7 +36,7 @@ member_data xss xs = if has_tuple xss xs then numbers_data xs ∷ [] else []
 -- those of a relation's sorts, in lexicographic order
 abbrev pub members_data : Tables → Symbol → List (List ℕ) → List Data
 members_data s q xss =
-    join_below (tuple_count s.sizes (arguments_of s q)) (λ n. member_data xss (tuple_at s.sizes (arguments_of s q) n))
+    flat_map (member_data xss) (tuples s.sizes (arguments_of s q))
 
 -- a symbol's name, and its cells under this word
 unfoldable pub symbol_data : Data → List ℕ → Data → Data

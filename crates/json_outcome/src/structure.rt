@@ -12,7 +12,7 @@ ghost use Rattle.json_outcome.specs.StructureData.{member_data, members_data};
 
 use crate::group::name_value;
 use base::Mem;
-use fol_sig::{FunId, RelId, Sort, Structure, Symbol, Tuple, table_len, tuple_of_number};
+use fol_sig::{FunId, RelId, Sort, Structure, Symbol, Tuple, each_tuple};
 use json_values::{Json, JsonList, ObjectBuilder, numbers};
 use rml_command::{Model, Name, Names};
 use std::alloc::Global;
@@ -68,10 +68,9 @@ fn cells(alloc: Global, structure: &Structure, sizes: &[u32], symbol: Symbol) ->
     ensures { IfOk result (λ j. j ≡ list_data (cells_data structure.now symbol)) }
 {
     let sorts = structure.arguments(symbol);
-    let count = table_len(sizes, sorts)?;
+    let tuples = each_tuple(alloc, sizes, sorts)?;
     let mut list = JsonList::new(alloc);
-    for number in 0..count {
-        let tuple = tuple_of_number(alloc, sizes, sorts, number);
+    for tuple in tuples {
         push_cell(alloc, &mut list, structure, symbol, tuple.as_slice());
         drop(tuple);
     }
@@ -101,10 +100,9 @@ pub fn members_value(
 {
     let sizes = sizes(alloc, model, structure)?;
     let sorts = structure.relation_sorts(rel);
-    let count = table_len(&sizes, sorts)?;
+    let tuples = each_tuple(alloc, &sizes, sorts)?;
     let mut list = JsonList::new(alloc);
-    for number in 0..count {
-        let tuple = tuple_of_number(alloc, &sizes, sorts, number);
+    for tuple in tuples {
         push_member(alloc, &mut list, given, tuple.as_slice());
         drop(tuple);
     }
