@@ -4,6 +4,7 @@ use Rattle.std.proofs.Common.{None, length, map, refl, sym, ap, ◌∙◌, subst
 use Rattle.std.specs.Prelude.{◌==◌, slice_get, reverse}
 use Rattle.std.specs.List.{AllByRecursion, flat_map}
 use Rattle.std.proofs.lemmas.Bool.{and_parts, and_from, not-true, eqb-true, cases_lt}
+use Rattle.std.specs.Option.{option_or}
 use Rattle.fol_sig.specs.Tables.{Tables, InRange, tuple_count, place_of, relation_at, function_at, rel_at, fun_at}
 use Rattle.fol_sig.specs.Tables.{reading}
 use Rattle.fol_sig.specs.Tuples.{tuple_at, TuplesAreNumbered}
@@ -40,7 +41,7 @@ use Rattle.report_replay.specs.Demands.{execution_demands, answer_demands, group
 use Rattle.report_replay.specs.Demands.{end_line, table_count}
 use Rattle.report_replay.specs.Judgements.{first_unmet, demands, judged_by, verdict_demand, same_verdict}
 use Rattle.report_replay.specs.Judgements.{verdict_of, executions}
-use Rattle.report_replay.specs.Judging.{CanFollow, CanReplay, or_else}
+use Rattle.report_replay.specs.Judging.{CanFollow, CanReplay}
 use Rattle.report_replay.specs.Laws.{HasSameTables, EndsAs, IsShown, Shows, ConfirmedIsRight}
 use Rattle.report_replay.specs.declared.judged.Fault.{Fault}
 use Rattle.report_replay.specs.declared.judged.Judged.TheVariants.{Confirmed}
@@ -50,11 +51,11 @@ use Rattle.report_replay.proofs.Sizes.{keeps_sizes}
 use Rattle.report_replay.proofs.Ready.{can_judge, has_after}
 
 -- no demand of two lists is unmet
-none_first : (o p : Option Fault) → or_else o p ≡ None → o ≡ None
+none_first : (o p : Option Fault) → option_or o p ≡ None → o ≡ None
 none_first None p e = refl
 none_first (Some f) p e = absurd (cc e)
 
-none_second : (o p : Option Fault) → or_else o p ≡ None → p ≡ None
+none_second : (o p : Option Fault) → option_or o p ≡ None → p ≡ None
 none_second None p e = e
 none_second (Some f) p e = absurd (cc e)
 

@@ -4,6 +4,7 @@ use Rattle.std.proofs.Common.{None, length, map, refl, sym, ap, ◌∙◌, subst
 use Rattle.std.specs.Prelude.{◌==◌, not, slice_get, reverse}
 use Rattle.std.specs.List.{AllByRecursion, flat_map}
 use Rattle.std.proofs.lemmas.Bool.{and_parts, and_from, eq-eqb}
+use Rattle.std.specs.Option.{option_or}
 use Rattle.base.specs.Lists.{count_from}
 use Rattle.fol_sig.specs.Tables.{Tables, InRange, tuple_count, relation_at, function_at, rel_at, fun_at, reading}
 use Rattle.fol_sig.specs.Tuples.{tuple_at, TuplesAreNumbered}
@@ -30,7 +31,7 @@ use Rattle.report_replay.specs.Demands.{end_demands, outcome_demands, execution_
 use Rattle.report_replay.specs.Demands.{before_line, havoc_line, end_line}
 use Rattle.report_replay.specs.Judgements.{first_unmet, demands, judged_by, verdict_demand, same_verdict}
 use Rattle.report_replay.specs.Judgements.{verdict_of}
-use Rattle.report_replay.specs.Judging.{CanFollow, CanReplay, or_else}
+use Rattle.report_replay.specs.Judging.{CanFollow, CanReplay}
 use Rattle.report_replay.specs.Laws.{HasSameTables, EndsAs, IsShown, Shows, RightIsConfirmed}
 use Rattle.report_replay.specs.declared.judged.Judged.TheVariants.{Confirmed}
 use Rattle.report_replay.specs.declared.denial.DenialCode.TheVariants as denial
@@ -48,7 +49,7 @@ same_as false b e = ap not (sym e)
 
 -- lists of demands that are met
 both_met : (xs ys : List Demand) → first_unmet xs ≡ None → first_unmet ys ≡ None → first_unmet (xs ++ ys) ≡ None
-both_met xs ys e f = unmet_append xs ys ∙ ap (λ o. or_else o (first_unmet ys)) e ∙ f
+both_met xs ys e f = unmet_append xs ys ∙ ap (λ o. option_or o (first_unmet ys)) e ∙ f
 
 first_met : (d : Demand) (ds : List Demand) → d.met ≡ true → first_unmet ds ≡ None → first_unmet (d ∷ ds) ≡ None
 first_met d ds e f =

@@ -1,6 +1,7 @@
 // Whether a sentence, a definition or an update is too large with all uses of derived relations written out, and where
 // the first use stands then. Nothing is built.
 ghost use Rattle.std.specs.Prelude.{◌≡◌, ◌≤◌, ◌-◌, ◌+◌, [], length, option_map, Some};
+ghost use Rattle.std.specs.Option.{option_or};
 ghost use Rattle.fol_sig.specs.Tables.{numbers};
 ghost use Rattle.rml_terms.specs.Tree.{expr_tree, expr_trees, exprs_of};
 ghost use Rattle.rml_terms.specs.Shape.{ExprNests, ExprsNest};
@@ -14,7 +15,7 @@ ghost use Rattle.rml_names.specs.Drafts.{words_in};
 ghost use Rattle.rml_names.specs.Sound.{IsSorted};
 ghost use Rattle.rml_elaborate.specs.Formulas.{term_of, terms_of};
 ghost use Rattle.rml_elaborate.specs.Updates.{assignment, right_of_insertion, right_of_removal, right_of_placement};
-ghost use Rattle.rml_elaborate.specs.Sizes.{is_large, is_large_term, is_large_update, where_large, first_of};
+ghost use Rattle.rml_elaborate.specs.Sizes.{is_large, is_large_term, is_large_update, where_large};
 ghost use Rattle.rml_elaborate.specs.Sizes.{first_use_of};
 ghost use Rattle.rml_elaborate.specs.Sizes.{first_use_in_each, first_use_in_side};
 ghost use Rattle.rml_elaborate.specs.Sizes.{large_use_in_formula as large_use_of_formula};
@@ -28,7 +29,7 @@ ghost use Rattle.rml_elaborate.specs.Sizes.{large_use_in_definition as large_use
 use crate::formulas::sort_number;
 use crate::sizes::{formula_extent, term_extent, where_large};
 use crate::update_sizes::{insertion_extent, placement_extent, removal_extent};
-use crate::uses::{first_of, first_use, first_use_in_each_outside, first_use_outside};
+use crate::uses::{first_use, first_use_in_each_outside, first_use_outside};
 use fol_sig::Sort;
 use rml_names::{Meaning, ModelDraft, Scope, bytes};
 use rml_terms::{Binder, Expr, Name};
@@ -184,12 +185,12 @@ fn placement_use(
         (is_large_term (right_of_placement symbol
         (terms_of text.now (words_in draft.now.declared) draft.now.bodies.items [] (exprs_of (expr_trees args.now)))
         (term_of text.now (words_in draft.now.declared) draft.now.bodies.items [] (expr_tree value.now))))
-        (first_of (first_use_in_each text.now (words_in draft.now.declared) [] (exprs_of (expr_trees args.now)))
+        (option_or (first_use_in_each text.now (words_in draft.now.declared) [] (exprs_of (expr_trees args.now)))
         (first_use_of text.now (words_in draft.now.declared) [] (expr_tree value.now))) }
 {
     fol_subst::extent_laws();
     let inside = first_use_in_each_outside(text, &draft.declared, args);
-    let place = first_of(inside, first_use_outside(text, &draft.declared, value));
+    let place = inside.or(first_use_outside(text, &draft.declared, value));
     where_large(placement_extent(text, draft, symbol, args, value), place)
 }
 

@@ -3,7 +3,7 @@ ghost use Rattle.std.specs.Prelude.{◌≡◌, ◌-◌, ◌≤◌, [], length};
 ghost use Rattle.rml_terms.specs.Tree.{expr_tree, expr_trees, exprs_of, Quantified, Apply};
 ghost use Rattle.rml_terms.specs.Shape.{ExprNests, ExprsNest};
 ghost use Rattle.rml_terms.specs.Within.{ExprWithin, ExprsWithin};
-ghost use Rattle.rml_elaborate.specs.Sizes.{first_of, first_use_of, first_use_in_each};
+ghost use Rattle.rml_elaborate.specs.Sizes.{first_use_of, first_use_in_each};
 ghost use Rattle.rml_names.specs.Scopes.{bound_names};
 ghost use Rattle.rml_names.specs.Drafts.{words_in};
 ghost use Rattle.rml_names.specs.Sound.{IsSorted};
@@ -25,17 +25,11 @@ pub fn first_use(text: &[u8], known: &Declarations, scope: &Scope, e: &Expr) -> 
         Expr::True(_) | Expr::False(_) => None,
         Expr::Apply(name, args) => use_or_inside(text, known, scope, *name, args),
         Expr::Ite(_, c, a, b) => {
-            let terms = first_of(
-                first_use(text, known, scope, a),
-                first_use(text, known, scope, b),
-            );
-            first_of(first_use(text, known, scope, c), terms)
+            let terms = first_use(text, known, scope, a).or(first_use(text, known, scope, b));
+            first_use(text, known, scope, c).or(terms)
         }
         Expr::Equal(_, a, b) | Expr::Implies(_, a, b) | Expr::Iff(_, a, b) => {
-            first_of(
-                first_use(text, known, scope, a),
-                first_use(text, known, scope, b),
-            )
+            first_use(text, known, scope, a).or(first_use(text, known, scope, b))
         }
         Expr::Not(_, a) => first_use(text, known, scope, a),
         Expr::And(_, args) | Expr::Or(_, args) => first_use_in_each(text, known, scope, args),
@@ -127,14 +121,4 @@ pub fn first_use_in_each_outside(text: &[u8], known: &Declarations, es: &[Expr])
     ensures { result ≡ first_use_in_each text.now (words_in known.now) [] (exprs_of (expr_trees es.now)) }
 {
     first_use_in_each(text, known, &Scope::Outside, es)
-}
-
-// The first of two places.
-pub fn first_of(first: Option<u64>, second: Option<u64>) -> Option<u64>
-    ensures { result ≡ first_of first second }
-{
-    match first {
-        Some(_) => first,
-        None => second,
-    }
 }

@@ -15,7 +15,7 @@ ghost use Rattle.rml_sort_check.specs.Demands.{argument_demands};
 ghost use Rattle.rml_names.specs.Scopes.{bound_names};
 ghost use Rattle.rml_names.specs.Drafts.{words_in};
 ghost use Rattle.rml_names.specs.Sound.{IsSorted, IsDeclared};
-ghost use Rattle.rml_sort_check.specs.Judging.{compound_fault, first_of as first_fault_of};
+ghost use Rattle.rml_sort_check.specs.Judging.{compound_fault};
 
 use crate::wanted::Wanted;
 use fol_sig::Sort;
@@ -168,16 +168,6 @@ fn second_sort(expected: Option<u32>, sort: Option<u32>) -> Option<u32>
     }
 }
 
-// The first fault of two parts.
-pub fn first_of(first: Option<Fault>, second: Option<Fault>) -> Option<Fault>
-    ensures { result ≡ first_fault_of first second }
-{
-    match first {
-        Some(_) => first,
-        None => second,
-    }
-}
-
 // The first fault of an expression, by what it has to be.
 #[cycle(judging)]
 pub fn expression_fault(
@@ -207,14 +197,14 @@ pub fn expression_fault(
                 let first = expression_fault(text, known, scope, Wanted::Term(expected), a);
                 let sort = second_sort(expected, term_sort(text, known, scope, a));
                 let second = expression_fault(text, known, scope, Wanted::Term(sort), b);
-                first_of(condition, first_of(first, second))
+                condition.or(first.or(second))
             }
         },
         Expr::Equal(at, a, b) => {
             let left = expression_fault(text, known, scope, Wanted::Term(None), a);
             let sort = term_sort(text, known, scope, a);
             let right = expression_fault(text, known, scope, Wanted::Term(sort), b);
-            compound_fault(wanted, *at, first_of(left, right))
+            compound_fault(wanted, *at, left.or(right))
         }
         Expr::Not(at, a) => {
             let part = expression_fault(text, known, scope, Wanted::Formula, a);
@@ -227,7 +217,7 @@ pub fn expression_fault(
         Expr::Implies(at, a, b) | Expr::Iff(at, a, b) => {
             let left = expression_fault(text, known, scope, Wanted::Formula, a);
             let right = expression_fault(text, known, scope, Wanted::Formula, b);
-            compound_fault(wanted, *at, first_of(left, right))
+            compound_fault(wanted, *at, left.or(right))
         }
         Expr::Quantified(quantifier, at, binder, a) => {
             let part = quantified_fault(text, known, scope, *quantifier, *at, *binder, a);
@@ -258,7 +248,7 @@ fn application_fault(
     let meaning = known.meaning_from(0, scope, bytes(text, name));
     let named = name_fault(known, wanted, meaning, name.start, args.len());
     let applied = arguments_fault(text, known, scope, args, known.argument_sorts(meaning));
-    first_of(named, applied)
+    named.or(applied)
 }
 
 // A binder and what stands under it.

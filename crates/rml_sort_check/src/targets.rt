@@ -20,7 +20,7 @@ ghost use Rattle.rml_names.specs.Scopes.{bound_names, names_of};
 ghost use Rattle.rml_names.specs.Drafts.{words_in};
 ghost use Rattle.rml_names.specs.Sound.{IsSorted, IsDeclared};
 
-use crate::faults::{arguments_fault, expression_fault, first_of, is_known, is_relation};
+use crate::faults::{arguments_fault, expression_fault, is_known, is_relation};
 use crate::wanted::Wanted;
 use fol_sig::Sort;
 use rml_lex::{Fault, FaultCode};
@@ -180,7 +180,7 @@ fn entry_fault(
     let arguments = outer_arguments_fault(text, known, args, sorts);
     let sort = known.result_sort(symbol);
     let entry = outer_fault(text, known, Wanted::Term(sort), value);
-    first_of(arguments, entry)
+    arguments.or(entry)
 }
 
 fn is_variable(known: &Declarations, symbol: Meaning) -> bool
