@@ -2,7 +2,7 @@ use Rattle.std.proofs.Common.{◌≡◌, ◌-◌, ◌+◌, List, length, length-
 use Rattle.fol_formula.specs.Syntax.{size_of}
 use Rattle.fol_subst.specs.Replace.{change_rel}
 use Rattle.fol_subst.specs.Kept.{kept, kept_one}
-use Rattle.rml_elaborate.proofs.Tuples.{terms_sized}
+use Rattle.rml_elaborate.proofs.Tuples.{terms_counted}
 use Rattle.rml_terms.specs.declared.tree.Expr.{Expr}
 use Rattle.rml_terms.specs.Tree.{expr_tree, expr_trees, exprs_of}
 use Rattle.rml_terms.specs.Shape.{ExprsNest}
@@ -63,7 +63,7 @@ kept_terms-loop-e-preserved t c =
     let step = exprs-drop es c.loop-e.e-index c.e-item.result c.loop-e-test.true c.e-item.is in
     let size : c.loop-e.left - 1 ≡ size_of (terms_of text v bodies bs (exprs_of (expr_trees rest))) =
     omega (arith, h.left, c.loop-e-test.true, length-drop (c.loop-e.e-index + 1) es)
-    ∙ sym (terms_sized text v bodies bs rest) in
+    ∙ sym (terms_counted text v bodies bs rest) in
     let one = term_of text v bodies bs (expr_tree c.e-item.result) in
     record {
       left = omega (arith, h.left, c.loop-e-test.true);
