@@ -1,5 +1,6 @@
 // Evaluation along the formula.
 ghost use Rattle.std.specs.Prelude.{◌≡◌, ◌<◌, ◌≤◌, length, slice_index, take};
+ghost use Rattle.fol_sig.specs.Arguments.{max_arguments};
 ghost use Rattle.fol_sig.specs.Tables.{reading};
 ghost use Rattle.fol_formula.specs.View.{form, term as term_view, forms, terms as terms_view};
 ghost use Rattle.fol_formula.specs.Syntax.{for_all, for_some, size_of};
@@ -10,7 +11,7 @@ ghost use Rattle.fol_eval.specs.Safe.{SafeForm, SafeForms, SafeTerm, SafeTerms};
 
 use crate::Env;
 use fol_formula::{Formula, Term};
-use fol_sig::{Sort, Structure, range_laws};
+use fol_sig::{MAX_ARGUMENTS, Sort, Structure, range_laws};
 
 /// Whether the formula is true.
 pub fn holds(structure: &Structure, formula: &Formula, env: &Env) -> bool
@@ -152,15 +153,15 @@ fn evaluate(structure: &Structure, term: &Term, env: &Env) -> u32
 
 #[cycle(eval)]
 #[tactic(auto, using(crate::proofs::Laws::sizes))]
-fn evaluate_all(structure: &Structure, terms: &[Term], env: &Env) -> [u32; 8]
-    requires short { size_of (terms_view terms.now) ≤ 8 }
+fn evaluate_all(structure: &Structure, terms: &[Term], env: &Env) -> [u32; MAX_ARGUMENTS]
+    requires short { size_of (terms_view terms.now) ≤ max_arguments }
     requires safe { SafeTerms structure.now (terms_view terms.now) (elements env.now) }
-    ensures room { length result ≡ 8 }
-    ensures short { length terms.now ≤ 8 }
+    ensures room { length result ≡ max_arguments }
+    ensures short { length terms.now ≤ max_arguments }
     ensures values { take (length terms.now) result ≡ values (reading structure.now) (terms_view terms.now)
         (elements env.now) }
 {
-    let mut tuple = [0u32; 8];
+    let mut tuple = [0u32; MAX_ARGUMENTS];
     for i in 0..terms.len() {
         tuple[i] = evaluate(structure, &terms[i], env);
     }

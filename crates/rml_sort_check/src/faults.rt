@@ -12,7 +12,7 @@ ghost use Rattle.rml_sort_check.specs.Demands.{first_fault, is_expected as meets
 ghost use Rattle.rml_sort_check.specs.Demands.{no_term_code as code_of_no_term, name_demands, second_sort};
 ghost use Rattle.rml_sort_check.specs.Demands.{is_told_first, binder_demands, demands, formula_demands};
 ghost use Rattle.rml_sort_check.specs.Demands.{argument_demands};
-ghost use Rattle.rml_names.specs.Scopes.{bound_names};
+ghost use Rattle.rml_names.specs.Scopes.{bound_names, max_bound};
 ghost use Rattle.rml_names.specs.Drafts.{words_in};
 ghost use Rattle.rml_names.specs.Sound.{IsSorted, IsDeclared};
 ghost use Rattle.rml_sort_check.specs.Judging.{compound_fault};
@@ -144,7 +144,7 @@ fn name_fault(
 
 // The sort that an expression has as a term.
 pub fn term_sort(text: &[u8], known: &Declarations, scope: &Scope, e: &Expr) -> Option<u32>
-    requires few { length (bound_names scope.now) ≤ 108 }
+    requires few { length (bound_names scope.now) ≤ max_bound }
     requires within { ExprWithin (length text.now) (expr_tree e.now) }
     requires sound { IsSorted (words_in known.now) }
     ensures { result ≡ sort_of_term text.now (words_in known.now) (bound_names scope.now) (expr_tree e.now) }
@@ -177,8 +177,8 @@ pub fn expression_fault(
     wanted: Wanted,
     e: &Expr,
 ) -> Option<Fault>
-    requires nests { ExprNests (108 - length (bound_names scope.now)) (expr_tree e.now) }
-    requires few { length (bound_names scope.now) ≤ 108 }
+    requires nests { ExprNests (max_bound - length (bound_names scope.now)) (expr_tree e.now) }
+    requires few { length (bound_names scope.now) ≤ max_bound }
     requires within { ExprWithin (length text.now) (expr_tree e.now) }
     requires sound { IsSorted (words_in known.now) }
     ensures { result ≡ first_fault
@@ -236,9 +236,9 @@ fn application_fault(
     name: Name,
     args: &[Expr],
 ) -> Option<Fault>
-    requires nests { ExprNests (108 - length (bound_names scope.now))
+    requires nests { ExprNests (max_bound - length (bound_names scope.now))
         (ApplyTree name (exprs_of (expr_trees args.now))) }
-    requires few { length (bound_names scope.now) ≤ 108 }
+    requires few { length (bound_names scope.now) ≤ max_bound }
     requires within { ExprWithin (length text.now) (ApplyTree name (exprs_of (expr_trees args.now))) }
     requires sound { IsSorted (words_in known.now) }
     ensures { result ≡ first_fault
@@ -262,9 +262,9 @@ fn quantified_fault(
     binder: Binder,
     body: &Expr,
 ) -> Option<Fault>
-    requires nests { ExprNests (108 - length (bound_names scope.now))
+    requires nests { ExprNests (max_bound - length (bound_names scope.now))
         (QuantifiedTree quantifier at binder (expr_tree body.now)) }
-    requires few { length (bound_names scope.now) ≤ 108 }
+    requires few { length (bound_names scope.now) ≤ max_bound }
     requires within { ExprWithin (length text.now) (QuantifiedTree quantifier at binder (expr_tree body.now)) }
     requires sound { IsSorted (words_in known.now) }
     ensures { result ≡ first_fault
@@ -291,8 +291,8 @@ fn quantified_fault(
 // The operands of a connective.
 #[cycle(judging)]
 fn formulas_fault(text: &[u8], known: &Declarations, scope: &Scope, args: &[Expr]) -> Option<Fault>
-    requires nests { ExprsNest (108 - length (bound_names scope.now)) (exprs_of (expr_trees args.now)) }
-    requires few { length (bound_names scope.now) ≤ 108 }
+    requires nests { ExprsNest (max_bound - length (bound_names scope.now)) (exprs_of (expr_trees args.now)) }
+    requires few { length (bound_names scope.now) ≤ max_bound }
     requires within { ExprsWithin (length text.now) (exprs_of (expr_trees args.now)) }
     requires sound { IsSorted (words_in known.now) }
     ensures { result ≡ first_fault
@@ -315,8 +315,8 @@ pub fn arguments_fault(
     args: &[Expr],
     sorts: &[Sort],
 ) -> Option<Fault>
-    requires nests { ExprsNest (108 - length (bound_names scope.now)) (exprs_of (expr_trees args.now)) }
-    requires few { length (bound_names scope.now) ≤ 108 }
+    requires nests { ExprsNest (max_bound - length (bound_names scope.now)) (exprs_of (expr_trees args.now)) }
+    requires few { length (bound_names scope.now) ≤ max_bound }
     requires within { ExprsWithin (length text.now) (exprs_of (expr_trees args.now)) }
     requires sound { IsSorted (words_in known.now) }
     ensures { result ≡ first_fault

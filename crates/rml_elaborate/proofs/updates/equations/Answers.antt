@@ -2,7 +2,7 @@ use Rattle.std.proofs.Common.{◌≡◌, ◌-◌, ◌+◌, ℕ, List, [], length
 use Rattle.fol_formula.specs.Syntax.{equal, bound, size_of}
 use Rattle.rml_terms.specs.declared.tree.Expr.{Expr}
 use Rattle.rml_terms.specs.Tree.{expr_tree, expr_trees, exprs_of}
-use Rattle.rml_terms.specs.Shape.{ExprsNest}
+use Rattle.rml_terms.specs.Shape.{ExprsNest, max_nesting}
 use Rattle.rml_terms.specs.Within.{ExprsWithin}
 use Rattle.rml_elaborate.specs.Formulas.{term_of, terms_of}
 use Rattle.rml_elaborate.specs.Updates.{equations}
@@ -27,7 +27,7 @@ loop-e-preserved c =
     left ∙ sym (terms_counted text v bodies [] rest) in
     record {
       left = omega (arith, h.left, c.loop-e-test.true);
-      nests = (subst (ExprsNest 100) step h.nests).1;
+      nests = (subst (ExprsNest max_nesting) step h.nests).1;
       within = (subst (ExprsWithin (length text)) step h.within).1;
       made = forms_turn c.lists.ensures.forms
           (λ (es : List Expr). equations (terms_of text v bodies [] (exprs_of (expr_trees es)))) args c.loop-e.e-index

@@ -11,7 +11,7 @@ use Rattle.rml_sort_check.specs.declared.wanted.Wanted.TheVariants.{Formula, Ter
 use Rattle.rml_names.specs.Meanings.{term_sort}
 use Rattle.rml_sort_check.specs.Demands.{first_fault, demands, second_sort}
 use Rattle.rml_sort_check.specs.Judging.{compound_fault}
-use Rattle.rml_names.specs.Scopes.{bound_names}
+use Rattle.rml_names.specs.Scopes.{bound_names, max_bound}
 use Rattle.rml_names.specs.Drafts.{words_in}
 use Rattle.rml_sort_check.proofs.Judged.{exprs-drop, formulas-turn, formulas-stop, arguments-turn, arguments-stop}
 use Rattle.rml_sort_check.proofs.Judged.{implies_fault, iff_fault, equal_fault, ite_fault, apply_fault}
@@ -29,7 +29,8 @@ formulas_fault-loop-e-preserved t c =
     let h = c.loop-e.invariant in
     let step = exprs-drop c.args.args.now c.loop-e.e-index c.e-item.result c.loop-e-test.true c.e-item.is in
     record {
-      nests = (subst (λ (xs : ExprTrees). ExprsNest (108 - length (bound_names c.args.scope.now)) xs) step h.nests).1;
+      nests = (subst (λ (xs : ExprTrees). ExprsNest (max_bound - length (bound_names c.args.scope.now)) xs) step
+          h.nests).1;
       within = (subst (λ (xs : ExprTrees). ExprsWithin (length c.args.text.now) xs) step h.within).1;
       left = formulas-turn c.args.text.now (words_in c.args.known.now) (bound_names c.args.scope.now) c.args.args.now
           c.loop-e.e-index c.e-item.result _
@@ -48,7 +49,8 @@ arguments_fault-loop-e-preserved t c =
     let h = c.loop-e.invariant in
     let step = exprs-drop c.args.args.now c.loop-e.e-index c.e-item.result c.loop-e-test.true c.e-item.is in
     record {
-      nests = (subst (λ (xs : ExprTrees). ExprsNest (108 - length (bound_names c.args.scope.now)) xs) step h.nests).1;
+      nests = (subst (λ (xs : ExprTrees). ExprsNest (max_bound - length (bound_names c.args.scope.now)) xs) step
+          h.nests).1;
       within = (subst (λ (xs : ExprTrees). ExprsWithin (length c.args.text.now) xs) step h.within).1;
       left = arguments-turn c.args.text.now (words_in c.args.known.now) (bound_names c.args.scope.now) c.args.args.now
           c.loop-e.e-index c.e-item.result c.loop-e.sorts.now _
