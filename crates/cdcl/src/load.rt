@@ -5,6 +5,7 @@ ghost use Rattle.cnf_base.specs.declared.cnf.Entry.TheVariants.{Clause, True};
 ghost use Rattle.cnf_base.specs.Literals.{opposite};
 ghost use Rattle.cnf_base.specs.Clauses.{IsClause};
 ghost use Rattle.cnf_base.specs.Formulas.{IsFormula};
+ghost use Rattle.cnf_base.specs.Numerals.{max_number};
 ghost use Rattle.cdcl.specs.Solver.{IsRefuted};
 ghost use Rattle.cdcl.specs.Loading.{IsAtRoot, IsLoaded};
 ghost use Rattle.cdcl.specs.Watch.{IsPairOf};
@@ -178,7 +179,7 @@ impl Search {
 
 /// Holds the clauses of a formula.
 pub fn load(alloc: Global, cnf: &Cnf) -> Mem<Loaded>
-    requires { length cnf.now.clauses < 2147483647 }
+    requires { length cnf.now.clauses < max_number }
     ensures loaded { IfOk result (IsLoaded cnf.now) }
     ensures formula { OnOk result (IsFormula cnf.now) }
 {

@@ -3,6 +3,7 @@
 ghost use Rattle.std.specs.Prelude.{List, ◌≡◌, ◌+◌, ◌-◌, ◌<◌, ◌≤◌, [], length, IfOk, OnOk, OnErr, reverse};
 ghost use Rattle.cnf_base.specs.declared.cnf.Entry.{Entry};
 ghost use Rattle.cnf_base.specs.Formulas.{IsModel};
+ghost use Rattle.cnf_base.specs.Numerals.{max_number};
 ghost use Rattle.lrat_log.specs.declared.line.Line.{Line};
 ghost use Rattle.lrat_log.specs.declared.line.Line.TheVariants.{Add};
 ghost use Rattle.lrat_log.specs.Held.{held_by};
@@ -75,7 +76,7 @@ impl Solver {
         requires drawn { self.now.head ≡ length self.now.state.trail.steps }
         requires set { AreAllSet self.now.state.trail }
         requires logged { (lines : List Line) × IsLogged cnf.now self.now.state.clauses lines }
-        requires few { cnf.now.variables ≤ 2147483647 }
+        requires few { cnf.now.variables ≤ max_number }
         ensures { IfOk result (IsModel cnf.now) }
     {
         let values = truth_values(alloc, &self.search.state.trail, cnf.variables())?;
@@ -112,7 +113,7 @@ fn learn_line<S: Sink>(
     requires some { 0 < length solver.starts.items }
     requires conflict { IsConflict (held_in solver.state) solver.state.trail.steps conflict }
     requires logged { IsLogged (S.formula sink.old) solver.state.clauses (S.lines sink.old) }
-    requires few { (S.formula sink.old).variables ≤ 2147483647 }
+    requires few { (S.formula sink.old).variables ≤ max_number }
     requires id { id ≡ length (S.formula sink.old).clauses + length (S.lines sink.old) + 1 }
     requires room { length (S.formula sink.old).clauses + length (S.lines sink.old) < 2147483646 }
     ensures formula { S.formula sink.new ≡ S.formula sink.old }
@@ -155,7 +156,7 @@ fn refute<S: Sink>(alloc: Global, sink: &mut S, hints: Vec<u32>, id: u32) -> Mem
 /// As `solve_into`, with tables that go by the greatest variable of the formula.
 pub fn search_into<S: Sink>(alloc: Global, sink: &mut S, budget: u64) -> Mem<Answer>
     requires begins { S.lines sink.old ≡ [] }
-    requires few { (S.formula sink.old).variables ≤ 2147483647 }
+    requires few { (S.formula sink.old).variables ≤ max_number }
     requires room { length (S.formula sink.old).clauses + budget ≤ 2147483646 }
     ensures answer { IfOk result (IsAnswer (S.formula sink.old) budget (S.lines sink.new)) }
     ensures formula { S.formula sink.new ≡ S.formula sink.old }

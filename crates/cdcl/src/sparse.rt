@@ -1,6 +1,7 @@
 // Solving, also where the numbers of the variables are sparse: the search then runs over the variables 1, 2, .., and
 // its log is handed over under the names when it is whole. So memory goes by the literals of the formula and the log.
 ghost use Rattle.std.specs.Prelude.{◌≡◌, ◌+◌, ◌≤◌, [], length, IfOk};
+ghost use Rattle.cnf_base.specs.Numerals.{max_number};
 ghost use Rattle.lrat_log.specs.Accepted.{IsAccepted};
 ghost use Rattle.lrat_log.specs.Logs.{IsLogOver};
 ghost use Rattle.renumbering.specs.Renumbered.{IsRenumbered};
@@ -19,7 +20,7 @@ use std::alloc::Global;
 /// As `solve_into`, by a search for truth values of the dense formula.
 fn solve_dense<S: Sink>(alloc: Global, sink: &mut S, dense: &Renumbered, budget: u64) -> Mem<Answer>
     requires begins { S.lines sink.old ≡ [] }
-    requires few { (S.formula sink.old).variables ≤ 2147483647 }
+    requires few { (S.formula sink.old).variables ≤ max_number }
     requires room { length (S.formula sink.old).clauses + budget ≤ 2147483646 }
     requires dense { IsRenumbered (S.formula sink.old) dense.now.cnf dense.now.names.items }
     ensures answer { IfOk result (IsAnswer (S.formula sink.old) budget (S.lines sink.new)) }
@@ -51,7 +52,7 @@ fn solve_dense<S: Sink>(alloc: Global, sink: &mut S, dense: &Renumbered, budget:
 /// or are just so many learnt clauses as the budget has. After want of memory too they are lines that are accepted.
 pub fn solve_into<S: Sink>(alloc: Global, sink: &mut S, budget: u64) -> Mem<Answer>
     requires begins { S.lines sink.old ≡ [] }
-    requires few { (S.formula sink.old).variables ≤ 2147483647 }
+    requires few { (S.formula sink.old).variables ≤ max_number }
     requires room { length (S.formula sink.old).clauses + budget ≤ 2147483646 }
     ensures answer { IfOk result (IsAnswer (S.formula sink.old) budget (S.lines sink.new)) }
     ensures formula { S.formula sink.new ≡ S.formula sink.old }
@@ -70,7 +71,7 @@ pub fn solve_into<S: Sink>(alloc: Global, sink: &mut S, budget: u64) -> Mem<Answ
 
 /// As `solve_into`, with a log of the lines.
 pub fn solve(alloc: Global, cnf: &Cnf, budget: u64) -> Mem<Solved>
-    requires few { cnf.now.variables ≤ 2147483647 }
+    requires few { cnf.now.variables ≤ max_number }
     requires room { length cnf.now.clauses + budget ≤ 2147483646 }
     ensures { IfOk result (IsSolved cnf.now budget) }
 {

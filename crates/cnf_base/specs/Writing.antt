@@ -3,6 +3,7 @@ use Rattle.std.specs.Prelude.{◌≡◌, ℕ, ◌≤◌, List, [], ◌∷◌, �
 use Rattle.cnf_base.specs.declared.cnf.Entry.{Entry}
 use Rattle.cnf_base.specs.declared.cnf.Entry.TheVariants.{Clause, True}
 use Rattle.cnf_base.specs.Literals.{variable_of, is_positive}
+use Rattle.cnf_base.specs.Numerals.{max_number}
 use Rattle.cnf_base.specs.Formulas.{Formula, IsFormula}
 
 -- 45 is the sign, 32 a blank, 10 a line feed
@@ -28,10 +29,10 @@ entries_text (e ∷ es) = entry_text e ++ entries_text es
 abbrev pub text_of : Formula → List ℕ
 text_of f = codes "p cnf " ++ decimal f.variables ++ 32 ∷ decimal (length f.clauses) ++ 10 ∷ entries_text f.clauses
 
--- what a text can say: at most 2147483647 variables and clauses
+-- what a text can say
 pub record CanWrite (f : Formula) : Type 0 where
-  pub variables : f.variables ≤ 2147483647
-  pub clauses : length f.clauses ≤ 2147483647
+  pub variables : f.variables ≤ max_number
+  pub clauses : length f.clauses ≤ max_number
   pub formula : IsFormula f
 
 -- behind what was there stands a front of a text, of which this is left

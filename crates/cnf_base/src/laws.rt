@@ -16,7 +16,7 @@ ghost use Rattle.cnf_base.specs.Pieces.{pieces_of};
 ghost use Rattle.cnf_base.specs.Cuts.{AreCut};
 ghost use Rattle.cnf_base.specs.Places.{BeginBy};
 ghost use Rattle.cnf_base.specs.Starts.{IsBetween};
-ghost use Rattle.cnf_base.specs.Numerals.{number_of};
+ghost use Rattle.cnf_base.specs.Numerals.{number_of, max_number};
 ghost use Rattle.cnf_base.specs.Reading.{read_of};
 ghost use Rattle.cnf_base.specs.declared.fault_code.CnfFaultCode.{CnfFaultCode};
 ghost use Rattle.cnf_base.specs.FaultCodes as fault_codes;
@@ -59,18 +59,18 @@ pub fn piece_law()
 /// byte are the words of the text, and each begins in it.
 pub fn word_laws()
     ensures number { (mode : LineMode) (n : ℕ) (rest : List ℕ) (b at : ℕ)
-        → IsBetween mode → n ≤ 2147483647 → is_blank b ≡ true
+        → IsBetween mode → n ≤ max_number → is_blank b ≡ true
         → words_from mode at (decimal n ++ b ∷ rest)
         ≡ record { at = at; text = decimal n } ∷ words_from (behind b) (at + length (decimal n) + 1) rest }
     ensures number_value { (n : ℕ)
-        → n ≤ 2147483647 → number_of (decimal n) ≡ Some (record { negative = false; value = n }) }
+        → n ≤ max_number → number_of (decimal n) ≡ Some (record { negative = false; value = n }) }
     ensures literal { (mode : LineMode) (n l : ℕ) (rest : List ℕ) (at : ℕ)
-        → IsBetween mode → n ≤ 2147483647 → IsLiteral n l
+        → IsBetween mode → n ≤ max_number → IsLiteral n l
         → words_from mode at (literal_text l ++ 32 ∷ rest)
         ≡ record { at = at; text = literal_text l } ∷ words_from InLine (at + length (literal_text l) + 1) rest }
-    ensures literal_value { (n l : ℕ) → n ≤ 2147483647 → IsLiteral n l
+    ensures literal_value { (n l : ℕ) → n ≤ max_number → IsLiteral n l
         → number_of (literal_text l) ≡ Some (record { negative = not (is_positive l); value = variable_of l }) }
-    ensures small { (text : List ℕ) (n : Numeral) → number_of text ≡ Some n → n.value ≤ 2147483647 }
+    ensures small { (text : List ℕ) (n : Numeral) → number_of text ≡ Some n → n.value ≤ max_number }
     ensures same { (l : ℕ) → literal_of (not (not (is_positive l))) (variable_of l) ≡ l }
     ensures words { (text : List ℕ) → words_from LineStart 0 text ≡ words_of text }
     ensures places { (text : List ℕ) → BeginBy (length text) (words_of text) }

@@ -8,6 +8,7 @@ ghost use Rattle.fol_formula.specs.Fits.{HasTruth, HaveTruth, HasValue};
 ghost use Rattle.fol_formula.specs.Sentences.{satisfies};
 ghost use Rattle.fol_eval.specs.Elements.{elements};
 ghost use Rattle.fol_eval.specs.Safe.{SafeForm, SafeForms, SafeTerm, SafeTerms};
+ghost use Rattle.fol_sig.specs.Arguments.{max_arguments};
 
 use crate::Env;
 use fol_formula::{Formula, Sentence, Term};
@@ -167,10 +168,10 @@ fn evaluate(structure: &Structure, term: &Term, env: &Env) -> u32
 #[cycle(eval)]
 #[tactic(auto, using(crate::proofs::Laws::sizes))]
 fn evaluate_all(structure: &Structure, terms: &[Term], env: &Env) -> [u32; 8]
-    requires short { size_of (terms_view terms.now) ≤ 8 }
+    requires short { size_of (terms_view terms.now) ≤ max_arguments }
     requires safe { SafeTerms structure.now (terms_view terms.now) (elements env.now) }
-    ensures room { length result ≡ 8 }
-    ensures short { length terms.now ≤ 8 }
+    ensures room { length result ≡ max_arguments }
+    ensures short { length terms.now ≤ max_arguments }
     ensures values { take (length terms.now) result ≡ values (reading structure.now) (terms_view terms.now)
         (elements env.now) }
 {

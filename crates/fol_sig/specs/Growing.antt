@@ -1,6 +1,7 @@
 -- Signatures that grow by relations and by functions without arguments, and their structures.
 use Rattle.std.specs.Prelude.{◌≡◌, ℕ, ◌+◌, ◌<◌, ◌≤◌, ◌^◌, Bool, List, [], ◌++◌, length, map, slice_index}
 use Rattle.std.specs.Prelude.{slice_index_or, All}
+use Rattle.fol_sig.specs.Arguments.{max_arguments}
 use Rattle.fol_sig.specs.declared.Sort.{Sort}
 use Rattle.fol_sig.specs.Tables.{Declared, Tables, RelationTable, Reading, IsSignature, IsFullRelation, AreSorts}
 use Rattle.fol_sig.specs.Tables.{InRange, reading, relation_at, function_at, fun_at}
@@ -19,7 +20,7 @@ pub record Grows (sig more : Symbols) : Type 0 where
   pub from_of : (f : ℕ) → f < sig.functions → more.from_of f ≡ sig.from_of f
   pub into_of : (f : ℕ) → f < sig.functions → more.into_of f ≡ sig.into_of f
   pub new_sorts : (r : ℕ) → sig.relations ≤ r → r < more.relations → AreSorts sig.sorts (more.sorts_of r)
-  pub new_short : (r : ℕ) → sig.relations ≤ r → r < more.relations → length (more.sorts_of r) ≤ 8
+  pub new_short : (r : ℕ) → sig.relations ≤ r → r < more.relations → length (more.sorts_of r) ≤ max_arguments
   pub new_from : (f : ℕ) → sig.functions ≤ f → f < more.functions → more.from_of f ≡ []
   pub new_into : (f : ℕ) → sig.functions ≤ f → f < more.functions → more.into_of f < sig.sorts
 
@@ -72,7 +73,7 @@ pub record GrowsSignatureByRelations (sig : Declared) (rs : List (List ℕ)) : T
 -- a signature with relations of at most 8 arguments over its sorts behind its own has grown by them
 abbrev pub SignaturesGrowByRelations : Type 0
 SignaturesGrowByRelations = (sig : Declared) (rs : List (List ℕ)) → All (AreSorts sig.sorts) rs
-    → All (λ ks. length ks ≤ 8) rs → GrowsSignatureByRelations sig rs
+    → All (λ ks. length ks ≤ max_arguments) rs → GrowsSignatureByRelations sig rs
 
 -- the symbols stay sorted, and the orders of the sorts are the same
 pub record KeepsSorts (sig more : Symbols) : Type 0 where

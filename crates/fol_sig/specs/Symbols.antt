@@ -1,5 +1,6 @@
 -- The symbols of a signature, and the structures that have them.
 use Rattle.std.specs.Prelude.{◌≡◌, ℕ, ◌<◌, ◌≤◌, List, [], length, slice_index_or}
+use Rattle.fol_sig.specs.Arguments.{max_arguments}
 use Rattle.fol_sig.specs.declared.Sort.{Sort}
 use Rattle.fol_sig.specs.Tables.{Tables, Declared, AreSorts, IsStructure, relation_at, function_at}
 
@@ -33,8 +34,8 @@ pub record AreSorted (sig : Symbols) : Type 0 where
   pub relations : (r : ℕ) → r < sig.relations → AreSorts sig.sorts (sig.sorts_of r)
   pub functions : (f : ℕ) → f < sig.functions → AreSorts sig.sorts (sig.from_of f)
   pub into : (f : ℕ) → f < sig.functions → sig.into_of f < sig.sorts
-  pub relations_short : (r : ℕ) → r < sig.relations → length (sig.sorts_of r) ≤ 8
-  pub functions_short : (f : ℕ) → f < sig.functions → length (sig.from_of f) ≤ 8
+  pub relations_short : (r : ℕ) → r < sig.relations → length (sig.sorts_of r) ≤ max_arguments
+  pub functions_short : (f : ℕ) → f < sig.functions → length (sig.from_of f) ≤ max_arguments
 
 -- the structure has these symbols
 pub record FitsStructure (sig : Symbols) (s : Tables) : Type 0 where

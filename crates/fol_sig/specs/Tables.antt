@@ -2,6 +2,7 @@
 use Rattle.std.specs.Prelude.{◌≡◌, ℕ, ◌+◌, ◌*◌, ◌^◌, ◌<◌, ◌≤◌, Bool, false, List, [], ◌∷◌, length, slice_index}
 use Rattle.std.specs.Prelude.{slice_index_or, slice_set, All, map, nat_eq, replicate}
 use Rattle.std.specs.List.{list_any}
+use Rattle.fol_sig.specs.Arguments.{max_arguments}
 use Rattle.fol_sig.specs.declared.Sort.{Sort}
 use Rattle.fol_sig.specs.declared.FunId.{FunId}
 
@@ -34,8 +35,8 @@ AreSorts n ks = All (λ k. k < n) ks
 pub record IsSignature (sig : Declared) : Type 0 where
   pub relations_sorted : All (AreSorts sig.sorts) sig.relations
   pub functions_sorted : All (λ f. AreSorts sig.sorts f.0 × (f.1.0 < sig.sorts)) sig.functions
-  pub relations_short : All (λ ks. length ks ≤ 8) sig.relations
-  pub functions_short : All (λ f. length f.0 ≤ 8) sig.functions
+  pub relations_short : All (λ ks. length ks ≤ max_arguments) sig.relations
+  pub functions_short : All (λ f. length f.0 ≤ max_arguments) sig.functions
   pub listed_known : All (λ f. f < length sig.functions) sig.listed
   pub few_sorts : sig.sorts < 2 ^ 32
   pub few_relations : length sig.relations < 2 ^ 32
@@ -121,13 +122,13 @@ reading s = record { size = size_at s; rel = rel_at s; fun = fun_at s }
 -- the sorts are those of the structure, and the table has a cell for each tuple
 pub record IsFullRelation (sizes : List ℕ) (t : RelationTable) : Type 0 where
   pub sorted : All (λ k. k < length sizes) t.sorts
-  pub short : length t.sorts ≤ 8
+  pub short : length t.sorts ≤ max_arguments
   pub full : length t.cells ≡ tuple_count sizes t.sorts
 
 -- the same of a function's table, and each cell is an element of the sort of its values
 pub record IsFullFunction (sizes : List ℕ) (t : FunctionTable) : Type 0 where
   pub sorted : All (λ k. k < length sizes) t.sorts
-  pub short : length t.sorts ≤ 8
+  pub short : length t.sorts ≤ max_arguments
   pub into_sorted : t.into < length sizes
   pub full : length t.cells ≡ tuple_count sizes t.sorts
   pub within : All (λ x. x < slice_index sizes t.into) t.cells

@@ -46,3 +46,6 @@ pub struct RelId(pub u32);
 /// A function, by its place in the signature. A function without arguments is a variable.
 #[derive(Clone, Copy, PartialEq, Eq, Hash, Debug)]
 pub struct FunId(pub u32);
+
+/// How many arguments a symbol may have.
+pub const MAX_ARGUMENTS: usize = 8;

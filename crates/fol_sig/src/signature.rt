@@ -2,6 +2,7 @@
 ghost use Rattle.std.specs.Prelude.{◌≡◌, ◌<◌, ◌≤◌, ◌+◌, ◌^◌, [], ◌∷◌, ◌++◌, length, IfOk, OnOk, OnErr};
 ghost use Rattle.fol_sig.specs.Tables.{IsSignature, AreSorts, numbers, function_numbers, is_listed};
 ghost use Rattle.fol_sig.specs.Symbols.{symbols, AreSorted};
+ghost use Rattle.fol_sig.specs.Arguments.{max_arguments};
 
 use crate::{FunId, RelId, Sort, Sorts};
 use base::Mem;
@@ -182,7 +183,7 @@ impl Signature {
     pub fn sorts_of(&self, rel: RelId) -> &[Sort]
         requires { rel.0 < length self.now.relations }
         ensures value { numbers result.now ≡ (symbols self.now).sorts_of rel.0 }
-        ensures few { length result.now ≤ 8 }
+        ensures few { length result.now ≤ max_arguments }
     {
         self.relations[rel.0 as usize].as_slice()
     }
@@ -191,7 +192,7 @@ impl Signature {
     pub fn from_of(&self, fun: FunId) -> &[Sort]
         requires { fun.0 < length self.now.functions }
         ensures value { numbers result.now ≡ (symbols self.now).from_of fun.0 }
-        ensures few { length result.now ≤ 8 }
+        ensures few { length result.now ≤ max_arguments }
     {
         self.functions[fun.0 as usize].0.as_slice()
     }

@@ -1,6 +1,7 @@
 // The list of a symbol's argument sorts.
 ghost use Rattle.std.specs.Prelude.{◌≡◌, ◌<◌, ◌≤◌, List, [], ◌++◌, ◌∷◌, length};
 ghost use Rattle.fol_sig.specs.Tables.{numbers};
+ghost use Rattle.fol_sig.specs.Arguments.{max_arguments};
 
 use crate::Sort;
 use smallvec::SmallVec;
@@ -15,13 +16,14 @@ pub struct Sorts {
 
 impl Model for Sorts {
     ghost use Rattle.std.specs.Prelude.{◌≡◌, List, ℕ, ◌≤◌, length};
+    ghost use Rattle.fol_sig.specs.Arguments.{max_arguments};
     ghost use Rattle.fol_sig.specs.Tables.{numbers};
 
     ghost Value = { List ℕ };
 
     ghost view = { λ s. numbers s.items.items };
 
-    ghost invariant = { λ s. (length s.items.items ≤ 8) × (s.items.capacity ≡ 8) };
+    ghost invariant = { λ s. (length s.items.items ≤ max_arguments) × (s.items.capacity ≡ max_arguments) };
 }
 
 impl Sorts {
@@ -36,7 +38,7 @@ impl Sorts {
 
     /// Adds a sort behind the others.
     pub fn push(&mut self, sort: Sort)
-        requires { length self.old < 8 }
+        requires { length self.old < max_arguments }
         ensures { self.new ≡ self.old ++ sort.0 ∷ [] }
     {
         self.items.push_reserved(sort);
@@ -45,7 +47,7 @@ impl Sorts {
     /// The sorts, in order.
     pub fn as_slice(&self) -> &[Sort]
         ensures value { numbers result.now ≡ self.now }
-        ensures few { length result.now ≤ 8 }
+        ensures few { length result.now ≤ max_arguments }
     {
         self.items.as_slice()
     }

@@ -4,6 +4,7 @@ ghost use Rattle.std.specs.Prelude.{◌≡◌, ◌<◌, ◌≤◌, ◌^◌, ◌�
 ghost use Rattle.fol_sig.specs.Tables.{InRange, tuple_count, place_of, numbers};
 ghost use Rattle.fol_sig.specs.Tuples.{tuple_at};
 ghost use Rattle.fol_sig.specs.TupleSets.{is_in_range, are_in_range};
+ghost use Rattle.fol_sig.specs.Arguments.{max_arguments};
 
 use crate::{Sort, Tuple};
 use base::Mem;
@@ -53,7 +54,7 @@ pub fn number_of_tuple(sizes: &[u32], sorts: &[Sort], tuple: &[u32]) -> usize
 /// The tuple with a number.
 pub fn tuple_of_number(alloc: Global, sizes: &[u32], sorts: &[Sort], number: usize) -> Tuple
     requires sorted { All (λ k. k < length sizes.now) (numbers sorts.now) }
-    requires short { length sorts.now ≤ 8 }
+    requires short { length sorts.now ≤ max_arguments }
     requires known { number < tuple_count sizes.now (numbers sorts.now) }
     requires room { tuple_count sizes.now (numbers sorts.now) < 2 ^ 63 }
     ensures value { result ≡ tuple_at sizes.now (numbers sorts.now) number }

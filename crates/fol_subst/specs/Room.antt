@@ -1,6 +1,7 @@
 -- What the building of a formula needs: the depth and the indices of the result stay within their types, and wherever
 -- the symbol stands it has as many arguments as what replaces it has parameters.
 use Rattle.std.specs.Prelude.{◌≡◌, ℕ, suc, ◌<◌, ◌≤◌, ◌^◌}
+use Rattle.fol_sig.specs.Arguments.{max_arguments}
 use Rattle.fol_formula.specs.Fits.{BoundForm, BoundTerm}
 use Rattle.fol_formula.specs.Syntax.{FormTree, FormTrees, TermTree, TermTrees, top, bottom, rel, equal, negation}
 use Rattle.fol_formula.specs.Syntax.{conjunction, disjunction, implication, equivalence, for_all, for_some, no_forms}
@@ -50,11 +51,11 @@ AppTakes (change_const g index) f count = f ≡ g → count ≡ 0
 
 -- before so many arguments
 abbrev pub RelReady : Change → ℕ → ℕ → Type 0
-RelReady c q count = (count ≤ 8) × RelTakes c q count
+RelReady c q count = (count ≤ max_arguments) × RelTakes c q count
 
 -- the same of a function
 abbrev pub AppReady : Change → ℕ → ℕ → Type 0
-AppReady c f count = (count ≤ 8) × AppTakes c f count
+AppReady c f count = (count ≤ max_arguments) × AppTakes c f count
 
 -- each symbol of the formula stands before at most 8 arguments, and the one that is replaced before enough
 abbrev pub ReadyForm : Change → FormTree → Type 0

@@ -9,6 +9,7 @@ ghost use Rattle.fol_subst.specs.Room.{RoomTerms};
 ghost use Rattle.fol_subst.specs.Changes.{change_of};
 ghost use Rattle.fol_subst.specs.Measured.{Measures};
 ghost use Rattle.fol_subst.specs.Kept.{kept, kept_one};
+ghost use Rattle.fol_sig.specs.Arguments.{max_arguments};
 
 use crate::indices::{Put, copy_formula, copy_term};
 use crate::measure::Measure;
@@ -231,7 +232,7 @@ fn change_kept(
     depth: u64,
 ) -> Mem<Vec<Term>>
     requires measures { Measures m.now (change_of c.now) }
-    requires few { size_of (terms_view ts.items) ≤ 8 }
+    requires few { size_of (terms_view ts.items) ≤ max_arguments }
     requires ready { ReadyTerms (change_of c.now) (terms_view ts.items) }
     requires room { RoomTerms depth
         (kept (change_of c.now) (changed_terms (change_of c.now) depth (terms_view ts.items))) }
@@ -260,7 +261,7 @@ fn change_one(
     index: usize,
 ) -> Mem<Term>
     requires measures { Measures m.now (change_of c.now) }
-    requires few { index < 8 }
+    requires few { index < max_arguments }
     requires ready { ReadyTerm (change_of c.now) (term_view t) }
     requires room { RoomTerm depth
         (kept_one (change_of c.now) index (changed_term (change_of c.now) depth (term_view t))) }

@@ -7,6 +7,7 @@ ghost use Rattle.fol_subst.specs.Room.{ReadyForm, ReadyForms, ReadyTerm, ReadyTe
 ghost use Rattle.fol_subst.specs.Extents.{extent_form, extent_forms, extent_term, extent_terms, extent_instance};
 ghost use Rattle.fol_subst.specs.Extents.{places_of};
 ghost use Rattle.fol_subst.specs.Measured.{Measures};
+ghost use Rattle.fol_sig.specs.Arguments.{max_arguments};
 
 use crate::extent::Extent;
 use crate::places::{places_in_formula, places_in_term};
@@ -127,7 +128,7 @@ impl Measure {
     #[cycle(measure)]
     fn instance(&self, args: &[Term], change: &Replacement) -> Extent
         requires measures { Measures self.now (change_of change.now) }
-        requires few { size_of (terms_view args.now) ≤ 8 }
+        requires few { size_of (terms_view args.now) ≤ max_arguments }
         requires ready { ReadyTerms (change_of change.now) (terms_view args.now) }
         ensures { result ≡ extent_instance (change_of change.now) self.now.whole (terms_view args.now) }
     {

@@ -3,6 +3,7 @@ ghost use Rattle.std.specs.Prelude.{◌≡◌, ℕ, ◌+◌, ◌<◌, ◌≤◌,
 ghost use Rattle.cnf_base.specs.Literals.{AreLiterals};
 ghost use Rattle.cnf_base.specs.Formulas.{IsModel, value_of};
 ghost use Rattle.cnf_base.specs.Rising.{AreRising};
+ghost use Rattle.cnf_base.specs.Numerals.{max_number};
 ghost use Rattle.lrat_log.specs.Accepted.{IsAccepted};
 ghost use Rattle.lrat_log.specs.Logs.{IsLogOver, IsLineOver};
 ghost use Rattle.renumbering.specs.Named.{named, named_line};
@@ -41,7 +42,7 @@ pub fn values_back(alloc: Global, cnf: &Cnf, dense: &Renumbered, values: &Values
 
 fn clause_back(alloc: Global, names: &[u32], clause: &[Lit]) -> Mem<Vec<Lit>>
     requires literals { AreLiterals (length names.now) clause.now }
-    requires rising { AreRising 2147483647 0 names.now }
+    requires rising { AreRising max_number 0 names.now }
     ensures { IfOk result (λ c. c.items ≡ map (named names.now) clause.now) }
 {
     let mut back = Vec::with_capacity(alloc, clause.len())?;
@@ -55,7 +56,7 @@ fn clause_back(alloc: Global, names: &[u32], clause: &[Lit]) -> Mem<Vec<Lit>>
 
 fn line_back(alloc: Global, names: &[u32], line: &Line) -> Mem<Line>
     requires line { (last : ℕ) × IsLineOver (length names.now) last line.now }
-    requires rising { AreRising 2147483647 0 names.now }
+    requires rising { AreRising max_number 0 names.now }
     ensures { IfOk result (λ l. l ≡ named_line names.now line.now) }
 {
     match line {
@@ -75,7 +76,7 @@ fn line_back(alloc: Global, names: &[u32], line: &Line) -> Mem<Line>
 /// is in range and accepted.
 pub fn hand_over<S: Sink>(alloc: Global, names: &[u32], lines: &[Line], sink: &mut S) -> Mem<()>
     requires begins { S.lines sink.old ≡ [] }
-    requires rising { AreRising 2147483647 0 names.now }
+    requires rising { AreRising max_number 0 names.now }
     requires dense { (last : ℕ) × IsLogOver (length names.now) last lines.now }
     requires range { IsLogOver (S.formula sink.old).variables (length (S.formula sink.old).clauses)
         (map (named_line names.now) lines.now) }

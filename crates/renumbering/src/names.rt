@@ -4,6 +4,7 @@ ghost use Rattle.std.specs.Bool.{OnTrue};
 ghost use Rattle.cnf_base.specs.Literals.{IsLiteral};
 ghost use Rattle.renumbering.specs.Named.{named};
 ghost use Rattle.cnf_base.specs.Rising.{AreRising};
+ghost use Rattle.cnf_base.specs.Numerals.{max_number};
 
 use base::Mem;
 use cnf_base::{Entry, Lit};
@@ -65,7 +66,7 @@ pub fn dense_literal(names: &[u32], literal: Lit) -> Option<Lit>
 /// The literal under its name.
 pub fn name_of(names: &[u32], literal: Lit) -> Lit
     requires literal { IsLiteral (length names.now) literal }
-    requires rising { AreRising 2147483647 0 names.now }
+    requires rising { AreRising max_number 0 names.now }
     ensures { result ≡ named names.now literal }
 {
     Lit::new(

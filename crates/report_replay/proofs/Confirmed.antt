@@ -4,6 +4,7 @@ use Rattle.std.proofs.Common.{None, length, map, refl, sym, ap, ◌∙◌, subst
 use Rattle.std.specs.Prelude.{◌==◌, slice_get, reverse}
 use Rattle.std.specs.List.{AllByRecursion, flat_map, list_all}
 use Rattle.std.proofs.lemmas.Bool.{and_parts, and_from, not-true, eqb-true}
+use Rattle.std.specs.Option.{option_or}
 use Rattle.std.proofs.lemmas.List.Sums.{AllPass-from_list_all}
 use Rattle.fol_sig.specs.Tables.{Tables, InRange, tuple_count, place_of, relation_at, function_at, rel_at, fun_at}
 use Rattle.fol_sig.specs.Tables.{reading}
@@ -42,7 +43,7 @@ use Rattle.report_replay.specs.Demands.{execution_demands, answer_demands, group
 use Rattle.report_replay.specs.Demands.{end_line, table_count}
 use Rattle.report_replay.specs.Judgements.{first_unmet, demands, judged_by, verdict_demand, same_verdict}
 use Rattle.report_replay.specs.Judgements.{verdict_of, executions}
-use Rattle.report_replay.specs.Judging.{CanFollow, CanReplay, or_else}
+use Rattle.report_replay.specs.Judging.{CanFollow, CanReplay}
 use Rattle.report_replay.specs.Laws.{HasSameTables, EndsAs, IsShown, Shows, ConfirmedIsRight}
 use Rattle.report_replay.specs.declared.judged.Fault.{Fault}
 use Rattle.report_replay.specs.declared.judged.Judged.TheVariants.{Confirmed}
@@ -52,11 +53,11 @@ use Rattle.report_replay.proofs.Sizes.{keeps_sizes}
 use Rattle.report_replay.proofs.Ready.{can_judge, has_after}
 
 -- no demand of two lists is unmet
-none_first : (o p : Option Fault) → or_else o p ≡ None → o ≡ None
+none_first : (o p : Option Fault) → option_or o p ≡ None → o ≡ None
 none_first None p e = refl
 none_first (Some f) p e = absurd (cc e)
 
-none_second : (o p : Option Fault) → or_else o p ≡ None → p ≡ None
+none_second : (o p : Option Fault) → option_or o p ≡ None → p ≡ None
 none_second None p e = e
 none_second (Some f) p e = absurd (cc e)
 
@@ -177,7 +178,7 @@ module _ (by_paths : PathHasFollowedOutcomes) (kinds : PathsKeepKind) (ax : List
       (record { havocs = hs; count = count; ends = e }))
 
 allowed : (m : ModelTree) (x : Stage) (s : Tables) → satisfies s m.axioms ≡ true → is_kept_before m x s ≡ true
-    → is_allowed m x s ≡ true
+    → is_allowed m m.conjectures x s ≡ true
 allowed m stage.Init s e f = e
 allowed m (stage.Action a) s e f = and_from (satisfies s m.axioms) (satisfies s m.conjectures) e f
 allowed m stage.Final s e f = and_from (satisfies s m.axioms) (satisfies s m.conjectures) e f
@@ -333,7 +334,7 @@ module _ (numbered : TuplesAreNumbered) (by_paths : PathHasFollowedOutcomes) (ki
             path = exec.is_goal.path;
             is_path = is_path;
             structure = exec.structure;
-            allowed = subst (λ x. is_allowed m x shown.structure ≡ true) (sym stage_is)
+            allowed = subst (λ x. is_allowed m m.conjectures x shown.structure ≡ true) (sym stage_is)
                 (allowed m g.stage shown.structure so.lawful so.kept);
             count = count;
             fails = subst (λ a. FailsGoal m a shown.values

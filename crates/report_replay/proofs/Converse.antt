@@ -4,6 +4,7 @@ use Rattle.std.proofs.Common.{None, length, map, refl, sym, ap, ◌∙◌, subst
 use Rattle.std.specs.Prelude.{◌==◌, not, slice_get, reverse}
 use Rattle.std.specs.List.{AllByRecursion, flat_map, list_all}
 use Rattle.std.proofs.lemmas.Bool.{and_parts, and_from, eq-eqb}
+use Rattle.std.specs.Option.{option_or}
 use Rattle.std.proofs.lemmas.List.{get_or_default}
 use Rattle.std.proofs.lemmas.List.Sums.{list_all-from_AllPass}
 use Rattle.base.specs.Lists.{count_from}
@@ -33,7 +34,7 @@ use Rattle.report_replay.specs.Demands.{end_demands, outcome_demands, execution_
 use Rattle.report_replay.specs.Demands.{before_line, havoc_line, end_line}
 use Rattle.report_replay.specs.Judgements.{first_unmet, demands, judged_by, verdict_demand, same_verdict}
 use Rattle.report_replay.specs.Judgements.{verdict_of}
-use Rattle.report_replay.specs.Judging.{CanFollow, CanReplay, or_else}
+use Rattle.report_replay.specs.Judging.{CanFollow, CanReplay}
 use Rattle.report_replay.specs.Laws.{HasSameTables, EndsAs, IsShown, Shows, RightIsConfirmed}
 use Rattle.report_replay.specs.declared.judged.Judged.TheVariants.{Confirmed}
 use Rattle.report_replay.specs.declared.denial.DenialCode.TheVariants as denial
@@ -46,7 +47,7 @@ same_as false b e = ap not (sym e)
 
 -- lists of demands that are met
 both_met : (xs ys : List Demand) → first_unmet xs ≡ None → first_unmet ys ≡ None → first_unmet (xs ++ ys) ≡ None
-both_met xs ys e f = unmet_append xs ys ∙ ap (λ o. or_else o (first_unmet ys)) e ∙ f
+both_met xs ys e f = unmet_append xs ys ∙ ap (λ o. option_or o (first_unmet ys)) e ∙ f
 
 first_met : (d : Demand) (ds : List Demand) → d.met ≡ true → first_unmet ds ≡ None → first_unmet (d ∷ ds) ≡ None
 first_met d ds e f =
@@ -148,7 +149,7 @@ record IsLawful (m : ModelTree) (x : Stage) (s : Tables) : Type 0 where
   axioms : satisfies s m.axioms ≡ true
   conjectures : is_kept_before m x s ≡ true
 
-is_lawful : (m : ModelTree) (x : Stage) (s : Tables) → is_allowed m x s ≡ true → IsLawful m x s
+is_lawful : (m : ModelTree) (x : Stage) (s : Tables) → is_allowed m m.conjectures x s ≡ true → IsLawful m x s
 is_lawful m stage.Init s h = record { axioms = h; conjectures = refl }
 is_lawful m (stage.Action a) s h =
     let p = and_parts (satisfies s m.axioms) (satisfies s m.conjectures) h in
@@ -172,7 +173,7 @@ module _ (numbered : TuplesAreNumbered) (m : ModelTree) where
       let ends : EndsSo m after (outcome_of m shown) = ends_so m shown after is.ends in
       let lawful : IsLawful m g.stage shown.structure =
       is_lawful m g.stage shown.structure
-      (subst (λ x. is_allowed m x shown.structure ≡ true) stage_is is.refutes.allowed) in
+      (subst (λ x. is_allowed m m.conjectures x shown.structure ≡ true) stage_is is.refutes.allowed) in
       first_met (record { line = before_line g; code = denial.AxiomIsFalse; met = satisfies shown.structure m.axioms })
       (record { line = before_line g; code = denial.ConjectureIsFalse; met = is_kept_before m g.stage shown.structure }
       ∷ outcome_demands m g shown after (outcome_of m shown)) lawful.axioms

@@ -2,19 +2,19 @@
 use Rattle.std.proofs.Common.{◌≡◌, ℕ, zero, suc, ◌+◌, ◌-◌, ◌<◌, ◌≤◌, Bool, true, false, List, [], ◌∷◌, ◌++◌, Some}
 use Rattle.std.proofs.Common.{None, Option, map, refl, sym, ap, ◌∙◌, cond, arith}
 use Rattle.std.specs.Prelude.{not}
+use Rattle.std.specs.Option.{option_or}
 use Rattle.base.specs.Lists.{count_from}
 use Rattle.report_replay.specs.Demands.{Demand}
 use Rattle.report_replay.specs.Judgements.{first_unmet}
-use Rattle.report_replay.specs.Judging.{or_else}
 use Rattle.report_replay.specs.declared.judged.Fault.{Fault}
 
-pub unmet_append : (xs ys : List Demand) → first_unmet (xs ++ ys) ≡ or_else (first_unmet xs) (first_unmet ys)
+pub unmet_append : (xs ys : List Demand) → first_unmet (xs ++ ys) ≡ option_or (first_unmet xs) (first_unmet ys)
 unmet_append [] ys = refl
 unmet_append (d ∷ ds) ys = by d.met (unmet_append ds ys)
   where
-    by : (t : Bool) → first_unmet (ds ++ ys) ≡ or_else (first_unmet ds) (first_unmet ys)
+    by : (t : Bool) → first_unmet (ds ++ ys) ≡ option_or (first_unmet ds) (first_unmet ys)
         → cond t (first_unmet (ds ++ ys)) (Some (record { line = d.line; code = d.code }))
-        ≡ or_else (cond t (first_unmet ds) (Some (record { line = d.line; code = d.code }))) (first_unmet ys)
+        ≡ option_or (cond t (first_unmet ds) (Some (record { line = d.line; code = d.code }))) (first_unmet ys)
     by true h = h
     by false h = refl
 
@@ -49,11 +49,11 @@ unmet_here D k c whole lt met h =
     (Some (record { line = (D k).line; code = (D k).code }))) met) ∙ sym (unmet_turn D k c lt) ∙ h
 
 pub unmet_first : (xs ys : List Demand) (f : Fault) → first_unmet xs ≡ Some f → Some f ≡ first_unmet (xs ++ ys)
-unmet_first xs ys f e = sym (unmet_append xs ys ∙ ap (λ o. or_else o (first_unmet ys)) e)
+unmet_first xs ys f e = sym (unmet_append xs ys ∙ ap (λ o. option_or o (first_unmet ys)) e)
 
 pub unmet_second : (xs ys : List Demand) (o : Option Fault) → first_unmet xs ≡ None → o ≡ first_unmet ys
     → o ≡ first_unmet (xs ++ ys)
-unmet_second xs ys o e f = f ∙ sym (unmet_append xs ys ∙ ap (λ p. or_else p (first_unmet ys)) e)
+unmet_second xs ys o e f = f ∙ sym (unmet_append xs ys ∙ ap (λ p. option_or p (first_unmet ys)) e)
 
 -- of one demand
 pub unmet_one : (d : Demand) → d.met ≡ false → Some (record { line = d.line; code = d.code }) ≡ first_unmet (d ∷ [])

@@ -1,5 +1,5 @@
 -- What the private functions that judge are given and give.
-use Rattle.std.specs.Prelude.{◌≡◌, ℕ, ◌+◌, ◌≤◌, ◌^◌, List, Option, Some, None}
+use Rattle.std.specs.Prelude.{◌≡◌, ℕ, ◌+◌, ◌≤◌, ◌^◌, List}
 use Rattle.rml_command.specs.Models.{ModelTree}
 use Rattle.fol_sig.specs.Tables.{Tables, InRange}
 use Rattle.fol_sig.specs.Symbols.{Symbols, FitsStructure, symbols}
@@ -40,11 +40,6 @@ pub record HasBody (s : Tables) (p : FormTree) (env values : List ℕ) : Type 0 
   pub formula : FitsForm sig sorts p
   pub elements : InRange s.sizes sorts env
   pub in_range : InRange s.sizes (leading_sorts p) values
-
--- the first of two faults
-abbrev pub or_else : Option Fault → Option Fault → Option Fault
-or_else None other = other
-or_else (Some fault) other = Some fault
 
 -- how a path ends: in a structure of these sizes
 abbrev pub EndIsAlike : ModelTree → Tables → Followed → Type 0

@@ -1,7 +1,7 @@
 -- How many paths of a list end in abort, and how many go on.
-use Rattle.std.specs.Prelude.{ℕ, suc, min, if◌then◌else◌, List, [], ◌∷◌}
+use Rattle.std.specs.Prelude.{ℕ, suc, ◌+◌, min, if◌then◌else◌, List, [], ◌∷◌}
 use Rattle.rml_command.specs.Trees.{PrimitiveTree}
-use Rattle.rml_command.specs.Paths.{has_abort}
+use Rattle.rml_command.specs.Paths.{has_abort, max_paths}
 
 -- the paths that go on
 abbrev pub open_count : List (List PrimitiveTree) → ℕ
@@ -15,4 +15,4 @@ stopped_count (p ∷ ps) = if has_abort p then suc (stopped_count ps) else stopp
 
 -- a count that stops one above the limit
 abbrev pub capped : ℕ → ℕ
-capped n = min n 4097
+capped n = min n (max_paths + 1)

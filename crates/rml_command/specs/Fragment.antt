@@ -7,7 +7,7 @@ use Rattle.fol_formula.specs.Syntax.{FormTree}
 use Rattle.fol_formula.specs.Fragments.{IsEa, IsAe, IsPlainUniversal, IsQuantifierFree, IsQuantifierFreeTerm}
 use Rattle.rml_command.specs.Trees.{PrimitiveTree, assume, set_rel, set_fun, havoc, havoc_rel, abort, CommandTree}
 use Rattle.rml_command.specs.Trees.{EachPrimitive}
-use Rattle.rml_command.specs.Paths.{paths_of}
+use Rattle.rml_command.specs.Paths.{paths_of, max_paths}
 use Rattle.rml_command.specs.Models.{ModelTree, EachBlock, IsModel}
 use Rattle.rml_command.specs.declared.places.Word.{Word}
 use Rattle.rml_command.specs.declared.places.Word.TheVariants as word
@@ -37,9 +37,9 @@ pub record IsInModelFragment (m : ModelTree) : Type 0 where
   pub conditions : AllByRecursion (λ c. IsDecidable c.word c.sentence) m.places.conditions
   pub blocks : EachBlock (EachPrimitive IsInFragment) m
 
--- a block has at most 4,096 paths
+-- a block has no more paths than it may
 abbrev pub HasFewPaths : CommandTree → Type 0
-HasFewPaths c = length (paths_of c) ≤ 4096
+HasFewPaths c = length (paths_of c) ≤ max_paths
 
 -- What holds of every checked model.
 pub record IsChecked (m : ModelTree) : Type 0 where

@@ -18,6 +18,10 @@ use Rattle.rml_command.specs.Trees.{
   command_then,
 }
 
+-- how many paths a block may have
+abbrev pub max_paths : ℕ
+max_paths = 4096
+
 abbrev pub is_abort : PrimitiveTree → Bool
 is_abort (assume p) = false
 is_abort (set_rel r by) = false

@@ -4,7 +4,7 @@ ghost use Rattle.std.specs.Prelude.{◌≡◌, ◌≤◌, [], length, map};
 ghost use Rattle.std.specs.List.{AllByRecursion};
 ghost use Rattle.fol_sig.specs.Symbols.{symbols};
 ghost use Rattle.fol_sig.specs.Strata.{IsStrata};
-ghost use Rattle.rml_command.specs.Paths.{paths_of};
+ghost use Rattle.rml_command.specs.Paths.{max_paths, paths_of};
 ghost use Rattle.rml_command.specs.Models.{EachBlock, FitsPath};
 ghost use Rattle.rml_command.specs.Fragment.{IsInFragment, IsInModelFragment, HasFewPaths, IsChecked};
 ghost use Rattle.rml_command.specs.Goals.{stage_paths, goal_path, IsGoal};
@@ -116,7 +116,7 @@ impl Checked {
     /// The paths of a stage's block, in order, of which there are few. An action that the model lacks has none.
     pub fn stage_paths(&self, stage: Stage) -> &Paths
         ensures paths { result.now ≡ stage_paths self.now stage }
-        ensures few { length result.now ≤ 4096 }
+        ensures few { length result.now ≤ max_paths }
         ensures checked { IsChecked self.now }
     {
         self.block_paths(stage)

@@ -27,7 +27,7 @@ pub use havoc::{Havoc, copy_havocs, havocs_of};
 pub use laws::{
     block_law, fresh_law, goal_law, list_law, path_law, run_law, update_law, value_law,
 };
-pub use listing::{MAX_PATHS, TooManyPaths, has_few_paths, paths};
+pub use listing::{MAX_PATHS, TooManyPaths, few_paths, has_few_paths, paths};
 pub use model::{Model, Parts};
 pub use names::{Name, Names};
 pub use path::{Path, Primitives};

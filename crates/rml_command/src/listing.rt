@@ -4,7 +4,8 @@ ghost use Rattle.std.specs.Prelude.{◌≡◌, ◌+◌, ◌*◌, ◌^◌, ◌<�
 ghost use Rattle.std.specs.List.{AllByRecursion, flat_map};
 ghost use Rattle.base.specs.Because.{Because};
 ghost use Rattle.rml_command.specs.View.{primitive as primitive_view, command as command_view, commands};
-ghost use Rattle.rml_command.specs.Paths.{continued, paths_of, paths_in_turn, paths_of_each};
+ghost use Rattle.rml_command.specs.Paths.{continued, max_paths, paths_of, paths_in_turn, paths_of_each};
+ghost use Rattle.rml_command.specs.Fragment.{HasFewPaths};
 ghost use Rattle.rml_command.specs.Counts.{open_count, stopped_count, capped};
 ghost use Rattle.rml_command.specs.Routes.{Grows, IsRoute, path_along};
 
@@ -14,7 +15,7 @@ use crate::drafts::{Drafts, only};
 use crate::route::Route;
 use crate::span::Span;
 use base::{Mem, Refused, place_of};
-use std::alloc::Global;
+use std::alloc::{AllocError, Global};
 
 /// How many paths a block may have.
 pub const MAX_PATHS: u64 = 4096;
@@ -28,8 +29,8 @@ pub struct TooManyPaths;
 /// the spans of its paths.
 pub fn paths(alloc: Global, command: &Command) -> Result<Paths, Refused<TooManyPaths>>
     ensures paths { IfOk result (λ ps. ps ≡ paths_of (command_view command.now)) }
-    ensures few { OnOk result (length (paths_of (command_view command.now)) ≤ MAX_PATHS) }
-    ensures many { IfErr result (Because (λ cause. MAX_PATHS < length (paths_of (command_view command.now)))) }
+    ensures few { OnOk result (length (paths_of (command_view command.now)) ≤ max_paths) }
+    ensures many { IfErr result (Because (λ cause. max_paths < length (paths_of (command_view command.now)))) }
 {
     if !has_few_paths(command) {
         return Err(Refused::For(TooManyPaths));
@@ -39,9 +40,21 @@ pub fn paths(alloc: Global, command: &Command) -> Result<Paths, Refused<TooManyP
     Ok(Paths::new(primitives, routes))
 }
 
+/// The paths of a block that is known to have few.
+pub fn few_paths(alloc: Global, command: &Command) -> Mem<Paths>
+    requires { HasFewPaths (command_view command.now) }
+    ensures { IfOk result (λ ps. ps ≡ paths_of (command_view command.now)) }
+{
+    match paths(alloc, command) {
+        Ok(all) => Ok(all),
+        Err(Refused::For(_)) => unreachable!(),
+        Err(Refused::NoMemory) => Err(AllocError),
+    }
+}
+
 /// Whether a block has at most `MAX_PATHS` paths. No path is built, and no memory is taken.
 pub fn has_few_paths(command: &Command) -> bool
-    ensures { IsTrue result ↔ (length (paths_of (command_view command.now)) ≤ MAX_PATHS) }
+    ensures { IsTrue result ↔ (length (paths_of (command_view command.now)) ≤ max_paths) }
 {
     let counts = count(command);
     sum(counts.onward, counts.stopped) <= MAX_PATHS

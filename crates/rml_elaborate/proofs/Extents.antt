@@ -10,7 +10,7 @@ use Rattle.fol_subst.specs.Extents.{capped, extent, none, one, beside, over, put
 use Rattle.fol_subst.specs.declared.extent.Extent.{Extent}
 use Rattle.fol_subst.specs.Templates.{filled, form_extent, forms_extent, term_extent, terms_extent, ExtentsAreCounts}
 use Rattle.rml_command.specs.Fresh.{parameters}
-use Rattle.rml_elaborate.specs.Updates.{term_count, at_tuple, right_of_insertion, right_of_removal}
+use Rattle.rml_elaborate.specs.Updates.{at_tuple, right_of_insertion, right_of_removal}
 use Rattle.rml_elaborate.specs.Updates.{right_of_placement}
 use Rattle.rml_elaborate.specs.Sizes.{is_beyond, is_large, is_large_term, where_large}
 
@@ -107,32 +107,32 @@ parameters_extend (suc n) =
     ∙ ap (beside one) (parameters_extend n)
 
 pub inserted : ExtentsAreCounts → (r n : ℕ) (ts : TermTrees) (params held tuple both whole : Extent)
-    → n ≡ term_count ts → params ≡ terms_extent (parameters n) → held ≡ over params
+    → n ≡ size_of ts → params ≡ terms_extent (parameters n) → held ≡ over params
     → tuple ≡ form_extent (at_tuple ts) → both ≡ beside held tuple → whole ≡ over both
     → whole ≡ form_extent (right_of_insertion r ts)
 inserted counts r n ts params held tuple both whole count e1 e2 e3 e4 e5 =
-    let own = terms_extent (parameters (term_count ts)) in
+    let own = terms_extent (parameters (size_of ts)) in
     let first : held ≡ over own = e2 ∙ ap over (e1 ∙ ap (λ k. terms_extent (parameters k)) count) in
     let second = e3 ∙ sym (beside-none (form_extent (at_tuple ts)) (form-small counts (at_tuple ts))) in
     e5 ∙ ap over (e4 ∙ ap (λ z. beside z tuple) first ∙ ap (beside (over own)) second)
 
 pub removed : ExtentsAreCounts → (r n : ℕ) (ts : TermTrees) (params held tuple other both whole : Extent)
-    → n ≡ term_count ts → params ≡ terms_extent (parameters n) → held ≡ over params
+    → n ≡ size_of ts → params ≡ terms_extent (parameters n) → held ≡ over params
     → tuple ≡ form_extent (at_tuple ts) → other ≡ over tuple → both ≡ beside held other → whole ≡ over both
     → whole ≡ form_extent (right_of_removal r ts)
 removed counts r n ts params held tuple other both whole count e1 e2 e3 e4 e5 e6 =
-    let own = terms_extent (parameters (term_count ts)) in
+    let own = terms_extent (parameters (size_of ts)) in
     let not_there = negation (at_tuple ts) in
     let first : held ≡ over own = e2 ∙ ap over (e1 ∙ ap (λ k. terms_extent (parameters k)) count) in
     let second = e4 ∙ ap over e3 ∙ sym (beside-none (form_extent not_there) (form-small counts not_there)) in
     e6 ∙ ap over (e5 ∙ ap (λ z. beside z other) first ∙ ap (beside (over own)) second)
 
 pub placed : (f n : ℕ) (ts : TermTrees) (u : TermTree) (params kept put both tuple all whole : Extent)
-    → n ≡ term_count ts → params ≡ terms_extent (parameters n) → kept ≡ over params → put ≡ term_extent u
+    → n ≡ size_of ts → params ≡ terms_extent (parameters n) → kept ≡ over params → put ≡ term_extent u
     → both ≡ beside put kept → tuple ≡ form_extent (at_tuple ts) → all ≡ beside tuple both → whole ≡ over all
     → whole ≡ term_extent (right_of_placement f ts u)
 placed f n ts u params kept put both tuple all whole count e1 e2 e3 e4 e5 e6 e7 =
-    let own = terms_extent (parameters (term_count ts)) in
+    let own = terms_extent (parameters (size_of ts)) in
     let third : kept ≡ over own = e2 ∙ ap over (e1 ∙ ap (λ k. terms_extent (parameters k)) count) in
     let second = e4 ∙ ap (λ z. beside z kept) e3 ∙ ap (beside (term_extent u)) third in
     e7 ∙ ap over (e6 ∙ ap (λ z. beside z both) e5 ∙ ap (beside (form_extent (at_tuple ts))) second)

@@ -10,7 +10,6 @@ use Rattle.rml_command.specs.Fresh.{parameters}
 use Rattle.rml_names.specs.Vocabulary.{Vocabulary}
 use Rattle.rml_names.specs.Meanings.{BoundName}
 use Rattle.rml_elaborate.specs.Formulas.{terms_of}
-use Rattle.rml_elaborate.specs.Updates.{term_count}
 
 -- one parameter more
 parameters-more : (n : ℕ) → 0 < n → parameters n ≡ term_then (bound (n - 1)) (parameters (n - 1))
@@ -32,10 +31,6 @@ parameters_turn lists n all more t whole some pushed made before =
 
 -- there is a term for each expression
 module _ (text : List ℕ) (v : Vocabulary) (bodies : List FormTree) (bs : List BoundName) where
-  pub terms_counted : (es : List Expr) → term_count (terms_of text v bodies bs (exprs_of (expr_trees es))) ≡ length es
+  pub terms_counted : (es : List Expr) → size_of (terms_of text v bodies bs (exprs_of (expr_trees es))) ≡ length es
   terms_counted [] = refl
   terms_counted (e ∷ es) = ap suc (terms_counted es)
-
-  pub terms_sized : (es : List Expr) → size_of (terms_of text v bodies bs (exprs_of (expr_trees es))) ≡ length es
-  terms_sized [] = refl
-  terms_sized (e ∷ es) = ap suc (terms_sized es)

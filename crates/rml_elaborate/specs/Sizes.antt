@@ -1,6 +1,7 @@
 -- How large a sentence or a right side is with all uses of derived relations written out, and where the first use
 -- stands.
 use Rattle.std.specs.Prelude.{ℕ, ◌||◌, nat_lt, if◌then◌else◌, Bool, false, List, [], ◌∷◌, Option, Some, None}
+use Rattle.std.specs.Option.{option_or}
 use Rattle.fol_formula.specs.Syntax.{FormTree, TermTree}
 use Rattle.fol_formula.specs.Counts.{form_nodes, form_depth, term_nodes, term_depth}
 use Rattle.rml_terms.specs.declared.tree.Name.{Name}
@@ -39,11 +40,6 @@ is_large_update _ = false
 
 -- ---- uses
 
--- the first place of two, where there is one
-abbrev pub first_of : Option ℕ → Option ℕ → Option ℕ
-first_of (Some at) other = Some at
-first_of None other = other
-
 -- a name with this meaning, or else what stands in its arguments
 abbrev pub use_or_inside : Meaning → ℕ → Option ℕ → Option ℕ
 use_or_inside (Derived d) at inside = Some at
@@ -62,18 +58,18 @@ module _ (text : List ℕ) (v : Vocabulary) where
     first_use_of bs (Apply name args) =
         use_or_inside (meaning_of v bs (bytes_of text name)) name.start (first_use_in_each bs args)
     first_use_of bs (Ite at c a b) =
-        first_of (first_use_of bs c) (first_of (first_use_of bs a) (first_use_of bs b))
-    first_use_of bs (Equal at a b) = first_of (first_use_of bs a) (first_use_of bs b)
+        option_or (first_use_of bs c) (option_or (first_use_of bs a) (first_use_of bs b))
+    first_use_of bs (Equal at a b) = option_or (first_use_of bs a) (first_use_of bs b)
     first_use_of bs (Not at a) = first_use_of bs a
     first_use_of bs (And at args) = first_use_in_each bs args
     first_use_of bs (Or at args) = first_use_in_each bs args
-    first_use_of bs (Implies at a b) = first_of (first_use_of bs a) (first_use_of bs b)
-    first_use_of bs (Iff at a b) = first_of (first_use_of bs a) (first_use_of bs b)
+    first_use_of bs (Implies at a b) = option_or (first_use_of bs a) (first_use_of bs b)
+    first_use_of bs (Iff at a b) = option_or (first_use_of bs a) (first_use_of bs b)
     first_use_of bs (Quantified q at b a) = first_use_of (binding text v b ∷ bs) a
 
     pub first_use_in_each : List BoundName → ExprTrees → Option ℕ
     first_use_in_each bs no_expr = None
-    first_use_in_each bs (and_expr e es) = first_of (first_use_of bs e) (first_use_in_each bs es)
+    first_use_in_each bs (and_expr e es) = option_or (first_use_of bs e) (first_use_in_each bs es)
 
   -- in the right side of an assignment, under its parameters
   abbrev pub first_use_in_side : Meaning → List Name → Option ExprTree → Option ℕ
@@ -110,7 +106,7 @@ module _ (text : List ℕ) (v : Vocabulary) where
     large_use_in_placement name args e =
         where_large
         (is_large_update (placement (symbol_of v (bytes_of text name)) (terms_of text v bodies [] args)
-        (term_of text v bodies [] e))) (first_of (first_use_in_each [] args) (first_use_of [] e))
+        (term_of text v bodies [] e))) (option_or (first_use_in_each [] args) (first_use_of [] e))
 
     -- and so of an assignment
     abbrev pub large_use_in_assignment : Name → List Name → Option ExprTree → Option ℕ

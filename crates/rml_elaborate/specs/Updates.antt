@@ -1,7 +1,7 @@
 -- The primitives that the updates of a text stand for.
-use Rattle.std.specs.Prelude.{ℕ, suc, List, [], Option, Some, None}
+use Rattle.std.specs.Prelude.{ℕ, List, [], Option, Some, None}
 use Rattle.fol_formula.specs.Syntax.{FormTree, FormTrees, TermTree, TermTrees, rel, equal, negation, conjunction}
-use Rattle.fol_formula.specs.Syntax.{disjunction, no_forms, form_then, bound, app, ite, no_terms, term_then}
+use Rattle.fol_formula.specs.Syntax.{disjunction, no_forms, form_then, bound, app, ite, size_of, no_terms, term_then}
 use Rattle.rml_terms.specs.declared.tree.Name.{Name}
 use Rattle.rml_terms.specs.declared.tree.Binder.{Binder}
 use Rattle.rml_terms.specs.Tree.{ExprTree}
@@ -15,14 +15,10 @@ use Rattle.rml_elaborate.specs.Formulas.{formula_of, term_of}
 
 -- ---- updates at one tuple
 
-abbrev pub term_count : TermTrees → ℕ
-term_count no_terms = 0
-term_count (term_then t ts) = suc (term_count ts)
-
 -- each parameter is the term
 abbrev pub equations : TermTrees → FormTrees
 equations no_terms = no_forms
-equations (term_then t ts) = form_then (equal (bound (term_count ts)) t) (equations ts)
+equations (term_then t ts) = form_then (equal (bound (size_of ts)) t) (equations ts)
 
 -- the parameters are these terms, one by one
 abbrev pub at_tuple : TermTrees → FormTree
@@ -31,7 +27,7 @@ at_tuple ts = conjunction (equations ts)
 -- insert r(t..) is r(x..) := r(x..) | (x1 = t1 & ..)
 abbrev pub right_of_insertion : ℕ → TermTrees → FormTree
 right_of_insertion r ts =
-    disjunction (form_then (rel r (parameters (term_count ts))) (form_then (at_tuple ts) no_forms))
+    disjunction (form_then (rel r (parameters (size_of ts))) (form_then (at_tuple ts) no_forms))
 
 -- the primitive of an `insert`; what stands for a target that is no relation is read by nobody
 abbrev pub insertion : Meaning → TermTrees → PrimitiveTree
@@ -41,7 +37,7 @@ insertion _ ts = abort
 -- remove r(t..) is r(x..) := r(x..) & ~(x1 = t1 & ..)
 abbrev pub right_of_removal : ℕ → TermTrees → FormTree
 right_of_removal r ts =
-    conjunction (form_then (rel r (parameters (term_count ts))) (form_then (negation (at_tuple ts)) no_forms))
+    conjunction (form_then (rel r (parameters (size_of ts))) (form_then (negation (at_tuple ts)) no_forms))
 
 -- the primitive of a `remove`, likewise
 abbrev pub removal : Meaning → TermTrees → PrimitiveTree
@@ -50,7 +46,7 @@ removal _ ts = abort
 
 -- put f(t..) = u is f(x..) := ite(x1 = t1 & .., u, f(x..))
 abbrev pub right_of_placement : ℕ → TermTrees → TermTree → TermTree
-right_of_placement f ts u = ite (at_tuple ts) u (app f (parameters (term_count ts)))
+right_of_placement f ts u = ite (at_tuple ts) u (app f (parameters (size_of ts)))
 
 -- the primitive of a `put`; what stands for a target that is no function is read by nobody
 abbrev pub placement : Meaning → TermTrees → TermTree → PrimitiveTree

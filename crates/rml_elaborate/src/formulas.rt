@@ -9,7 +9,7 @@ ghost use Rattle.rml_names.specs.declared.meaning.Meaning.TheVariants.{Derived};
 ghost use Rattle.fol_subst.specs.Replace.{change_rel};
 ghost use Rattle.fol_subst.specs.Kept.{kept, kept_one};
 ghost use Rattle.rml_elaborate.specs.Formulas.{formula_of, formulas_of, term_of, terms_of, atom_of};
-ghost use Rattle.rml_names.specs.Scopes.{bound_names};
+ghost use Rattle.rml_names.specs.Scopes.{bound_names, max_bound};
 ghost use Rattle.rml_names.specs.Drafts.{words_in};
 ghost use Rattle.rml_names.specs.Sound.{IsSorted};
 
@@ -30,8 +30,8 @@ pub fn formula(
     scope: &Scope,
     e: &Expr,
 ) -> Mem<Formula>
-    requires nests { ExprNests (108 - length (bound_names scope.now)) (expr_tree e.now) }
-    requires few { length (bound_names scope.now) ≤ 108 }
+    requires nests { ExprNests (max_bound - length (bound_names scope.now)) (expr_tree e.now) }
+    requires few { length (bound_names scope.now) ≤ max_bound }
     requires within { ExprWithin (length text.now) (expr_tree e.now) }
     requires sound { IsSorted (words_in draft.now.declared) }
     ensures { IfOk result (λ p. form p
@@ -72,8 +72,9 @@ fn atom(
     name: Name,
     args: &[Expr],
 ) -> Mem<Formula>
-    requires nests { ExprNests (108 - length (bound_names scope.now)) (Apply name (exprs_of (expr_trees args.now))) }
-    requires few { length (bound_names scope.now) ≤ 108 }
+    requires nests { ExprNests (max_bound - length (bound_names scope.now))
+        (Apply name (exprs_of (expr_trees args.now))) }
+    requires few { length (bound_names scope.now) ≤ max_bound }
     requires within { ExprWithin (length text.now) (Apply name (exprs_of (expr_trees args.now))) }
     requires sound { IsSorted (words_in draft.now.declared) }
     ensures { IfOk result (λ p. form p
@@ -105,8 +106,8 @@ fn written_out(
     place: u32,
     es: &[Expr],
 ) -> Mem<Formula>
-    requires nests { ExprsNest (108 - length (bound_names scope.now)) (exprs_of (expr_trees es.now)) }
-    requires few { length (bound_names scope.now) ≤ 108 }
+    requires nests { ExprsNest (max_bound - length (bound_names scope.now)) (exprs_of (expr_trees es.now)) }
+    requires few { length (bound_names scope.now) ≤ max_bound }
     requires within { ExprsWithin (length text.now) (exprs_of (expr_trees es.now)) }
     requires sound { IsSorted (words_in draft.now.declared) }
     ensures { IfOk result (λ p. form p
@@ -134,8 +135,8 @@ fn kept_terms(
     body: &Template,
     es: &[Expr],
 ) -> Mem<Vec<Term>>
-    requires nests { ExprsNest (108 - length (bound_names scope.now)) (exprs_of (expr_trees es.now)) }
-    requires few { length (bound_names scope.now) ≤ 108 }
+    requires nests { ExprsNest (max_bound - length (bound_names scope.now)) (exprs_of (expr_trees es.now)) }
+    requires few { length (bound_names scope.now) ≤ max_bound }
     requires within { ExprsWithin (length text.now) (exprs_of (expr_trees es.now)) }
     requires sound { IsSorted (words_in draft.now.declared) }
     ensures { IfOk result (λ ts. terms_view ts.items
@@ -164,8 +165,8 @@ fn kept_term(
     parameter: usize,
     e: &Expr,
 ) -> Mem<Term>
-    requires nests { ExprNests (108 - length (bound_names scope.now)) (expr_tree e.now) }
-    requires few { length (bound_names scope.now) ≤ 108 }
+    requires nests { ExprNests (max_bound - length (bound_names scope.now)) (expr_tree e.now) }
+    requires few { length (bound_names scope.now) ≤ max_bound }
     requires within { ExprWithin (length text.now) (expr_tree e.now) }
     requires sound { IsSorted (words_in draft.now.declared) }
     ensures { IfOk result (λ t. term_view t
@@ -192,8 +193,8 @@ fn quantified(
     b: Binder,
     body: &Expr,
 ) -> Mem<Formula>
-    requires nests { ExprNests (108 - length (bound_names scope.now)) (Quantified q at b (expr_tree body.now)) }
-    requires few { length (bound_names scope.now) ≤ 108 }
+    requires nests { ExprNests (max_bound - length (bound_names scope.now)) (Quantified q at b (expr_tree body.now)) }
+    requires few { length (bound_names scope.now) ≤ max_bound }
     requires within { ExprWithin (length text.now) (Quantified q at b (expr_tree body.now)) }
     requires sound { IsSorted (words_in draft.now.declared) }
     ensures { IfOk result (λ p. form p
@@ -225,8 +226,8 @@ fn boxed(
     scope: &Scope,
     e: &Expr,
 ) -> Mem<Box<Formula>>
-    requires nests { ExprNests (108 - length (bound_names scope.now)) (expr_tree e.now) }
-    requires few { length (bound_names scope.now) ≤ 108 }
+    requires nests { ExprNests (max_bound - length (bound_names scope.now)) (expr_tree e.now) }
+    requires few { length (bound_names scope.now) ≤ max_bound }
     requires within { ExprWithin (length text.now) (expr_tree e.now) }
     requires sound { IsSorted (words_in draft.now.declared) }
     ensures { IfOk result (λ p. form p.value
@@ -246,8 +247,8 @@ pub fn formulas(
     scope: &Scope,
     es: &[Expr],
 ) -> Mem<Vec<Formula>>
-    requires nests { ExprsNest (108 - length (bound_names scope.now)) (exprs_of (expr_trees es.now)) }
-    requires few { length (bound_names scope.now) ≤ 108 }
+    requires nests { ExprsNest (max_bound - length (bound_names scope.now)) (exprs_of (expr_trees es.now)) }
+    requires few { length (bound_names scope.now) ≤ max_bound }
     requires within { ExprsWithin (length text.now) (exprs_of (expr_trees es.now)) }
     requires sound { IsSorted (words_in draft.now.declared) }
     ensures { IfOk result (λ ps. forms ps.items
@@ -265,8 +266,8 @@ pub fn formulas(
 // The term of an expression in a term's place, under the binders of the scope.
 #[cycle(formula)]
 pub fn term(alloc: Global, text: &[u8], draft: &ModelDraft, scope: &Scope, e: &Expr) -> Mem<Term>
-    requires nests { ExprNests (108 - length (bound_names scope.now)) (expr_tree e.now) }
-    requires few { length (bound_names scope.now) ≤ 108 }
+    requires nests { ExprNests (max_bound - length (bound_names scope.now)) (expr_tree e.now) }
+    requires few { length (bound_names scope.now) ≤ max_bound }
     requires within { ExprWithin (length text.now) (expr_tree e.now) }
     requires sound { IsSorted (words_in draft.now.declared) }
     ensures { IfOk result (λ t. term_view t
@@ -302,8 +303,9 @@ fn application(
     name: Name,
     args: &[Expr],
 ) -> Mem<Term>
-    requires nests { ExprNests (108 - length (bound_names scope.now)) (Apply name (exprs_of (expr_trees args.now))) }
-    requires few { length (bound_names scope.now) ≤ 108 }
+    requires nests { ExprNests (max_bound - length (bound_names scope.now))
+        (Apply name (exprs_of (expr_trees args.now))) }
+    requires few { length (bound_names scope.now) ≤ max_bound }
     requires within { ExprWithin (length text.now) (Apply name (exprs_of (expr_trees args.now))) }
     requires sound { IsSorted (words_in draft.now.declared) }
     ensures { IfOk result (λ t. term_view t
@@ -330,8 +332,8 @@ fn boxed_term(
     scope: &Scope,
     e: &Expr,
 ) -> Mem<Box<Term>>
-    requires nests { ExprNests (108 - length (bound_names scope.now)) (expr_tree e.now) }
-    requires few { length (bound_names scope.now) ≤ 108 }
+    requires nests { ExprNests (max_bound - length (bound_names scope.now)) (expr_tree e.now) }
+    requires few { length (bound_names scope.now) ≤ max_bound }
     requires within { ExprWithin (length text.now) (expr_tree e.now) }
     requires sound { IsSorted (words_in draft.now.declared) }
     ensures { IfOk result (λ t. term_view t.value
@@ -351,8 +353,8 @@ pub fn terms(
     scope: &Scope,
     es: &[Expr],
 ) -> Mem<Vec<Term>>
-    requires nests { ExprsNest (108 - length (bound_names scope.now)) (exprs_of (expr_trees es.now)) }
-    requires few { length (bound_names scope.now) ≤ 108 }
+    requires nests { ExprsNest (max_bound - length (bound_names scope.now)) (exprs_of (expr_trees es.now)) }
+    requires few { length (bound_names scope.now) ≤ max_bound }
     requires within { ExprsWithin (length text.now) (exprs_of (expr_trees es.now)) }
     requires sound { IsSorted (words_in draft.now.declared) }
     ensures { IfOk result (λ ts. terms_view ts.items

@@ -1,20 +1,21 @@
 // Whether a sentence, a definition or an update is too large with all uses of derived relations written out, and where
 // the first use stands then. Nothing is built.
 ghost use Rattle.std.specs.Prelude.{◌≡◌, ◌≤◌, ◌-◌, ◌+◌, [], length, option_map, Some};
+ghost use Rattle.std.specs.Option.{option_or};
 ghost use Rattle.fol_sig.specs.Tables.{numbers};
 ghost use Rattle.rml_terms.specs.Tree.{expr_tree, expr_trees, exprs_of};
-ghost use Rattle.rml_terms.specs.Shape.{ExprNests, ExprsNest};
+ghost use Rattle.rml_terms.specs.Shape.{ExprNests, ExprsNest, max_nesting};
 ghost use Rattle.rml_terms.specs.Within.{NameWithin, NamesWithin, ExprWithin, ExprsWithin};
 ghost use Rattle.rml_syntax.specs.Shape.{SideNests};
 ghost use Rattle.rml_syntax.specs.Within.{ValueWithin, BindersWithin};
 ghost use Rattle.rml_names.specs.Meanings.{with_parameters as names_with, with_binders};
 ghost use Rattle.rml_names.specs.Meanings.{argument_sorts as sorts_of_arguments};
-ghost use Rattle.rml_names.specs.Scopes.{bound_names};
+ghost use Rattle.rml_names.specs.Scopes.{bound_names, max_bound};
 ghost use Rattle.rml_names.specs.Drafts.{words_in};
 ghost use Rattle.rml_names.specs.Sound.{IsSorted};
 ghost use Rattle.rml_elaborate.specs.Formulas.{term_of, terms_of};
 ghost use Rattle.rml_elaborate.specs.Updates.{assignment, right_of_insertion, right_of_removal, right_of_placement};
-ghost use Rattle.rml_elaborate.specs.Sizes.{is_large, is_large_term, is_large_update, where_large, first_of};
+ghost use Rattle.rml_elaborate.specs.Sizes.{is_large, is_large_term, is_large_update, where_large};
 ghost use Rattle.rml_elaborate.specs.Sizes.{first_use_of};
 ghost use Rattle.rml_elaborate.specs.Sizes.{first_use_in_each, first_use_in_side};
 ghost use Rattle.rml_elaborate.specs.Sizes.{large_use_in_formula as large_use_of_formula};
@@ -24,18 +25,19 @@ ghost use Rattle.rml_elaborate.specs.Sizes.{large_use_in_removal as large_use_of
 ghost use Rattle.rml_elaborate.specs.Sizes.{large_use_in_placement as large_use_of_placement};
 ghost use Rattle.rml_elaborate.specs.Sizes.{large_use_in_assignment as large_use_of_assignment};
 ghost use Rattle.rml_elaborate.specs.Sizes.{large_use_in_definition as large_use_of_definition};
+ghost use Rattle.fol_sig.specs.Arguments.{max_arguments};
 
 use crate::formulas::sort_number;
 use crate::sizes::{formula_extent, term_extent, where_large};
 use crate::update_sizes::{insertion_extent, placement_extent, removal_extent};
-use crate::uses::{first_of, first_use, first_use_in_each_outside, first_use_outside};
+use crate::uses::{first_use, first_use_in_each_outside, first_use_outside};
 use fol_sig::Sort;
 use rml_names::{Meaning, ModelDraft, Scope, bytes};
 use rml_terms::{Binder, Expr, Name};
 
 /// The first use in an expression without binders around it, if its formula is too large.
 pub fn large_use_in_formula(text: &[u8], draft: &ModelDraft, e: &Expr) -> Option<u64>
-    requires nests { ExprNests 100 (expr_tree e.now) }
+    requires nests { ExprNests max_nesting (expr_tree e.now) }
     requires within { ExprWithin (length text.now) (expr_tree e.now) }
     requires sound { IsSorted (words_in draft.now.declared) }
     ensures { result ≡ large_use_of_formula text.now (words_in draft.now.declared) draft.now.bodies.items []
@@ -52,8 +54,8 @@ pub fn large_use_in_definition(
     e: &Expr,
 ) -> Option<u64>
     requires parameters { BindersWithin (length text.now) parameters.now }
-    requires few { length parameters.now ≤ 8 }
-    requires nests { ExprNests 100 (expr_tree e.now) }
+    requires few { length parameters.now ≤ max_arguments }
+    requires nests { ExprNests max_nesting (expr_tree e.now) }
     requires within { ExprWithin (length text.now) (expr_tree e.now) }
     requires sound { IsSorted (words_in draft.now.declared) }
     ensures { result ≡ large_use_of_definition text.now (words_in draft.now.declared) draft.now.bodies.items
@@ -70,10 +72,10 @@ pub fn large_use_in_insertion(
     args: &[Expr],
 ) -> Option<u64>
     requires name { NameWithin (length text.now) name }
-    requires nests { ExprsNest 100 (exprs_of (expr_trees args.now)) }
+    requires nests { ExprsNest max_nesting (exprs_of (expr_trees args.now)) }
     requires within { ExprsWithin (length text.now) (exprs_of (expr_trees args.now)) }
     requires sound { IsSorted (words_in draft.now.declared) }
-    requires few { length args.now ≤ 8 }
+    requires few { length args.now ≤ max_arguments }
     ensures { result ≡ large_use_of_insertion text.now (words_in draft.now.declared) draft.now.bodies.items name
         (exprs_of (expr_trees args.now)) }
 {
@@ -87,10 +89,10 @@ pub fn large_use_in_insertion(
 }
 
 fn insertion_use(text: &[u8], draft: &ModelDraft, symbol: u32, args: &[Expr]) -> Option<u64>
-    requires nests { ExprsNest 100 (exprs_of (expr_trees args.now)) }
+    requires nests { ExprsNest max_nesting (exprs_of (expr_trees args.now)) }
     requires within { ExprsWithin (length text.now) (exprs_of (expr_trees args.now)) }
     requires sound { IsSorted (words_in draft.now.declared) }
-    requires few { length args.now ≤ 8 }
+    requires few { length args.now ≤ max_arguments }
     ensures { result ≡ where_large
         (is_large (right_of_insertion symbol
         (terms_of text.now (words_in draft.now.declared) draft.now.bodies.items [] (exprs_of (expr_trees args.now)))))
@@ -109,10 +111,10 @@ pub fn large_use_in_removal(
     args: &[Expr],
 ) -> Option<u64>
     requires name { NameWithin (length text.now) name }
-    requires nests { ExprsNest 100 (exprs_of (expr_trees args.now)) }
+    requires nests { ExprsNest max_nesting (exprs_of (expr_trees args.now)) }
     requires within { ExprsWithin (length text.now) (exprs_of (expr_trees args.now)) }
     requires sound { IsSorted (words_in draft.now.declared) }
-    requires few { length args.now ≤ 8 }
+    requires few { length args.now ≤ max_arguments }
     ensures { result ≡ large_use_of_removal text.now (words_in draft.now.declared) draft.now.bodies.items name
         (exprs_of (expr_trees args.now)) }
 {
@@ -126,10 +128,10 @@ pub fn large_use_in_removal(
 }
 
 fn removal_use(text: &[u8], draft: &ModelDraft, symbol: u32, args: &[Expr]) -> Option<u64>
-    requires nests { ExprsNest 100 (exprs_of (expr_trees args.now)) }
+    requires nests { ExprsNest max_nesting (exprs_of (expr_trees args.now)) }
     requires within { ExprsWithin (length text.now) (exprs_of (expr_trees args.now)) }
     requires sound { IsSorted (words_in draft.now.declared) }
-    requires few { length args.now ≤ 8 }
+    requires few { length args.now ≤ max_arguments }
     ensures { result ≡ where_large
         (is_large (right_of_removal symbol
         (terms_of text.now (words_in draft.now.declared) draft.now.bodies.items [] (exprs_of (expr_trees args.now)))))
@@ -149,12 +151,12 @@ pub fn large_use_in_placement(
     value: &Expr,
 ) -> Option<u64>
     requires name { NameWithin (length text.now) name }
-    requires nests { ExprsNest 100 (exprs_of (expr_trees args.now)) }
+    requires nests { ExprsNest max_nesting (exprs_of (expr_trees args.now)) }
     requires within { ExprsWithin (length text.now) (exprs_of (expr_trees args.now)) }
-    requires value_nests { ExprNests 100 (expr_tree value.now) }
+    requires value_nests { ExprNests max_nesting (expr_tree value.now) }
     requires value_within { ExprWithin (length text.now) (expr_tree value.now) }
     requires sound { IsSorted (words_in draft.now.declared) }
-    requires few { length args.now ≤ 8 }
+    requires few { length args.now ≤ max_arguments }
     ensures { result ≡ large_use_of_placement text.now (words_in draft.now.declared) draft.now.bodies.items name
         (exprs_of (expr_trees args.now)) (expr_tree value.now) }
 {
@@ -174,22 +176,22 @@ fn placement_use(
     args: &[Expr],
     value: &Expr,
 ) -> Option<u64>
-    requires nests { ExprsNest 100 (exprs_of (expr_trees args.now)) }
+    requires nests { ExprsNest max_nesting (exprs_of (expr_trees args.now)) }
     requires within { ExprsWithin (length text.now) (exprs_of (expr_trees args.now)) }
-    requires value_nests { ExprNests 100 (expr_tree value.now) }
+    requires value_nests { ExprNests max_nesting (expr_tree value.now) }
     requires value_within { ExprWithin (length text.now) (expr_tree value.now) }
     requires sound { IsSorted (words_in draft.now.declared) }
-    requires few { length args.now ≤ 8 }
+    requires few { length args.now ≤ max_arguments }
     ensures { result ≡ where_large
         (is_large_term (right_of_placement symbol
         (terms_of text.now (words_in draft.now.declared) draft.now.bodies.items [] (exprs_of (expr_trees args.now)))
         (term_of text.now (words_in draft.now.declared) draft.now.bodies.items [] (expr_tree value.now))))
-        (first_of (first_use_in_each text.now (words_in draft.now.declared) [] (exprs_of (expr_trees args.now)))
+        (option_or (first_use_in_each text.now (words_in draft.now.declared) [] (exprs_of (expr_trees args.now)))
         (first_use_of text.now (words_in draft.now.declared) [] (expr_tree value.now))) }
 {
     fol_subst::extent_laws();
     let inside = first_use_in_each_outside(text, &draft.declared, args);
-    let place = first_of(inside, first_use_outside(text, &draft.declared, value));
+    let place = inside.or(first_use_outside(text, &draft.declared, value));
     where_large(placement_extent(text, draft, symbol, args, value), place)
 }
 
@@ -201,7 +203,7 @@ pub fn large_use_in_assignment(
     parameters: &[Name],
     value: &Option<Expr>,
 ) -> Option<u64>
-    requires nests { SideNests 100 (option_map expr_tree value.now) }
+    requires nests { SideNests max_nesting (option_map expr_tree value.now) }
     requires name { NameWithin (length text.now) name }
     requires parameters { NamesWithin (length text.now) parameters.now }
     requires within { ValueWithin (length text.now) (option_map expr_tree value.now) }
@@ -227,9 +229,9 @@ fn large_use_in_side(
     e: &Expr,
 ) -> Option<u64>
     requires parameters { NamesWithin (length text.now) parameters.now }
-    requires nests { ExprNests 100 (expr_tree e.now) }
+    requires nests { ExprNests max_nesting (expr_tree e.now) }
     requires within { ExprWithin (length text.now) (expr_tree e.now) }
-    requires few { length sorts.now ≤ 8 }
+    requires few { length sorts.now ≤ max_arguments }
     requires sorts { numbers sorts.now ≡ sorts_of_arguments (words_in draft.now.declared) meaning }
     requires sound { IsSorted (words_in draft.now.declared) }
     ensures { result ≡ where_large
@@ -250,8 +252,8 @@ fn large_use_in_side(
 
 // In an expression under the binders of the scope, by its formula.
 fn large_formula_use(text: &[u8], draft: &ModelDraft, scope: &Scope, e: &Expr) -> Option<u64>
-    requires nests { ExprNests (108 - length (bound_names scope.now)) (expr_tree e.now) }
-    requires few { length (bound_names scope.now) ≤ 108 }
+    requires nests { ExprNests (max_bound - length (bound_names scope.now)) (expr_tree e.now) }
+    requires few { length (bound_names scope.now) ≤ max_bound }
     requires within { ExprWithin (length text.now) (expr_tree e.now) }
     requires sound { IsSorted (words_in draft.now.declared) }
     ensures { result ≡ large_use_of_formula text.now (words_in draft.now.declared) draft.now.bodies.items
@@ -264,8 +266,8 @@ fn large_formula_use(text: &[u8], draft: &ModelDraft, scope: &Scope, e: &Expr) -
 
 // In an expression under the binders of the scope, by its term.
 fn large_term_use(text: &[u8], draft: &ModelDraft, scope: &Scope, e: &Expr) -> Option<u64>
-    requires nests { ExprNests (108 - length (bound_names scope.now)) (expr_tree e.now) }
-    requires few { length (bound_names scope.now) ≤ 108 }
+    requires nests { ExprNests (max_bound - length (bound_names scope.now)) (expr_tree e.now) }
+    requires few { length (bound_names scope.now) ≤ max_bound }
     requires within { ExprWithin (length text.now) (expr_tree e.now) }
     requires sound { IsSorted (words_in draft.now.declared) }
     ensures { result ≡ large_use_of_term text.now (words_in draft.now.declared) draft.now.bodies.items
@@ -286,9 +288,9 @@ fn large_formula_use_under(
     e: &Expr,
 ) -> Option<u64>
     requires parameters { NamesWithin (length text.now) parameters.now }
-    requires nests { ExprNests 100 (expr_tree e.now) }
+    requires nests { ExprNests max_nesting (expr_tree e.now) }
     requires within { ExprWithin (length text.now) (expr_tree e.now) }
-    requires few { length (bound_names scope.now) + length sorts.now ≤ 8 }
+    requires few { length (bound_names scope.now) + length sorts.now ≤ max_arguments }
     requires sound { IsSorted (words_in draft.now.declared) }
     ensures { result ≡ large_use_of_formula text.now (words_in draft.now.declared) draft.now.bodies.items
         (names_with text.now (bound_names scope.now) parameters.now (numbers sorts.now)) (expr_tree e.now) }
@@ -312,9 +314,9 @@ fn large_term_use_under(
     e: &Expr,
 ) -> Option<u64>
     requires parameters { NamesWithin (length text.now) parameters.now }
-    requires nests { ExprNests 100 (expr_tree e.now) }
+    requires nests { ExprNests max_nesting (expr_tree e.now) }
     requires within { ExprWithin (length text.now) (expr_tree e.now) }
-    requires few { length (bound_names scope.now) + length sorts.now ≤ 8 }
+    requires few { length (bound_names scope.now) + length sorts.now ≤ max_arguments }
     requires sound { IsSorted (words_in draft.now.declared) }
     ensures { result ≡ large_use_of_term text.now (words_in draft.now.declared) draft.now.bodies.items
         (names_with text.now (bound_names scope.now) parameters.now (numbers sorts.now)) (expr_tree e.now) }
@@ -337,9 +339,9 @@ fn large_use_under_binders(
     e: &Expr,
 ) -> Option<u64>
     requires parameters { BindersWithin (length text.now) parameters.now }
-    requires nests { ExprNests 100 (expr_tree e.now) }
+    requires nests { ExprNests max_nesting (expr_tree e.now) }
     requires within { ExprWithin (length text.now) (expr_tree e.now) }
-    requires few { length (bound_names scope.now) + length parameters.now ≤ 8 }
+    requires few { length (bound_names scope.now) + length parameters.now ≤ max_arguments }
     requires sound { IsSorted (words_in draft.now.declared) }
     ensures { result ≡ large_use_of_formula text.now (words_in draft.now.declared) draft.now.bodies.items
         (with_binders text.now (words_in draft.now.declared) (bound_names scope.now) parameters.now)

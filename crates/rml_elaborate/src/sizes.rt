@@ -2,14 +2,14 @@
 // the size of its right side and the places of the parameters there, which were counted once.
 ghost use Rattle.std.specs.Prelude.{◌≡◌, ◌-◌, ◌≤◌, [], length};
 ghost use Rattle.rml_terms.specs.Tree.{expr_tree, expr_trees, exprs_of, Quantified, Apply};
-ghost use Rattle.rml_terms.specs.Shape.{ExprNests, ExprsNest};
+ghost use Rattle.rml_terms.specs.Shape.{ExprNests, ExprsNest, max_nesting};
 ghost use Rattle.rml_terms.specs.Within.{ExprWithin, ExprsWithin};
 ghost use Rattle.fol_subst.specs.Templates.{form_extent, forms_extent, term_extent as extent_of_term};
 ghost use Rattle.fol_subst.specs.Templates.{terms_extent as extent_of_terms};
 ghost use Rattle.rml_elaborate.specs.Formulas.{formula_of, formulas_of, term_of, terms_of, atom_of};
 ghost use Rattle.rml_elaborate.specs.Sizes.{is_beyond, where_large};
 ghost use Rattle.rml_names.specs.declared.meaning.Meaning.TheVariants.{Derived};
-ghost use Rattle.rml_names.specs.Scopes.{bound_names};
+ghost use Rattle.rml_names.specs.Scopes.{bound_names, max_bound};
 ghost use Rattle.rml_names.specs.Drafts.{words_in};
 ghost use Rattle.rml_names.specs.Sound.{IsSorted};
 
@@ -39,7 +39,7 @@ pub fn where_large(extent: Extent, place: Option<u64>) -> Option<u64>
 
 // The extent of the term of an expression without binders around it.
 pub fn term_extent_outside(text: &[u8], draft: &ModelDraft, e: &Expr) -> Extent
-    requires nests { ExprNests 100 (expr_tree e.now) }
+    requires nests { ExprNests max_nesting (expr_tree e.now) }
     requires within { ExprWithin (length text.now) (expr_tree e.now) }
     requires sound { IsSorted (words_in draft.now.declared) }
     ensures { result ≡ extent_of_term
@@ -51,8 +51,8 @@ pub fn term_extent_outside(text: &[u8], draft: &ModelDraft, e: &Expr) -> Extent
 // The extent of the formula of an expression, under the binders of the scope.
 #[cycle(sizes)]
 pub fn formula_extent(text: &[u8], draft: &ModelDraft, scope: &Scope, e: &Expr) -> Extent
-    requires nests { ExprNests (108 - length (bound_names scope.now)) (expr_tree e.now) }
-    requires few { length (bound_names scope.now) ≤ 108 }
+    requires nests { ExprNests (max_bound - length (bound_names scope.now)) (expr_tree e.now) }
+    requires few { length (bound_names scope.now) ≤ max_bound }
     requires within { ExprWithin (length text.now) (expr_tree e.now) }
     requires sound { IsSorted (words_in draft.now.declared) }
     ensures { result ≡ form_extent
@@ -78,8 +78,9 @@ pub fn formula_extent(text: &[u8], draft: &ModelDraft, scope: &Scope, e: &Expr) 
 
 #[cycle(sizes)]
 fn atom_extent(text: &[u8], draft: &ModelDraft, scope: &Scope, name: Name, args: &[Expr]) -> Extent
-    requires nests { ExprNests (108 - length (bound_names scope.now)) (Apply name (exprs_of (expr_trees args.now))) }
-    requires few { length (bound_names scope.now) ≤ 108 }
+    requires nests { ExprNests (max_bound - length (bound_names scope.now))
+        (Apply name (exprs_of (expr_trees args.now))) }
+    requires few { length (bound_names scope.now) ≤ max_bound }
     requires within { ExprWithin (length text.now) (Apply name (exprs_of (expr_trees args.now))) }
     requires sound { IsSorted (words_in draft.now.declared) }
     ensures { result ≡ form_extent
@@ -96,8 +97,8 @@ fn atom_extent(text: &[u8], draft: &ModelDraft, scope: &Scope, name: Name, args:
 // The extent of what a use of a derived relation stands for.
 #[cycle(sizes)]
 fn use_extent(text: &[u8], draft: &ModelDraft, scope: &Scope, place: u32, es: &[Expr]) -> Extent
-    requires nests { ExprsNest (108 - length (bound_names scope.now)) (exprs_of (expr_trees es.now)) }
-    requires few { length (bound_names scope.now) ≤ 108 }
+    requires nests { ExprsNest (max_bound - length (bound_names scope.now)) (exprs_of (expr_trees es.now)) }
+    requires few { length (bound_names scope.now) ≤ max_bound }
     requires within { ExprsWithin (length text.now) (exprs_of (expr_trees es.now)) }
     requires sound { IsSorted (words_in draft.now.declared) }
     ensures { result ≡ form_extent (atom_of draft.now.bodies.items (Derived place)
@@ -128,8 +129,8 @@ fn quantified_extent(
     b: Binder,
     body: &Expr,
 ) -> Extent
-    requires nests { ExprNests (108 - length (bound_names scope.now)) (Quantified q at b (expr_tree body.now)) }
-    requires few { length (bound_names scope.now) ≤ 108 }
+    requires nests { ExprNests (max_bound - length (bound_names scope.now)) (Quantified q at b (expr_tree body.now)) }
+    requires few { length (bound_names scope.now) ≤ max_bound }
     requires within { ExprWithin (length text.now) (Quantified q at b (expr_tree body.now)) }
     requires sound { IsSorted (words_in draft.now.declared) }
     ensures { result ≡ form_extent
@@ -143,8 +144,8 @@ fn quantified_extent(
 
 #[cycle(sizes)]
 fn formulas_extent(text: &[u8], draft: &ModelDraft, scope: &Scope, es: &[Expr]) -> Extent
-    requires nests { ExprsNest (108 - length (bound_names scope.now)) (exprs_of (expr_trees es.now)) }
-    requires few { length (bound_names scope.now) ≤ 108 }
+    requires nests { ExprsNest (max_bound - length (bound_names scope.now)) (exprs_of (expr_trees es.now)) }
+    requires few { length (bound_names scope.now) ≤ max_bound }
     requires within { ExprsWithin (length text.now) (exprs_of (expr_trees es.now)) }
     requires sound { IsSorted (words_in draft.now.declared) }
     ensures { result ≡ forms_extent
@@ -161,8 +162,8 @@ fn formulas_extent(text: &[u8], draft: &ModelDraft, scope: &Scope, es: &[Expr]) 
 // The extent of the term of an expression, under the binders of the scope.
 #[cycle(sizes)]
 pub fn term_extent(text: &[u8], draft: &ModelDraft, scope: &Scope, e: &Expr) -> Extent
-    requires nests { ExprNests (108 - length (bound_names scope.now)) (expr_tree e.now) }
-    requires few { length (bound_names scope.now) ≤ 108 }
+    requires nests { ExprNests (max_bound - length (bound_names scope.now)) (expr_tree e.now) }
+    requires few { length (bound_names scope.now) ≤ max_bound }
     requires within { ExprWithin (length text.now) (expr_tree e.now) }
     requires sound { IsSorted (words_in draft.now.declared) }
     ensures { result ≡ extent_of_term
@@ -191,8 +192,9 @@ fn application_extent(
     name: Name,
     args: &[Expr],
 ) -> Extent
-    requires nests { ExprNests (108 - length (bound_names scope.now)) (Apply name (exprs_of (expr_trees args.now))) }
-    requires few { length (bound_names scope.now) ≤ 108 }
+    requires nests { ExprNests (max_bound - length (bound_names scope.now))
+        (Apply name (exprs_of (expr_trees args.now))) }
+    requires few { length (bound_names scope.now) ≤ max_bound }
     requires within { ExprWithin (length text.now) (Apply name (exprs_of (expr_trees args.now))) }
     requires sound { IsSorted (words_in draft.now.declared) }
     ensures { result ≡ extent_of_term
@@ -208,8 +210,8 @@ fn application_extent(
 
 #[cycle(sizes)]
 fn terms_extent(text: &[u8], draft: &ModelDraft, scope: &Scope, es: &[Expr]) -> Extent
-    requires nests { ExprsNest (108 - length (bound_names scope.now)) (exprs_of (expr_trees es.now)) }
-    requires few { length (bound_names scope.now) ≤ 108 }
+    requires nests { ExprsNest (max_bound - length (bound_names scope.now)) (exprs_of (expr_trees es.now)) }
+    requires few { length (bound_names scope.now) ≤ max_bound }
     requires within { ExprsWithin (length text.now) (exprs_of (expr_trees es.now)) }
     requires sound { IsSorted (words_in draft.now.declared) }
     ensures { result ≡ extent_of_terms

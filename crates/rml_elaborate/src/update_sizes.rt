@@ -2,13 +2,14 @@
 ghost use Rattle.std.specs.Prelude.{◌≡◌, ◌≤◌, [], length};
 ghost use Rattle.fol_subst.specs.Templates.{form_extent, term_extent as extent_of_term, terms_extent};
 ghost use Rattle.rml_terms.specs.Tree.{expr_tree, expr_trees, exprs_of};
-ghost use Rattle.rml_terms.specs.Shape.{ExprNests, ExprsNest};
+ghost use Rattle.rml_terms.specs.Shape.{ExprNests, ExprsNest, max_nesting};
 ghost use Rattle.rml_terms.specs.Within.{ExprWithin, ExprsWithin};
 ghost use Rattle.rml_command.specs.Fresh.{parameters};
 ghost use Rattle.rml_names.specs.Drafts.{words_in};
 ghost use Rattle.rml_names.specs.Sound.{IsSorted};
 ghost use Rattle.rml_elaborate.specs.Formulas.{term_of, terms_of};
 ghost use Rattle.rml_elaborate.specs.Updates.{at_tuple, right_of_insertion, right_of_removal, right_of_placement};
+ghost use Rattle.fol_sig.specs.Arguments.{max_arguments};
 
 use crate::sizes::term_extent_outside;
 use fol_subst::Extent;
@@ -17,10 +18,10 @@ use rml_terms::Expr;
 
 // The right side of an `insert`.
 pub fn insertion_extent(text: &[u8], draft: &ModelDraft, place: u32, args: &[Expr]) -> Extent
-    requires nests { ExprsNest 100 (exprs_of (expr_trees args.now)) }
+    requires nests { ExprsNest max_nesting (exprs_of (expr_trees args.now)) }
     requires within { ExprsWithin (length text.now) (exprs_of (expr_trees args.now)) }
     requires sound { IsSorted (words_in draft.now.declared) }
-    requires few { length args.now ≤ 8 }
+    requires few { length args.now ≤ max_arguments }
     ensures { result ≡ form_extent (right_of_insertion place
         (terms_of text.now (words_in draft.now.declared) draft.now.bodies.items [] (exprs_of (expr_trees args.now)))) }
 {
@@ -31,10 +32,10 @@ pub fn insertion_extent(text: &[u8], draft: &ModelDraft, place: u32, args: &[Exp
 
 // The right side of a `remove`.
 pub fn removal_extent(text: &[u8], draft: &ModelDraft, place: u32, args: &[Expr]) -> Extent
-    requires nests { ExprsNest 100 (exprs_of (expr_trees args.now)) }
+    requires nests { ExprsNest max_nesting (exprs_of (expr_trees args.now)) }
     requires within { ExprsWithin (length text.now) (exprs_of (expr_trees args.now)) }
     requires sound { IsSorted (words_in draft.now.declared) }
-    requires few { length args.now ≤ 8 }
+    requires few { length args.now ≤ max_arguments }
     ensures { result ≡ form_extent (right_of_removal place
         (terms_of text.now (words_in draft.now.declared) draft.now.bodies.items [] (exprs_of (expr_trees args.now)))) }
 {
@@ -51,11 +52,11 @@ pub fn placement_extent(
     args: &[Expr],
     value: &Expr,
 ) -> Extent
-    requires nests { ExprsNest 100 (exprs_of (expr_trees args.now)) }
+    requires nests { ExprsNest max_nesting (exprs_of (expr_trees args.now)) }
     requires within { ExprsWithin (length text.now) (exprs_of (expr_trees args.now)) }
     requires sound { IsSorted (words_in draft.now.declared) }
-    requires few { length args.now ≤ 8 }
-    requires value_nests { ExprNests 100 (expr_tree value.now) }
+    requires few { length args.now ≤ max_arguments }
+    requires value_nests { ExprNests max_nesting (expr_tree value.now) }
     requires value_within { ExprWithin (length text.now) (expr_tree value.now) }
     ensures { result ≡ extent_of_term (right_of_placement place
         (terms_of text.now (words_in draft.now.declared) draft.now.bodies.items [] (exprs_of (expr_trees args.now)))
@@ -69,7 +70,7 @@ pub fn placement_extent(
 // So many parameters.
 #[tactic(auto, using(crate::proofs::Extents::parameters_extend))]
 fn parameters_extent(count: usize) -> Extent
-    requires { count ≤ 8 }
+    requires { count ≤ max_arguments }
     ensures { result ≡ terms_extent (parameters count) }
 {
     Extent::new(count as u64, count.min(1) as u64)
@@ -77,10 +78,10 @@ fn parameters_extent(count: usize) -> Extent
 
 // Each parameter is the term of its argument.
 fn tuple_extent(text: &[u8], draft: &ModelDraft, args: &[Expr]) -> Extent
-    requires nests { ExprsNest 100 (exprs_of (expr_trees args.now)) }
+    requires nests { ExprsNest max_nesting (exprs_of (expr_trees args.now)) }
     requires within { ExprsWithin (length text.now) (exprs_of (expr_trees args.now)) }
     requires sound { IsSorted (words_in draft.now.declared) }
-    requires few { length args.now ≤ 8 }
+    requires few { length args.now ≤ max_arguments }
     ensures { result ≡ form_extent
         (at_tuple (terms_of text.now (words_in draft.now.declared) draft.now.bodies.items []
         (exprs_of (expr_trees args.now)))) }

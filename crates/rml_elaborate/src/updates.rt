@@ -5,7 +5,7 @@ ghost use Rattle.fol_formula.specs.Syntax.{rel, equal, negation, conjunction, di
 ghost use Rattle.fol_formula.specs.Syntax.{app, ite};
 ghost use Rattle.fol_formula.specs.View.{form, forms, term as term_view, terms as terms_view};
 ghost use Rattle.rml_terms.specs.Tree.{expr_tree, expr_trees, exprs_of};
-ghost use Rattle.rml_terms.specs.Shape.{ExprNests, ExprsNest};
+ghost use Rattle.rml_terms.specs.Shape.{ExprNests, ExprsNest, max_nesting};
 ghost use Rattle.rml_syntax.specs.Shape.{SideNests};
 ghost use Rattle.rml_terms.specs.Within.{NameWithin, NamesWithin, ExprWithin, ExprsWithin};
 ghost use Rattle.rml_syntax.specs.Within.{ValueWithin, BindersWithin};
@@ -20,6 +20,7 @@ ghost use Rattle.rml_command.specs.Fresh.{parameters as parameters_of};
 ghost use Rattle.rml_names.specs.Scopes.{bound_names};
 ghost use Rattle.rml_names.specs.Drafts.{words_in};
 ghost use Rattle.rml_names.specs.Sound.{IsSorted};
+ghost use Rattle.fol_sig.specs.Arguments.{max_arguments};
 
 use crate::formulas::{formula, sort_number, term};
 use base::Mem;
@@ -39,11 +40,11 @@ pub fn insertion(
     name: Name,
     args: &[Expr],
 ) -> Mem<Primitive>
-    requires nests { ExprsNest 100 (exprs_of (expr_trees args.now)) }
+    requires nests { ExprsNest max_nesting (exprs_of (expr_trees args.now)) }
     requires name { NameWithin (length text.now) name }
     requires within { ExprsWithin (length text.now) (exprs_of (expr_trees args.now)) }
     requires sound { IsSorted (words_in draft.now.declared) }
-    requires few { length args.now ≤ 8 }
+    requires few { length args.now ≤ max_arguments }
     ensures { IfOk result (λ p. primitive p
         ≡ insertion_of (symbol_of (words_in draft.now.declared) (bytes_of text.now name))
         (terms_of text.now (words_in draft.now.declared) draft.now.bodies.items [] (exprs_of (expr_trees args.now)))) }
@@ -71,11 +72,11 @@ pub fn removal(
     name: Name,
     args: &[Expr],
 ) -> Mem<Primitive>
-    requires nests { ExprsNest 100 (exprs_of (expr_trees args.now)) }
+    requires nests { ExprsNest max_nesting (exprs_of (expr_trees args.now)) }
     requires name { NameWithin (length text.now) name }
     requires within { ExprsWithin (length text.now) (exprs_of (expr_trees args.now)) }
     requires sound { IsSorted (words_in draft.now.declared) }
-    requires few { length args.now ≤ 8 }
+    requires few { length args.now ≤ max_arguments }
     ensures { IfOk result (λ p. primitive p
         ≡ removal_of (symbol_of (words_in draft.now.declared) (bytes_of text.now name))
         (terms_of text.now (words_in draft.now.declared) draft.now.bodies.items [] (exprs_of (expr_trees args.now)))) }
@@ -104,13 +105,13 @@ pub fn placement(
     args: &[Expr],
     value: &Expr,
 ) -> Mem<Primitive>
-    requires nests { ExprsNest 100 (exprs_of (expr_trees args.now)) }
-    requires value_nests { ExprNests 100 (expr_tree value.now) }
+    requires nests { ExprsNest max_nesting (exprs_of (expr_trees args.now)) }
+    requires value_nests { ExprNests max_nesting (expr_tree value.now) }
     requires name { NameWithin (length text.now) name }
     requires within { ExprsWithin (length text.now) (exprs_of (expr_trees args.now)) }
     requires value_within { ExprWithin (length text.now) (expr_tree value.now) }
     requires sound { IsSorted (words_in draft.now.declared) }
-    requires few { length args.now ≤ 8 }
+    requires few { length args.now ≤ max_arguments }
     ensures { IfOk result (λ p. primitive p
         ≡ placement_of (symbol_of (words_in draft.now.declared) (bytes_of text.now name))
         (terms_of text.now (words_in draft.now.declared) draft.now.bodies.items [] (exprs_of (expr_trees args.now)))
@@ -140,7 +141,7 @@ pub fn assignment(
     parameters: &[Name],
     value: &Option<Expr>,
 ) -> Mem<Primitive>
-    requires nests { SideNests 100 (option_map expr_tree value.now) }
+    requires nests { SideNests max_nesting (option_map expr_tree value.now) }
     requires name { NameWithin (length text.now) name }
     requires parameters { NamesWithin (length text.now) parameters.now }
     requires within { ValueWithin (length text.now) (option_map expr_tree value.now) }
@@ -175,9 +176,9 @@ fn set_to(
     e: &Expr,
 ) -> Mem<Primitive>
     requires parameters { NamesWithin (length text.now) parameters.now }
-    requires nests { ExprNests 100 (expr_tree e.now) }
+    requires nests { ExprNests max_nesting (expr_tree e.now) }
     requires within { ExprWithin (length text.now) (expr_tree e.now) }
-    requires few { length sorts.now ≤ 8 }
+    requires few { length sorts.now ≤ max_arguments }
     requires sorts { numbers sorts.now ≡ sorts_of_arguments (words_in draft.now.declared) meaning }
     requires sound { IsSorted (words_in draft.now.declared) }
     ensures { IfOk result (λ p. primitive p
@@ -210,9 +211,9 @@ fn formula_under(
     e: &Expr,
 ) -> Mem<Formula>
     requires parameters { NamesWithin (length text.now) parameters.now }
-    requires nests { ExprNests 100 (expr_tree e.now) }
+    requires nests { ExprNests max_nesting (expr_tree e.now) }
     requires within { ExprWithin (length text.now) (expr_tree e.now) }
-    requires few { length (bound_names scope.now) + length sorts.now ≤ 8 }
+    requires few { length (bound_names scope.now) + length sorts.now ≤ max_arguments }
     requires sound { IsSorted (words_in draft.now.declared) }
     ensures { IfOk result (λ p. form p
         ≡ formula_of text.now (words_in draft.now.declared) draft.now.bodies.items
@@ -240,9 +241,9 @@ fn term_under(
     e: &Expr,
 ) -> Mem<Term>
     requires parameters { NamesWithin (length text.now) parameters.now }
-    requires nests { ExprNests 100 (expr_tree e.now) }
+    requires nests { ExprNests max_nesting (expr_tree e.now) }
     requires within { ExprWithin (length text.now) (expr_tree e.now) }
-    requires few { length (bound_names scope.now) + length sorts.now ≤ 8 }
+    requires few { length (bound_names scope.now) + length sorts.now ≤ max_arguments }
     requires sound { IsSorted (words_in draft.now.declared) }
     ensures { IfOk result (λ t. term_view t
         ≡ term_of text.now (words_in draft.now.declared) draft.now.bodies.items
@@ -261,7 +262,7 @@ fn term_under(
 
 // The term of an expression without binders around it.
 fn term_outside(alloc: Global, text: &[u8], draft: &ModelDraft, e: &Expr) -> Mem<Term>
-    requires nests { ExprNests 100 (expr_tree e.now) }
+    requires nests { ExprNests max_nesting (expr_tree e.now) }
     requires within { ExprWithin (length text.now) (expr_tree e.now) }
     requires sound { IsSorted (words_in draft.now.declared) }
     ensures { IfOk result
@@ -281,8 +282,8 @@ pub fn definition(
     e: &Expr,
 ) -> Mem<Formula>
     requires parameters { BindersWithin (length text.now) parameters.now }
-    requires few { length parameters.now ≤ 8 }
-    requires nests { ExprNests 100 (expr_tree e.now) }
+    requires few { length parameters.now ≤ max_arguments }
+    requires nests { ExprNests max_nesting (expr_tree e.now) }
     requires within { ExprWithin (length text.now) (expr_tree e.now) }
     requires sound { IsSorted (words_in draft.now.declared) }
     ensures { IfOk result (λ p. form p
@@ -304,9 +305,9 @@ fn definition_under(
     e: &Expr,
 ) -> Mem<Formula>
     requires parameters { BindersWithin (length text.now) parameters.now }
-    requires nests { ExprNests 100 (expr_tree e.now) }
+    requires nests { ExprNests max_nesting (expr_tree e.now) }
     requires within { ExprWithin (length text.now) (expr_tree e.now) }
-    requires few { length (bound_names scope.now) + length parameters.now ≤ 8 }
+    requires few { length (bound_names scope.now) + length parameters.now ≤ max_arguments }
     requires sound { IsSorted (words_in draft.now.declared) }
     ensures { IfOk result (λ p. form p
         ≡ formula_of text.now (words_in draft.now.declared) draft.now.bodies.items
@@ -325,7 +326,7 @@ fn definition_under(
 
 /// The formula of an expression without binders around it.
 pub fn formula_outside(alloc: Global, text: &[u8], draft: &ModelDraft, e: &Expr) -> Mem<Formula>
-    requires nests { ExprNests 100 (expr_tree e.now) }
+    requires nests { ExprNests max_nesting (expr_tree e.now) }
     requires within { ExprWithin (length text.now) (expr_tree e.now) }
     requires sound { IsSorted (words_in draft.now.declared) }
     ensures { IfOk result
@@ -337,7 +338,7 @@ pub fn formula_outside(alloc: Global, text: &[u8], draft: &ModelDraft, e: &Expr)
 
 // A relation of its parameters.
 fn atom(alloc: Global, relation: RelId, count: u32) -> Mem<Formula>
-    requires { count ≤ 8 }
+    requires { count ≤ max_arguments }
     ensures { IfOk result (λ p. form p ≡ rel relation.0 (parameters_of count)) }
 {
     let args = parameters(alloc, count)?;
@@ -346,7 +347,7 @@ fn atom(alloc: Global, relation: RelId, count: u32) -> Mem<Formula>
 
 // A function of its parameters.
 fn application(alloc: Global, function: FunId, count: u32) -> Mem<Term>
-    requires { count ≤ 8 }
+    requires { count ≤ max_arguments }
     ensures { IfOk result (λ t. term_view t ≡ app function.0 (parameters_of count)) }
 {
     let args = parameters(alloc, count)?;
@@ -355,7 +356,7 @@ fn application(alloc: Global, function: FunId, count: u32) -> Mem<Term>
 
 // The parameters of a symbol, the last one with the index 0.
 fn parameters(alloc: Global, count: u32) -> Mem<Vec<Term>>
-    requires { count ≤ 8 }
+    requires { count ≤ max_arguments }
     ensures { IfOk result (λ ts. terms_view ts.items ≡ parameters_of count) }
 {
     fol_formula::lists();
@@ -397,10 +398,10 @@ fn choice(alloc: Global, p: Formula, a: Term, b: Term) -> Mem<Term>
 
 // Each parameter is the term of its argument.
 fn tuple(alloc: Global, text: &[u8], draft: &ModelDraft, args: &[Expr]) -> Mem<Formula>
-    requires nests { ExprsNest 100 (exprs_of (expr_trees args.now)) }
+    requires nests { ExprsNest max_nesting (exprs_of (expr_trees args.now)) }
     requires within { ExprsWithin (length text.now) (exprs_of (expr_trees args.now)) }
     requires sound { IsSorted (words_in draft.now.declared) }
-    requires few { length args.now ≤ 8 }
+    requires few { length args.now ≤ max_arguments }
     ensures { IfOk result (λ p. form p
         ≡ at_tuple (terms_of text.now (words_in draft.now.declared) draft.now.bodies.items []
         (exprs_of (expr_trees args.now)))) }
@@ -410,10 +411,10 @@ fn tuple(alloc: Global, text: &[u8], draft: &ModelDraft, args: &[Expr]) -> Mem<F
 }
 
 fn equations(alloc: Global, text: &[u8], draft: &ModelDraft, args: &[Expr]) -> Mem<Vec<Formula>>
-    requires nests { ExprsNest 100 (exprs_of (expr_trees args.now)) }
+    requires nests { ExprsNest max_nesting (exprs_of (expr_trees args.now)) }
     requires within { ExprsWithin (length text.now) (exprs_of (expr_trees args.now)) }
     requires sound { IsSorted (words_in draft.now.declared) }
-    requires few { length args.now ≤ 8 }
+    requires few { length args.now ≤ max_arguments }
     ensures { IfOk result (λ ps. forms ps.items
         ≡ equations_of (terms_of text.now (words_in draft.now.declared) draft.now.bodies.items []
         (exprs_of (expr_trees args.now)))) }

@@ -1,10 +1,10 @@
 // Where the first use of a derived relation stands, in the order of reading.
 ghost use Rattle.std.specs.Prelude.{◌≡◌, ◌-◌, ◌≤◌, [], length};
 ghost use Rattle.rml_terms.specs.Tree.{expr_tree, expr_trees, exprs_of, Quantified, Apply};
-ghost use Rattle.rml_terms.specs.Shape.{ExprNests, ExprsNest};
+ghost use Rattle.rml_terms.specs.Shape.{ExprNests, ExprsNest, max_nesting};
 ghost use Rattle.rml_terms.specs.Within.{ExprWithin, ExprsWithin};
-ghost use Rattle.rml_elaborate.specs.Sizes.{first_of, first_use_of, first_use_in_each};
-ghost use Rattle.rml_names.specs.Scopes.{bound_names};
+ghost use Rattle.rml_elaborate.specs.Sizes.{first_use_of, first_use_in_each};
+ghost use Rattle.rml_names.specs.Scopes.{bound_names, max_bound};
 ghost use Rattle.rml_names.specs.Drafts.{words_in};
 ghost use Rattle.rml_names.specs.Sound.{IsSorted};
 
@@ -15,8 +15,8 @@ use rml_terms::{Binder, Expr, Name, Quantifier};
 // The place of the first use in an expression, under the binders of the scope.
 #[cycle(uses)]
 pub fn first_use(text: &[u8], known: &Declarations, scope: &Scope, e: &Expr) -> Option<u64>
-    requires nests { ExprNests (108 - length (bound_names scope.now)) (expr_tree e.now) }
-    requires few { length (bound_names scope.now) ≤ 108 }
+    requires nests { ExprNests (max_bound - length (bound_names scope.now)) (expr_tree e.now) }
+    requires few { length (bound_names scope.now) ≤ max_bound }
     requires within { ExprWithin (length text.now) (expr_tree e.now) }
     requires sound { IsSorted (words_in known.now) }
     ensures { result ≡ first_use_of text.now (words_in known.now) (bound_names scope.now) (expr_tree e.now) }
@@ -25,17 +25,11 @@ pub fn first_use(text: &[u8], known: &Declarations, scope: &Scope, e: &Expr) -> 
         Expr::True(_) | Expr::False(_) => None,
         Expr::Apply(name, args) => use_or_inside(text, known, scope, *name, args),
         Expr::Ite(_, c, a, b) => {
-            let terms = first_of(
-                first_use(text, known, scope, a),
-                first_use(text, known, scope, b),
-            );
-            first_of(first_use(text, known, scope, c), terms)
+            let terms = first_use(text, known, scope, a).or(first_use(text, known, scope, b));
+            first_use(text, known, scope, c).or(terms)
         }
         Expr::Equal(_, a, b) | Expr::Implies(_, a, b) | Expr::Iff(_, a, b) => {
-            first_of(
-                first_use(text, known, scope, a),
-                first_use(text, known, scope, b),
-            )
+            first_use(text, known, scope, a).or(first_use(text, known, scope, b))
         }
         Expr::Not(_, a) => first_use(text, known, scope, a),
         Expr::And(_, args) | Expr::Or(_, args) => first_use_in_each(text, known, scope, args),
@@ -52,8 +46,9 @@ fn use_or_inside(
     name: Name,
     args: &[Expr],
 ) -> Option<u64>
-    requires nests { ExprNests (108 - length (bound_names scope.now)) (Apply name (exprs_of (expr_trees args.now))) }
-    requires few { length (bound_names scope.now) ≤ 108 }
+    requires nests { ExprNests (max_bound - length (bound_names scope.now))
+        (Apply name (exprs_of (expr_trees args.now))) }
+    requires few { length (bound_names scope.now) ≤ max_bound }
     requires within { ExprWithin (length text.now) (Apply name (exprs_of (expr_trees args.now))) }
     requires sound { IsSorted (words_in known.now) }
     ensures { result ≡ first_use_of text.now (words_in known.now) (bound_names scope.now)
@@ -79,8 +74,8 @@ fn first_use_inside(
     b: Binder,
     body: &Expr,
 ) -> Option<u64>
-    requires nests { ExprNests (108 - length (bound_names scope.now)) (Quantified q at b (expr_tree body.now)) }
-    requires few { length (bound_names scope.now) ≤ 108 }
+    requires nests { ExprNests (max_bound - length (bound_names scope.now)) (Quantified q at b (expr_tree body.now)) }
+    requires few { length (bound_names scope.now) ≤ max_bound }
     requires within { ExprWithin (length text.now) (Quantified q at b (expr_tree body.now)) }
     requires sound { IsSorted (words_in known.now) }
     ensures { result ≡ first_use_of text.now (words_in known.now) (bound_names scope.now)
@@ -94,8 +89,8 @@ fn first_use_inside(
 // In each expression, in order.
 #[cycle(uses)]
 fn first_use_in_each(text: &[u8], known: &Declarations, scope: &Scope, es: &[Expr]) -> Option<u64>
-    requires nests { ExprsNest (108 - length (bound_names scope.now)) (exprs_of (expr_trees es.now)) }
-    requires few { length (bound_names scope.now) ≤ 108 }
+    requires nests { ExprsNest (max_bound - length (bound_names scope.now)) (exprs_of (expr_trees es.now)) }
+    requires few { length (bound_names scope.now) ≤ max_bound }
     requires within { ExprsWithin (length text.now) (exprs_of (expr_trees es.now)) }
     requires sound { IsSorted (words_in known.now) }
     ensures { result ≡ first_use_in_each text.now (words_in known.now) (bound_names scope.now)
@@ -111,7 +106,7 @@ fn first_use_in_each(text: &[u8], known: &Declarations, scope: &Scope, es: &[Exp
 
 // In an expression without binders around it.
 pub fn first_use_outside(text: &[u8], known: &Declarations, e: &Expr) -> Option<u64>
-    requires nests { ExprNests 100 (expr_tree e.now) }
+    requires nests { ExprNests max_nesting (expr_tree e.now) }
     requires within { ExprWithin (length text.now) (expr_tree e.now) }
     requires sound { IsSorted (words_in known.now) }
     ensures { result ≡ first_use_of text.now (words_in known.now) [] (expr_tree e.now) }
@@ -121,20 +116,10 @@ pub fn first_use_outside(text: &[u8], known: &Declarations, e: &Expr) -> Option<
 
 // In each expression, without binders around them.
 pub fn first_use_in_each_outside(text: &[u8], known: &Declarations, es: &[Expr]) -> Option<u64>
-    requires nests { ExprsNest 100 (exprs_of (expr_trees es.now)) }
+    requires nests { ExprsNest max_nesting (exprs_of (expr_trees es.now)) }
     requires within { ExprsWithin (length text.now) (exprs_of (expr_trees es.now)) }
     requires sound { IsSorted (words_in known.now) }
     ensures { result ≡ first_use_in_each text.now (words_in known.now) [] (exprs_of (expr_trees es.now)) }
 {
     first_use_in_each(text, known, &Scope::Outside, es)
-}
-
-// The first of two places.
-pub fn first_of(first: Option<u64>, second: Option<u64>) -> Option<u64>
-    ensures { result ≡ first_of first second }
-{
-    match first {
-        Some(_) => first,
-        None => second,
-    }
 }

@@ -8,7 +8,7 @@ use Rattle.rml_lex.specs.declared.token.Fault.{Fault}
 use Rattle.rml_lex.specs.declared.fault_code.FaultCode.{FaultCode}
 use Rattle.rml_lex.specs.declared.fault_code.FaultCode.TheVariants as fault_code
 use Rattle.rml_command.specs.Trees.{CommandTree}
-use Rattle.rml_command.specs.Paths.{paths_of}
+use Rattle.rml_command.specs.Paths.{max_paths, paths_of}
 use Rattle.base.specs.Lists.{SomeOf}
 use Rattle.rml_command.specs.Models.{ModelTree}
 use Rattle.rml_command.specs.declared.places.Condition.{Condition}
@@ -57,9 +57,9 @@ SentenceBreaks m fault =
 abbrev pub Breaks : ModelTree → Fault → Type 0
 Breaks m fault = ClosesCycle m fault ⊎ SentenceBreaks m fault
 
--- a block has more than 4,096 paths
+-- a block has more paths than it may
 abbrev pub HasManyPaths : CommandTree → FaultCode → Type 0
-HasManyPaths block code = (code ≡ fault_code.TooManyPaths) × (4096 < length (paths_of block))
+HasManyPaths block code = (code ≡ fault_code.TooManyPaths) × (max_paths < length (paths_of block))
 
 -- A block has too many paths, by this fault: at `init`, the action's name or `final`.
 abbrev pub HasLongBlock : ModelTree → Fault → Type 0

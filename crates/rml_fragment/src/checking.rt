@@ -18,9 +18,9 @@ use crate::laws::passing_law;
 use crate::long::long_block_fault;
 use base::{Mem, Refused, Row};
 use fol_sig::Strata;
-use rml_command::{Checked, Command, Model, Paths, paths};
+use rml_command::{Checked, Command, Model, Paths, few_paths};
 use rml_lex::Fault;
-use std::alloc::{AllocError, Global};
+use std::alloc::Global;
 
 /// The model with its strata and the paths of its blocks, or its fault: the first by which it leaves the fragment, and
 /// only where it does not, the first of a block with more than 4,096 paths. A model with a fault is dropped.
@@ -100,26 +100,14 @@ fn block_lists(alloc: Global, model: &Model) -> Mem<BlockPaths>
     ensures actions { IfOk result (λ l. l.actions ≡ map paths_of model.now.actions) }
     ensures last { IfOk result (λ l. l.last ≡ paths_of model.now.last) }
 {
-    let init = block_paths(alloc, model.init())?;
+    let init = few_paths(alloc, model.init())?;
     let actions = action_paths(alloc, model.actions())?;
-    let last = block_paths(alloc, model.last())?;
+    let last = few_paths(alloc, model.last())?;
     Ok(BlockPaths {
         init,
         actions,
         last,
     })
-}
-
-// The paths of a block that has few.
-fn block_paths(alloc: Global, block: &Command) -> Mem<Paths>
-    requires { HasFewPaths (command_view block.now) }
-    ensures { IfOk result (λ ps. ps ≡ paths_of (command_view block.now)) }
-{
-    match paths(alloc, block) {
-        Ok(all) => Ok(all),
-        Err(Refused::For(_)) => unreachable!(),
-        Err(Refused::NoMemory) => Err(AllocError),
-    }
 }
 
 // The paths of each action.
@@ -130,7 +118,7 @@ fn action_paths(alloc: Global, actions: &[Command]) -> Mem<Row<Paths>>
     let mut all = Row::new(alloc);
     let mut rest = actions;
     while let [action, after @ ..] = rest {
-        all.push(block_paths(alloc, action)?)?;
+        all.push(few_paths(alloc, action)?)?;
         rest = after;
     }
     Ok(all)

@@ -9,12 +9,13 @@ use Rattle.rml_syntax.specs.declared.tree.Format.{Format}
 use Rattle.rml_syntax.specs.Tree as syntax
 use Rattle.rml_syntax.specs.Tree.{ItemTree, FileTree, Relation, Function, Variable, Axiom, Conjecture, Init, Action}
 use Rattle.rml_syntax.specs.Tree.{Final, Define, block_of}
+use Rattle.fol_sig.specs.Arguments.{max_arguments}
 use Rattle.rml_names.specs.Vocabulary.{Vocabulary, max_names, name_count}
 use Rattle.rml_names.specs.Growth.{empty_vocabulary, with_sort, with_relation, with_function, with_element}
 use Rattle.rml_names.specs.Growth.{with_elements, with_axiom, with_conjecture, with_action, with_definition}
 use Rattle.rml_names.specs.Meanings.{bytes_of, is_among, is_symbol, sort_by_name, sort_number}
 use Rattle.rml_sort_check.specs.declared.wanted.Wanted.TheVariants.{Formula}
-use Rattle.rml_sort_check.specs.Demands.{Demand, asks, first_fault, max_arguments, demands, block_demands}
+use Rattle.rml_sort_check.specs.Demands.{Demand, asks, first_fault, demands, block_demands}
 use Rattle.rml_sort_check.specs.Demands.{definition_demands}
 
 -- what some items declare, and which of the blocks that may stand once they have

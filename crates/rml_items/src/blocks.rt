@@ -6,6 +6,7 @@ ghost use Rattle.rml_syntax.specs.Shape.{CommandNests, BlockNests};
 ghost use Rattle.rml_sort_check.specs.Demands.{first_fault, command_demands, block_demands};
 ghost use Rattle.rml_names.specs.Drafts.{words_in};
 ghost use Rattle.rml_names.specs.Sound.{IsSorted};
+ghost use Rattle.rml_terms.specs.Shape.{max_nesting};
 
 use rml_lex::Fault;
 use rml_names::Declarations;
@@ -14,7 +15,7 @@ use rml_syntax::{Command, Format};
 
 #[cycle(judging)]
 fn command_fault(text: &[u8], known: &Declarations, format: Format, c: &Command) -> Option<Fault>
-    requires nests { CommandNests 100 (command_tree c.now) }
+    requires nests { CommandNests max_nesting (command_tree c.now) }
     requires within { CommandWithin (length text.now) (command_tree c.now) }
     requires sound { IsSorted (words_in known.now) }
     ensures { result ≡ first_fault (command_demands text.now (words_in known.now) format (command_tree c.now)) }
@@ -57,7 +58,7 @@ pub fn block_fault(
     format: Format,
     commands: &[Command],
 ) -> Option<Fault>
-    requires nests { BlockNests 100 (block_of (command_trees commands.now)) }
+    requires nests { BlockNests max_nesting (block_of (command_trees commands.now)) }
     requires within { BlockWithin (length text.now) (block_of (command_trees commands.now)) }
     requires sound { IsSorted (words_in known.now) }
     ensures { result ≡ first_fault

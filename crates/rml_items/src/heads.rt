@@ -13,16 +13,14 @@ ghost use Rattle.rml_items.specs.Items.{declares, declares_symbol, declares_sort
 ghost use Rattle.rml_items.specs.Items.{sort_known, sort_demands, element_demands};
 ghost use Rattle.rml_items.specs.Items.{parameter_sorts as sorts_of_parameters};
 ghost use Rattle.rml_items.specs.Answering.{Answers};
+ghost use Rattle.fol_sig.specs.Arguments.{max_arguments};
 
 use base::Refused;
-use fol_sig::{Sort, Sorts};
+use fol_sig::{MAX_ARGUMENTS, Sort, Sorts};
 use rml_lex::{Fault, FaultCode};
 use rml_names::{Declarations, MAX_NAMES, bytes};
 use rml_terms::{Binder, Name};
 use std::alloc::Global;
-
-// How many arguments a symbol may have.
-const MAX_ARGUMENTS: usize = 8;
 
 // A declared name: it is new, and there is room for it.
 fn declaration_fault(known: &Declarations, taken: bool, name: Name) -> Option<Fault>
@@ -275,7 +273,7 @@ pub fn add_variable(
 // The sorts of a definition's parameters, at most 8. One that is not known counts as the first.
 fn parameter_sorts(alloc: Global, text: &[u8], known: &Declarations, parameters: &[Binder]) -> Sorts
     requires within { BindersWithin (length text.now) parameters.now }
-    requires few { length parameters.now ≤ 8 }
+    requires few { length parameters.now ≤ max_arguments }
     ensures { result ≡ sorts_of_parameters text.now (words_in known.now) parameters.now }
 {
     let mut sorts = Sorts::new(alloc);
@@ -354,7 +352,7 @@ pub fn add_definition(
 ) -> Result<(), Refused<Fault>>
     requires within { NameWithin (length text.now) name }
     requires parameters { BindersWithin (length text.now) parameters.now }
-    requires few { length parameters.now ≤ 8 }
+    requires few { length parameters.now ≤ max_arguments }
     requires sound { IsSorted (words_in known.old) }
     ensures { Answers (λ _. words_in known.new) result (declares_symbol text.now (words_in known.old) name)
         (with_definition text.now (words_in known.old) name

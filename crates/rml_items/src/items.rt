@@ -1,7 +1,7 @@
 // Items: each is judged by what those before it declare, and then declared itself.
 ghost use Rattle.std.specs.Prelude.{◌≡◌, ◌++◌, [], None, length};
 ghost use Rattle.rml_terms.specs.Tree.{expr_tree};
-ghost use Rattle.rml_terms.specs.Shape.{ExprNests};
+ghost use Rattle.rml_terms.specs.Shape.{ExprNests, max_nesting};
 ghost use Rattle.rml_terms.specs.Within.{NameWithin, ExprWithin};
 ghost use Rattle.rml_syntax.specs.Tree.{command_trees, item_tree, block_of};
 ghost use Rattle.rml_syntax.specs.Shape.{CommandsNest, ItemNests};
@@ -56,7 +56,7 @@ fn judge_axiom(
     e: &Expr,
 ) -> Result<(), Refused<Fault>>
     requires name { NameWithin (length text.now) name }
-    requires nests { ExprNests 100 (expr_tree e.now) }
+    requires nests { ExprNests max_nesting (expr_tree e.now) }
     requires within { ExprWithin (length text.now) (expr_tree e.now) }
     requires sound { IsSorted (words_in known.old) }
     ensures { Answers (λ _. words_in known.new) result
@@ -78,7 +78,7 @@ fn judge_conjecture(
     e: &Expr,
 ) -> Result<(), Refused<Fault>>
     requires name { NameWithin (length text.now) name }
-    requires nests { ExprNests 100 (expr_tree e.now) }
+    requires nests { ExprNests max_nesting (expr_tree e.now) }
     requires within { ExprWithin (length text.now) (expr_tree e.now) }
     requires sound { IsSorted (words_in known.old) }
     ensures { Answers (λ _. words_in known.new) result
@@ -99,7 +99,7 @@ fn body_fault(
     format: Format,
     commands: &[Command],
 ) -> Option<Fault>
-    requires nests { CommandsNest 100 (command_trees commands.now) }
+    requires nests { CommandsNest max_nesting (command_trees commands.now) }
     requires within { CommandsWithin (length text.now) (command_trees commands.now) }
     requires sound { IsSorted (words_in known.now) }
     ensures { result ≡ first_fault
@@ -118,7 +118,7 @@ fn judge_action(
     commands: &[Command],
 ) -> Result<(), Refused<Fault>>
     requires name { NameWithin (length text.now) name }
-    requires nests { CommandsNest 100 (command_trees commands.now) }
+    requires nests { CommandsNest max_nesting (command_trees commands.now) }
     requires within { CommandsWithin (length text.now) (command_trees commands.now) }
     requires sound { IsSorted (words_in known.old) }
     ensures { Answers (λ _. words_in known.new) result
@@ -140,7 +140,7 @@ fn judge_once(
     at: u64,
     commands: &[Command],
 ) -> Result<(), Refused<Fault>>
-    requires nests { CommandsNest 100 (command_trees commands.now) }
+    requires nests { CommandsNest max_nesting (command_trees commands.now) }
     requires within { CommandsWithin (length text.now) (command_trees commands.now) }
     requires sound { IsSorted (words_in known.now) }
     ensures { Answers (λ _. words_in known.now) result
@@ -168,7 +168,7 @@ fn judge_definition(
 ) -> Result<(), Refused<Fault>>
     requires name { NameWithin (length text.now) name }
     requires parameters { BindersWithin (length text.now) parameters.now }
-    requires nests { ExprNests 100 (expr_tree value.now) }
+    requires nests { ExprNests max_nesting (expr_tree value.now) }
     requires within { ExprWithin (length text.now) (expr_tree value.now) }
     requires sound { IsSorted (words_in known.old) }
     ensures { Answers (λ _. words_in known.new) result
@@ -194,7 +194,7 @@ pub fn judge_item(
     progress: &mut Progress,
     item: &Item,
 ) -> Result<(), Refused<Fault>>
-    requires nests { ItemNests 100 (item_tree item.now) }
+    requires nests { ItemNests max_nesting (item_tree item.now) }
     requires within { ItemWithin (length text.now) (item_tree item.now) }
     requires sound { IsSorted (standing_of progress.old).words }
     ensures { Answers (λ _. standing_of progress.new) result

@@ -11,6 +11,7 @@ ghost use Rattle.rml_names.specs.Sound.{IsSorted};
 ghost use Rattle.rml_items.specs.Items.{no_items, items_demands, with_items, fault_of};
 ghost use Rattle.rml_items.specs.Progress.{standing_of};
 ghost use Rattle.rml_items.specs.Answering.{Answers};
+ghost use Rattle.rml_terms.specs.Shape.{max_nesting};
 
 use crate::items::{Progress, judge_item};
 use crate::laws::fault_law;
@@ -29,7 +30,7 @@ fn judge_items(
     items: &[Item],
 ) -> Result<(), Refused<Fault>>
     requires within { AllByRecursion (ItemWithin (length text.now)) (item_trees items.now) }
-    requires shape { AllByRecursion (ItemNests 100) (item_trees items.now) }
+    requires shape { AllByRecursion (ItemNests max_nesting) (item_trees items.now) }
     requires sound { IsSorted (standing_of progress.old).words }
     ensures { Answers (λ _. standing_of progress.new) result
         (items_demands text.now format (standing_of progress.old) (item_trees items.now))

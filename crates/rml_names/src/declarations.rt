@@ -6,9 +6,10 @@ ghost use Rattle.rml_names.specs.Vocabulary.{name_count};
 ghost use Rattle.rml_names.specs.Meanings.{bytes_of, place_among, symbol_of, is_symbol, meaning_from};
 ghost use Rattle.rml_names.specs.Meanings.{argument_sorts as sorts_of_arguments, result_sort as sort_of_result};
 ghost use Rattle.rml_names.specs.Meanings.{is_writable as may_be_written};
-ghost use Rattle.rml_names.specs.Scopes.{bound_names};
+ghost use Rattle.rml_names.specs.Scopes.{bound_names, max_bound};
 ghost use Rattle.rml_names.specs.Drafts.{words_in};
 ghost use Rattle.rml_names.specs.Sound.{IsSorted, IsDeclared};
+ghost use Rattle.fol_sig.specs.Arguments.{max_arguments};
 
 use crate::meaning::Meaning;
 use crate::scope::Scope;
@@ -91,7 +92,7 @@ impl Declarations {
     /// The meaning of a name under these binders, the first of them with the index `depth`.
     pub fn meaning_from(&self, depth: u32, scope: &Scope, name: &[u8]) -> Meaning
         requires sound { IsSorted (words_in self.now) }
-        requires few { depth + length (bound_names scope.now) ≤ 108 }
+        requires few { depth + length (bound_names scope.now) ≤ max_bound }
         ensures value { result ≡ meaning_from (words_in self.now) depth (bound_names scope.now) name.now }
         ensures declared { IsDeclared (words_in self.now) result }
     {
@@ -111,7 +112,7 @@ impl Declarations {
     pub fn argument_sorts(&self, meaning: Meaning) -> &[Sort]
         requires { IsDeclared (words_in self.now) meaning }
         ensures value { numbers result.now ≡ sorts_of_arguments (words_in self.now) meaning }
-        ensures few { length result.now ≤ 8 }
+        ensures few { length result.now ≤ max_arguments }
     {
         match meaning {
             Meaning::Relation(place) => self.signature.sorts_of(RelId(place)),

@@ -1,6 +1,6 @@
 // The binders around an expression, as a chain from the nearest one outward: each lives in the call that walks the
 // quantifier's body, so that a scope costs no memory and nothing has to be taken off again. A look-up goes along the
-// chain, which has at most 108 binders: 100 of quantifiers and 8 of parameters.
+// chain, which has few binders: those of a sentence, and parameters outside them (`max_bound` of the specs).
 ghost use Rattle.std.specs.Prelude.{◌≡◌, [], ◌∷◌};
 ghost use Rattle.rml_names.specs.Meanings.{is_among};
 ghost use Rattle.rml_names.specs.Scopes.{bound_names, names_of};

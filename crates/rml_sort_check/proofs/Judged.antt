@@ -1,6 +1,7 @@
 -- The first fault of a part by those of its parts.
 use Rattle.std.proofs.Common.{◌≡◌, ℕ, suc, ◌+◌, ◌-◌, ◌<◌, ◌≤◌, Bool, true, false, if◌then◌else◌, List, [], ◌∷◌, ◌++◌}
 use Rattle.std.proofs.Common.{length, get_or, take, drop, arith, Option, Some, None, refl, sym, ap, ◌∙◌}
+use Rattle.std.specs.Option.{option_or}
 use Rattle.std.proofs.lemmas.List.{drop_more, take_rest}
 use Rattle.fol_sig.specs.declared.Sort.{Sort}
 use Rattle.fol_sig.specs.Tables.{numbers}
@@ -16,7 +17,7 @@ use Rattle.rml_sort_check.specs.declared.wanted.Wanted.TheVariants.{Formula, Ter
 use Rattle.rml_names.specs.Meanings.{BoundName, bytes_of, meaning_of, argument_sorts, term_sort}
 use Rattle.rml_sort_check.specs.Demands.{Demand, first_fault, compound, expr_count, second_sort, name_demands, demands}
 use Rattle.rml_sort_check.specs.Demands.{formula_demands, argument_demands}
-use Rattle.rml_sort_check.specs.Judging.{compound_fault, first_of}
+use Rattle.rml_sort_check.specs.Judging.{compound_fault}
 use Rattle.rml_sort_check.specs.Firsts.{first_left, first_right}
 
 pub compound-first : (w : Wanted) (at : ℕ) (ds : List Demand)
@@ -24,28 +25,28 @@ pub compound-first : (w : Wanted) (at : ℕ) (ds : List Demand)
 compound-first Formula at ds = refl
 compound-first (Term expected) at ds = refl
 
-pub first_append : (xs ys : List Demand) → first_fault (xs ++ ys) ≡ first_of (first_fault xs) (first_fault ys)
+pub first_append : (xs ys : List Demand) → first_fault (xs ++ ys) ≡ option_or (first_fault xs) (first_fault ys)
 first_append [] ys = refl
 first_append (x ∷ xs) ys = step x.met (first_append xs ys)
   where
-    step : (b : Bool) → first_fault (xs ++ ys) ≡ first_of (first_fault xs) (first_fault ys)
+    step : (b : Bool) → first_fault (xs ++ ys) ≡ option_or (first_fault xs) (first_fault ys)
         → (if b then first_fault (xs ++ ys) else Some x.fault)
-        ≡ first_of (if b then first_fault xs else Some x.fault) (first_fault ys)
+        ≡ option_or (if b then first_fault xs else Some x.fault) (first_fault ys)
     step true so = so
     step false so = refl
 
 -- the first fault of two parts, by that of each
 pub compound_both : (w : Wanted) (at : ℕ) (xs ys : List Demand) (f g : Option Fault) → f ≡ first_fault xs
     → g ≡ first_fault ys
-    → compound_fault w at (first_of f g) ≡ first_fault (compound w at (xs ++ ys))
+    → compound_fault w at (option_or f g) ≡ first_fault (compound w at (xs ++ ys))
 compound_both w at xs ys f g left right =
-    ap (λ (v : Option Fault). compound_fault w at (first_of v g)) left
-    ∙ ap (λ (v : Option Fault). compound_fault w at (first_of (first_fault xs) v)) right
+    ap (λ (v : Option Fault). compound_fault w at (option_or v g)) left
+    ∙ ap (λ (v : Option Fault). compound_fault w at (option_or (first_fault xs) v)) right
     ∙ ap (compound_fault w at) (sym (first_append xs ys))
     ∙ sym (compound-first w at (xs ++ ys))
 
 pub both : (xs ys : List Demand) (f g : Option Fault) → f ≡ first_fault xs → g ≡ first_fault ys
-    → first_of f g ≡ first_fault (xs ++ ys)
+    → option_or f g ≡ first_fault (xs ++ ys)
 both xs ys f g left right = compound_both Formula 0 xs ys f g left right
 
 pub expr_count-of : (es : List Expr) → expr_count (exprs_of (expr_trees es)) ≡ length es
@@ -138,14 +139,14 @@ module _ (text : List ℕ) (m : Vocabulary) (bound : List BoundName) where
 
   pub implies_fault : (w : Wanted) (at : ℕ) (tree a b : ExprTree) (f g : Option Fault) → tree ≡ Implies at a b
       → f ≡ first_fault (demands text m bound Formula a) → g ≡ first_fault (demands text m bound Formula b)
-      → compound_fault w at (first_of f g) ≡ first_fault (demands text m bound w tree)
+      → compound_fault w at (option_or f g) ≡ first_fault (demands text m bound w tree)
   implies_fault w at tree a b f g is left right =
       compound_both w at (demands text m bound Formula a) (demands text m bound Formula b) f g left right
       ∙ ap (λ (e : ExprTree). first_fault (demands text m bound w e)) (sym is)
 
   pub iff_fault : (w : Wanted) (at : ℕ) (tree a b : ExprTree) (f g : Option Fault) → tree ≡ Iff at a b
       → f ≡ first_fault (demands text m bound Formula a) → g ≡ first_fault (demands text m bound Formula b)
-      → compound_fault w at (first_of f g) ≡ first_fault (demands text m bound w tree)
+      → compound_fault w at (option_or f g) ≡ first_fault (demands text m bound w tree)
   iff_fault w at tree a b f g is left right =
       compound_both w at (demands text m bound Formula a) (demands text m bound Formula b) f g left right
       ∙ ap (λ (e : ExprTree). first_fault (demands text m bound w e)) (sym is)
@@ -154,7 +155,7 @@ module _ (text : List ℕ) (m : Vocabulary) (bound : List BoundName) where
       → tree ≡ Equal at a b
       → sort ≡ term_sort text m bound a
       → f ≡ first_fault (demands text m bound (Term None) a) → g ≡ first_fault (demands text m bound (Term sort) b)
-      → compound_fault w at (first_of f g) ≡ first_fault (demands text m bound w tree)
+      → compound_fault w at (option_or f g) ≡ first_fault (demands text m bound w tree)
   equal_fault w at tree a b sort f g is same left right =
       compound_both w at (demands text m bound (Term None) a) (demands text m bound (Term (term_sort text m bound a)) b)
       f g left
@@ -166,10 +167,11 @@ module _ (text : List ℕ) (m : Vocabulary) (bound : List BoundName) where
       → sort ≡ second_sort expected (term_sort text m bound a)
       → f ≡ first_fault (demands text m bound Formula c) → g ≡ first_fault (demands text m bound (Term expected) a)
       → h ≡ first_fault (demands text m bound (Term sort) b)
-      → first_of f (first_of g h) ≡ first_fault (demands text m bound w tree)
+      → option_or f (option_or g h) ≡ first_fault (demands text m bound w tree)
   ite_fault w expected at tree c a b sort f g h wanted is same condition first second =
       let other : List Demand = demands text m bound (Term (second_sort expected (term_sort text m bound a))) b in
-      both (demands text m bound Formula c) (demands text m bound (Term expected) a ++ other) f (first_of g h) condition
+      both (demands text m bound Formula c) (demands text m bound (Term expected) a ++ other) f (option_or g h)
+      condition
       (both (demands text m bound (Term expected) a) other g h first
       (second ∙ ap (λ (s : Option ℕ). first_fault (demands text m bound (Term s) b)) same))
       ∙ ap (λ (e : ExprTree). first_fault (demands text m bound (Term expected) e)) (sym is)
@@ -180,7 +182,7 @@ module _ (text : List ℕ) (m : Vocabulary) (bound : List BoundName) where
       → ks ≡ argument_sorts m x
       → f ≡ first_fault (name_demands m w x name.start (length es))
       → g ≡ first_fault (argument_demands text m bound (exprs_of (expr_trees es)) ks)
-      → first_of f g ≡ first_fault (demands text m bound w (Apply name (exprs_of (expr_trees es))))
+      → option_or f g ≡ first_fault (demands text m bound w (Apply name (exprs_of (expr_trees es))))
   apply_fault w name es word x ks f g read meant sorted named applied =
       let y : Meaning = meaning_of m bound (bytes_of text name) in
       let same : x ≡ y = meant ∙ ap (λ (v : List ℕ). meaning_of m bound v) read in

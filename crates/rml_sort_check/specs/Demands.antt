@@ -15,6 +15,7 @@ use Rattle.rml_syntax.specs.Tree.{Assert, If, Choose, Insert, Remove, Put, Assig
 use Rattle.rml_syntax.specs.Tree.{and_block}
 use Rattle.rml_syntax.specs.declared.tree.Format.{Format}
 use Rattle.rml_syntax.specs.declared.tree.Format.TheVariants.{One, Two}
+use Rattle.fol_sig.specs.Arguments.{max_arguments}
 use Rattle.rml_names.specs.Vocabulary.{Vocabulary}
 use Rattle.rml_names.specs.declared.meaning.Meaning.{Meaning}
 use Rattle.rml_names.specs.declared.meaning.Meaning.TheVariants as meaning
@@ -32,10 +33,6 @@ pub record Demand : Type 0 where
 -- the demand that stands at this place, with this code
 abbrev pub asks : ℕ → FaultCode → Bool → Demand
 asks at code met = record { fault = record { code = code; at = at }; met = met }
-
--- how many arguments a symbol may have
-abbrev pub max_arguments : ℕ
-max_arguments = 8
 
 -- the fault of the first demand that is not met
 abbrev pub first_fault : List Demand → Option Fault

@@ -1,5 +1,5 @@
 -- The first fault of a part by those of its parts.
-use Rattle.std.specs.Prelude.{ℕ, Option, Some, None}
+use Rattle.std.specs.Prelude.{ℕ, Option, Some}
 use Rattle.rml_lex.specs.declared.token.Fault.{Fault}
 use Rattle.rml_sort_check.specs.declared.wanted.Wanted.{Wanted}
 use Rattle.rml_sort_check.specs.declared.wanted.Wanted.TheVariants.{Formula, Term}
@@ -9,8 +9,3 @@ use Rattle.rml_sort_check.specs.Demands.{no_term_code}
 abbrev pub compound_fault : Wanted → ℕ → Option Fault → Option Fault
 compound_fault Formula at parts = parts
 compound_fault (Term expected) at parts = Some (record { code = no_term_code at parts; at = at })
-
--- the first fault of two parts, by that of each
-abbrev pub first_of : Option Fault → Option Fault → Option Fault
-first_of None second = second
-first_of (Some fault) second = Some fault

@@ -1,7 +1,7 @@
 // The first fault of a definition.
 ghost use Rattle.std.specs.Prelude.{◌≡◌, ◌≤◌, ◌++◌, length};
 ghost use Rattle.rml_terms.specs.Tree.{expr_tree};
-ghost use Rattle.rml_terms.specs.Shape.{ExprNests};
+ghost use Rattle.rml_terms.specs.Shape.{ExprNests, max_nesting};
 ghost use Rattle.rml_terms.specs.Within.{ExprWithin};
 ghost use Rattle.rml_syntax.specs.Within.{BindersWithin};
 ghost use Rattle.rml_sort_check.specs.declared.wanted.Wanted.TheVariants.{Formula};
@@ -10,15 +10,14 @@ ghost use Rattle.rml_sort_check.specs.Demands.{first_fault, demands, binders_dem
 ghost use Rattle.rml_names.specs.Scopes.{bound_names, names_of};
 ghost use Rattle.rml_names.specs.Drafts.{words_in};
 ghost use Rattle.rml_names.specs.Sound.{IsSorted};
+ghost use Rattle.fol_sig.specs.Arguments.{max_arguments};
 
 use crate::targets::{fault_at, shallow_fault};
 use crate::wanted::Wanted;
+use fol_sig::MAX_ARGUMENTS;
 use rml_lex::{Fault, FaultCode};
 use rml_names::{Declarations, Scope, bytes};
 use rml_terms::{Binder, Expr};
-
-// How many parameters a definition may have.
-const MAX_PARAMETERS: usize = 8;
 
 /// The first fault of a definition: of its parameters, or of its right side under them.
 pub fn definition_fault(
@@ -27,7 +26,7 @@ pub fn definition_fault(
     parameters: &[Binder],
     value: &Expr,
 ) -> Option<Fault>
-    requires nests { ExprNests 100 (expr_tree value.now) }
+    requires nests { ExprNests max_nesting (expr_tree value.now) }
     requires parameters { BindersWithin (length text.now) parameters.now }
     requires within { ExprWithin (length text.now) (expr_tree value.now) }
     requires sound { IsSorted (words_in known.now) }
@@ -48,9 +47,9 @@ fn defined_fault(
     value: &Expr,
 ) -> Option<Fault>
     requires counted { length (bound_names scope.now) ≡ count }
-    requires few { count ≤ 8 }
+    requires few { count ≤ max_arguments }
     requires parameters { BindersWithin (length text.now) parameters.now }
-    requires nests { ExprNests 100 (expr_tree value.now) }
+    requires nests { ExprNests max_nesting (expr_tree value.now) }
     requires within { ExprWithin (length text.now) (expr_tree value.now) }
     requires sound { IsSorted (words_in known.now) }
     ensures { result ≡ first_fault
@@ -72,7 +71,7 @@ fn defined_fault(
     let Some(sort) = known.sort(bytes(text, parameter.sort)) else {
         return Some(fault_at(FaultCode::UnknownName, parameter.sort));
     };
-    if count >= MAX_PARAMETERS {
+    if count >= MAX_ARGUMENTS {
         return Some(fault_at(FaultCode::WrongArgumentCount, parameter.sort));
     }
     let inside = Scope::inside(name, sort, &*scope);

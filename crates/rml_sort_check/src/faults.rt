@@ -12,10 +12,10 @@ ghost use Rattle.rml_sort_check.specs.Demands.{first_fault, is_expected as meets
 ghost use Rattle.rml_sort_check.specs.Demands.{no_term_code as code_of_no_term, name_demands, second_sort};
 ghost use Rattle.rml_sort_check.specs.Demands.{is_told_first, binder_demands, demands, formula_demands};
 ghost use Rattle.rml_sort_check.specs.Demands.{argument_demands};
-ghost use Rattle.rml_names.specs.Scopes.{bound_names};
+ghost use Rattle.rml_names.specs.Scopes.{bound_names, max_bound};
 ghost use Rattle.rml_names.specs.Drafts.{words_in};
 ghost use Rattle.rml_names.specs.Sound.{IsSorted, IsDeclared};
-ghost use Rattle.rml_sort_check.specs.Judging.{compound_fault, first_of as first_fault_of};
+ghost use Rattle.rml_sort_check.specs.Judging.{compound_fault};
 
 use crate::wanted::Wanted;
 use fol_sig::Sort;
@@ -144,7 +144,7 @@ fn name_fault(
 
 // The sort that an expression has as a term.
 pub fn term_sort(text: &[u8], known: &Declarations, scope: &Scope, e: &Expr) -> Option<u32>
-    requires few { length (bound_names scope.now) ≤ 108 }
+    requires few { length (bound_names scope.now) ≤ max_bound }
     requires within { ExprWithin (length text.now) (expr_tree e.now) }
     requires sound { IsSorted (words_in known.now) }
     ensures { result ≡ sort_of_term text.now (words_in known.now) (bound_names scope.now) (expr_tree e.now) }
@@ -168,16 +168,6 @@ fn second_sort(expected: Option<u32>, sort: Option<u32>) -> Option<u32>
     }
 }
 
-// The first fault of two parts.
-pub fn first_of(first: Option<Fault>, second: Option<Fault>) -> Option<Fault>
-    ensures { result ≡ first_fault_of first second }
-{
-    match first {
-        Some(_) => first,
-        None => second,
-    }
-}
-
 // The first fault of an expression, by what it has to be.
 #[cycle(judging)]
 pub fn expression_fault(
@@ -187,8 +177,8 @@ pub fn expression_fault(
     wanted: Wanted,
     e: &Expr,
 ) -> Option<Fault>
-    requires nests { ExprNests (108 - length (bound_names scope.now)) (expr_tree e.now) }
-    requires few { length (bound_names scope.now) ≤ 108 }
+    requires nests { ExprNests (max_bound - length (bound_names scope.now)) (expr_tree e.now) }
+    requires few { length (bound_names scope.now) ≤ max_bound }
     requires within { ExprWithin (length text.now) (expr_tree e.now) }
     requires sound { IsSorted (words_in known.now) }
     ensures { result ≡ first_fault
@@ -207,14 +197,14 @@ pub fn expression_fault(
                 let first = expression_fault(text, known, scope, Wanted::Term(expected), a);
                 let sort = second_sort(expected, term_sort(text, known, scope, a));
                 let second = expression_fault(text, known, scope, Wanted::Term(sort), b);
-                first_of(condition, first_of(first, second))
+                condition.or(first.or(second))
             }
         },
         Expr::Equal(at, a, b) => {
             let left = expression_fault(text, known, scope, Wanted::Term(None), a);
             let sort = term_sort(text, known, scope, a);
             let right = expression_fault(text, known, scope, Wanted::Term(sort), b);
-            compound_fault(wanted, *at, first_of(left, right))
+            compound_fault(wanted, *at, left.or(right))
         }
         Expr::Not(at, a) => {
             let part = expression_fault(text, known, scope, Wanted::Formula, a);
@@ -227,7 +217,7 @@ pub fn expression_fault(
         Expr::Implies(at, a, b) | Expr::Iff(at, a, b) => {
             let left = expression_fault(text, known, scope, Wanted::Formula, a);
             let right = expression_fault(text, known, scope, Wanted::Formula, b);
-            compound_fault(wanted, *at, first_of(left, right))
+            compound_fault(wanted, *at, left.or(right))
         }
         Expr::Quantified(quantifier, at, binder, a) => {
             let part = quantified_fault(text, known, scope, *quantifier, *at, *binder, a);
@@ -246,9 +236,9 @@ fn application_fault(
     name: Name,
     args: &[Expr],
 ) -> Option<Fault>
-    requires nests { ExprNests (108 - length (bound_names scope.now))
+    requires nests { ExprNests (max_bound - length (bound_names scope.now))
         (ApplyTree name (exprs_of (expr_trees args.now))) }
-    requires few { length (bound_names scope.now) ≤ 108 }
+    requires few { length (bound_names scope.now) ≤ max_bound }
     requires within { ExprWithin (length text.now) (ApplyTree name (exprs_of (expr_trees args.now))) }
     requires sound { IsSorted (words_in known.now) }
     ensures { result ≡ first_fault
@@ -258,7 +248,7 @@ fn application_fault(
     let meaning = known.meaning_from(0, scope, bytes(text, name));
     let named = name_fault(known, wanted, meaning, name.start, args.len());
     let applied = arguments_fault(text, known, scope, args, known.argument_sorts(meaning));
-    first_of(named, applied)
+    named.or(applied)
 }
 
 // A binder and what stands under it.
@@ -272,9 +262,9 @@ fn quantified_fault(
     binder: Binder,
     body: &Expr,
 ) -> Option<Fault>
-    requires nests { ExprNests (108 - length (bound_names scope.now))
+    requires nests { ExprNests (max_bound - length (bound_names scope.now))
         (QuantifiedTree quantifier at binder (expr_tree body.now)) }
-    requires few { length (bound_names scope.now) ≤ 108 }
+    requires few { length (bound_names scope.now) ≤ max_bound }
     requires within { ExprWithin (length text.now) (QuantifiedTree quantifier at binder (expr_tree body.now)) }
     requires sound { IsSorted (words_in known.now) }
     ensures { result ≡ first_fault
@@ -301,8 +291,8 @@ fn quantified_fault(
 // The operands of a connective.
 #[cycle(judging)]
 fn formulas_fault(text: &[u8], known: &Declarations, scope: &Scope, args: &[Expr]) -> Option<Fault>
-    requires nests { ExprsNest (108 - length (bound_names scope.now)) (exprs_of (expr_trees args.now)) }
-    requires few { length (bound_names scope.now) ≤ 108 }
+    requires nests { ExprsNest (max_bound - length (bound_names scope.now)) (exprs_of (expr_trees args.now)) }
+    requires few { length (bound_names scope.now) ≤ max_bound }
     requires within { ExprsWithin (length text.now) (exprs_of (expr_trees args.now)) }
     requires sound { IsSorted (words_in known.now) }
     ensures { result ≡ first_fault
@@ -325,8 +315,8 @@ pub fn arguments_fault(
     args: &[Expr],
     sorts: &[Sort],
 ) -> Option<Fault>
-    requires nests { ExprsNest (108 - length (bound_names scope.now)) (exprs_of (expr_trees args.now)) }
-    requires few { length (bound_names scope.now) ≤ 108 }
+    requires nests { ExprsNest (max_bound - length (bound_names scope.now)) (exprs_of (expr_trees args.now)) }
+    requires few { length (bound_names scope.now) ≤ max_bound }
     requires within { ExprsWithin (length text.now) (exprs_of (expr_trees args.now)) }
     requires sound { IsSorted (words_in known.now) }
     ensures { result ≡ first_fault

@@ -3,7 +3,7 @@ ghost use Rattle.std.specs.Prelude.{◌≡◌, ◌==◌, ◌||◌, ◌&&◌, ◌
 ghost use Rattle.std.specs.Prelude.{length, option_map};
 ghost use Rattle.fol_sig.specs.Tables.{numbers};
 ghost use Rattle.rml_terms.specs.Tree.{expr_tree, expr_trees, exprs_of};
-ghost use Rattle.rml_terms.specs.Shape.{ExprNests, ExprsNest};
+ghost use Rattle.rml_terms.specs.Shape.{ExprNests, ExprsNest, max_nesting};
 ghost use Rattle.rml_syntax.specs.Shape.{SideNests};
 ghost use Rattle.rml_terms.specs.Within.{NameWithin, NamesWithin, ExprWithin, ExprsWithin};
 ghost use Rattle.rml_syntax.specs.Within.{ValueWithin};
@@ -19,8 +19,9 @@ ghost use Rattle.rml_names.specs.Meanings.{is_writable as may_be_written};
 ghost use Rattle.rml_names.specs.Scopes.{bound_names, names_of};
 ghost use Rattle.rml_names.specs.Drafts.{words_in};
 ghost use Rattle.rml_names.specs.Sound.{IsSorted, IsDeclared};
+ghost use Rattle.fol_sig.specs.Arguments.{max_arguments};
 
-use crate::faults::{arguments_fault, expression_fault, first_of, is_known, is_relation};
+use crate::faults::{arguments_fault, expression_fault, is_known, is_relation};
 use crate::wanted::Wanted;
 use fol_sig::Sort;
 use rml_lex::{Fault, FaultCode};
@@ -40,7 +41,7 @@ pub fn fault_at(code: FaultCode, name: Name) -> Fault
 
 /// The first fault of an expression that has to be a formula, under no binder.
 pub fn sentence_fault(text: &[u8], known: &Declarations, e: &Expr) -> Option<Fault>
-    requires nests { ExprNests 100 (expr_tree e.now) }
+    requires nests { ExprNests max_nesting (expr_tree e.now) }
     requires within { ExprWithin (length text.now) (expr_tree e.now) }
     requires sound { IsSorted (words_in known.now) }
     ensures { result ≡ first_fault (demands text.now (words_in known.now) [] Formula (expr_tree e.now)) }
@@ -50,7 +51,7 @@ pub fn sentence_fault(text: &[u8], known: &Declarations, e: &Expr) -> Option<Fau
 
 // An expression under no binder.
 fn outer_fault(text: &[u8], known: &Declarations, wanted: Wanted, e: &Expr) -> Option<Fault>
-    requires nests { ExprNests 100 (expr_tree e.now) }
+    requires nests { ExprNests max_nesting (expr_tree e.now) }
     requires within { ExprWithin (length text.now) (expr_tree e.now) }
     requires sound { IsSorted (words_in known.now) }
     ensures { result ≡ first_fault (demands text.now (words_in known.now) [] wanted (expr_tree e.now)) }
@@ -59,7 +60,7 @@ fn outer_fault(text: &[u8], known: &Declarations, wanted: Wanted, e: &Expr) -> O
     shallow_fault(text, known, &outside, wanted, e)
 }
 
-// An expression under at most 8 names.
+// An expression under no names but the parameters of one symbol.
 pub fn shallow_fault(
     text: &[u8],
     known: &Declarations,
@@ -67,8 +68,8 @@ pub fn shallow_fault(
     wanted: Wanted,
     e: &Expr,
 ) -> Option<Fault>
-    requires few { length (bound_names scope.now) ≤ 8 }
-    requires nests { ExprNests 100 (expr_tree e.now) }
+    requires few { length (bound_names scope.now) ≤ max_arguments }
+    requires nests { ExprNests max_nesting (expr_tree e.now) }
     requires within { ExprWithin (length text.now) (expr_tree e.now) }
     requires sound { IsSorted (words_in known.now) }
     ensures { result ≡ first_fault
@@ -84,7 +85,7 @@ fn outer_arguments_fault(
     args: &[Expr],
     sorts: &[Sort],
 ) -> Option<Fault>
-    requires nests { ExprsNest 100 (exprs_of (expr_trees args.now)) }
+    requires nests { ExprsNest max_nesting (exprs_of (expr_trees args.now)) }
     requires within { ExprsWithin (length text.now) (exprs_of (expr_trees args.now)) }
     requires sound { IsSorted (words_in known.now) }
     ensures { result ≡ first_fault
@@ -103,7 +104,7 @@ fn is_counted(args: &[Expr], sorts: &[Sort]) -> bool
 
 /// The first fault of a relation and its arguments, of `insert` or `remove`.
 pub fn tuple_fault(text: &[u8], known: &Declarations, name: Name, args: &[Expr]) -> Option<Fault>
-    requires nests { ExprsNest 100 (exprs_of (expr_trees args.now)) }
+    requires nests { ExprsNest max_nesting (exprs_of (expr_trees args.now)) }
     requires name { NameWithin (length text.now) name }
     requires within { ExprsWithin (length text.now) (exprs_of (expr_trees args.now)) }
     requires sound { IsSorted (words_in known.now) }
@@ -133,8 +134,8 @@ pub fn put_fault(
     args: &[Expr],
     value: &Expr,
 ) -> Option<Fault>
-    requires nests { ExprsNest 100 (exprs_of (expr_trees args.now)) }
-    requires value_nests { ExprNests 100 (expr_tree value.now) }
+    requires nests { ExprsNest max_nesting (exprs_of (expr_trees args.now)) }
+    requires value_nests { ExprNests max_nesting (expr_tree value.now) }
     requires name { NameWithin (length text.now) name }
     requires within { ExprsWithin (length text.now) (exprs_of (expr_trees args.now)) }
     requires value_within { ExprWithin (length text.now) (expr_tree value.now) }
@@ -164,8 +165,8 @@ fn entry_fault(
     args: &[Expr],
     value: &Expr,
 ) -> Option<Fault>
-    requires nests { ExprsNest 100 (exprs_of (expr_trees args.now)) }
-    requires value_nests { ExprNests 100 (expr_tree value.now) }
+    requires nests { ExprsNest max_nesting (exprs_of (expr_trees args.now)) }
+    requires value_nests { ExprNests max_nesting (expr_tree value.now) }
     requires within { ExprsWithin (length text.now) (exprs_of (expr_trees args.now)) }
     requires value_within { ExprWithin (length text.now) (expr_tree value.now) }
     requires declared { IsDeclared (words_in known.now) symbol }
@@ -180,7 +181,7 @@ fn entry_fault(
     let arguments = outer_arguments_fault(text, known, args, sorts);
     let sort = known.result_sort(symbol);
     let entry = outer_fault(text, known, Wanted::Term(sort), value);
-    first_of(arguments, entry)
+    arguments.or(entry)
 }
 
 fn is_variable(known: &Declarations, symbol: Meaning) -> bool
@@ -252,7 +253,7 @@ pub fn assign_fault(
     parameters: &[Name],
     value: &Option<Expr>,
 ) -> Option<Fault>
-    requires nests { SideNests 100 (option_map expr_tree value.now) }
+    requires nests { SideNests max_nesting (option_map expr_tree value.now) }
     requires name { NameWithin (length text.now) name }
     requires parameters { NamesWithin (length text.now) parameters.now }
     requires within { ValueWithin (length text.now) (option_map expr_tree value.now) }
@@ -288,9 +289,9 @@ fn assigned_fault(
     value: &Option<Expr>,
 ) -> Option<Fault>
     requires as_many { length parameters.now ≡ length sorts.now }
-    requires few { length (bound_names scope.now) + length parameters.now ≤ 8 }
+    requires few { length (bound_names scope.now) + length parameters.now ≤ max_arguments }
     requires parameters_within { NamesWithin (length text.now) parameters.now }
-    requires nests { SideNests 100 (option_map expr_tree value.now) }
+    requires nests { SideNests max_nesting (option_map expr_tree value.now) }
     requires within { ValueWithin (length text.now) (option_map expr_tree value.now) }
     requires declared { IsDeclared (words_in known.now) symbol }
     requires sound { IsSorted (words_in known.now) }
@@ -325,8 +326,8 @@ fn side_fault(
     scope: &Scope,
     value: &Option<Expr>,
 ) -> Option<Fault>
-    requires few { length (bound_names scope.now) ≤ 8 }
-    requires nests { SideNests 100 (option_map expr_tree value.now) }
+    requires few { length (bound_names scope.now) ≤ max_arguments }
+    requires nests { SideNests max_nesting (option_map expr_tree value.now) }
     requires within { ValueWithin (length text.now) (option_map expr_tree value.now) }
     requires declared { IsDeclared (words_in known.now) symbol }
     requires sound { IsSorted (words_in known.now) }

@@ -5,7 +5,7 @@ use Rattle.std.proofs.lemmas.List.{append-nil, reverse-append, length-reverse}
 use Rattle.std.proofs.Math.Seq.{get_or-append_seam}
 use Rattle.std.proofs.lemmas.Bool.{eqb-true}
 use Rattle.fol_sig.specs.Symbols.{Symbols, symbols}
-use Rattle.fol_formula.specs.Syntax.{FormTree, TermTree, TermTrees, bound, no_terms, term_then}
+use Rattle.fol_formula.specs.Syntax.{FormTree, TermTree, TermTrees, bound, size_of, no_terms, term_then}
 use Rattle.fol_formula.specs.Fits.{FitsForm, FitsForms, FitsTerm, FitsTerms}
 use Rattle.rml_lex.specs.declared.fault_code.FaultCode.TheVariants as fault_code
 use Rattle.rml_terms.specs.declared.tree.Name.{Name}
@@ -29,7 +29,7 @@ use Rattle.rml_sort_check.specs.Demands.{Demand, first_fault, is_expected, expr_
 use Rattle.rml_sort_check.specs.Demands.{tuple_demands, put_demands, parameter_demands, side_demands, assign_demands, may_vary}
 use Rattle.rml_elaborate.specs.Formulas.{formula_of, term_of, terms_of}
 use Rattle.rml_command.specs.Fresh.{parameters}
-use Rattle.rml_elaborate.specs.Updates.{term_count, equations, at_tuple, insertion, removal, placement}
+use Rattle.rml_elaborate.specs.Updates.{equations, at_tuple, insertion, removal, placement}
 use Rattle.rml_elaborate.specs.Updates.{assignment}
 use Rattle.rml_sort_check.specs.Firsts.{met, met_left, met_right}
 use Rattle.rml_sorts.proofs.Extending.{Extends, same_symbols, term_grows}
@@ -59,7 +59,7 @@ parameters_fit sig (k ∷ ks) more =
     (parameter_fits sig k (length ks) ks more refl, parameters_fit sig ks (k ∷ more))
 
 count_fits : (sig : Symbols) (ss : List ℕ) (ts : TermTrees) (ks : List ℕ) → FitsTerms sig ss ts ks
-    → term_count ts ≡ length ks
+    → size_of ts ≡ length ks
 count_fits sig ss no_terms [] h = refl
 count_fits sig ss no_terms (k ∷ ks) h = absurd h
 count_fits sig ss (term_then t ts) [] h = absurd h
@@ -73,7 +73,7 @@ equations_fit sig (term_then t ts) (k ∷ ks) more h =
     subst (λ (ss : List ℕ). FitsForms sig ss (equations (term_then t ts))) (sym (turned k ks more)) (
       (
         k,
-        parameter_fits sig k (term_count ts) ks more (count_fits sig [] ts ks h.1),
+        parameter_fits sig k (size_of ts) ks more (count_fits sig [] ts ks h.1),
         term_grows sig sig
             (same_symbols sig) (reverse ks ++ (k ∷ more)) [] t k h.0,
       ),
@@ -82,7 +82,7 @@ equations_fit sig (term_then t ts) (k ∷ ks) more h =
 
 -- the two of an update at one tuple: the symbol at its parameters, and the equations
 record TupleFits (sig : Symbols) (ts : TermTrees) (ks : List ℕ) : Type 0 where
-  parameters_fit : FitsTerms sig (reverse ks) (parameters (term_count ts)) ks
+  parameters_fit : FitsTerms sig (reverse ks) (parameters (size_of ts)) ks
   equations_fit : FitsForm sig (reverse ks) (at_tuple ts)
 
 tuple_fits : (sig : Symbols) (ts : TermTrees) (ks : List ℕ) → FitsTerms sig [] ts ks → TupleFits sig ts ks

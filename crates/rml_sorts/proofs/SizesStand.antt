@@ -2,6 +2,7 @@
 use Rattle.std.proofs.Common.{◌≡◌, ◌≤◌, ℕ, Bool, true, false, if◌then◌else◌, List, [], ◌∷◌, ◌++◌, Option, Some, None, subst}
 use Rattle.std.proofs.Common.{arith}
 use Rattle.std.specs.List.{AllByRecursion}
+use Rattle.std.specs.Option.{option_or}
 use Rattle.base.proofs.Lists.{all_append}
 use Rattle.rml_lex.specs.declared.token.Fault.{Fault}
 use Rattle.rml_lex.specs.Tokens.{StandsBy}
@@ -22,7 +23,7 @@ use Rattle.rml_names.specs.Meanings.{with_binders}
 use Rattle.fol_formula.specs.Syntax.{FormTree}
 use Rattle.rml_names.specs.Drafts.{DraftTree, empty_draft}
 use Rattle.rml_sort_check.specs.Demands.{Demand, first_fault}
-use Rattle.rml_elaborate.specs.Sizes.{first_of, use_or_inside, first_use_of, first_use_in_each, first_use_in_side}
+use Rattle.rml_elaborate.specs.Sizes.{use_or_inside, first_use_of, first_use_in_each, first_use_in_side}
 use Rattle.rml_elaborate.specs.Sizes.{where_large}
 use Rattle.rml_sorts.specs.Sizes.{no_large_use, command_sizes, block_sizes, blocks_sizes, item_sizes}
 use Rattle.rml_sorts.specs.Items.{draft_with, items_sizes}
@@ -40,7 +41,7 @@ module _ (n : ℕ) where
   both : (xs ys : List Demand) → Stand xs → Stand ys → Stand (xs ++ ys)
   both xs ys h k = all_append (λ (d : Demand). d.fault.at ≤ n) xs ys h k
 
-  first_stands : (a b : Option ℕ) → UseStands a → UseStands b → UseStands (first_of a b)
+  first_stands : (a b : Option ℕ) → UseStands a → UseStands b → UseStands (option_or a b)
   first_stands (Some at) b h k = h
   first_stands None b h k = k
 
@@ -69,7 +70,7 @@ module _ (n : ℕ) where
           use_stands (meaning_of v bs (bytes_of text name)) name.start (first_use_in_each text v bs args) (start name h.0)
           (exprs_stand bs args h.1)
       expr_stands bs (Ite at c a b) h =
-          first_stands (first_use_of text v bs c) (first_of (first_use_of text v bs a) (first_use_of text v bs b))
+          first_stands (first_use_of text v bs c) (option_or (first_use_of text v bs a) (first_use_of text v bs b))
           (expr_stands bs c h.1) (first_stands (first_use_of text v bs a) (first_use_of text v bs b)
           (expr_stands bs a h.2) (expr_stands bs b h.3))
       expr_stands bs (Equal at a b) h =
@@ -112,7 +113,7 @@ module _ (n : ℕ) where
       command_stands (Remove at name args) h =
           large_stands _ (first_use_in_each text v [] args) (exprs_stand text v [] args h.2)
       command_stands (Put at name args e) h =
-          large_stands _ (first_of (first_use_in_each text v [] args) (first_use_of text v [] e))
+          large_stands _ (option_or (first_use_in_each text v [] args) (first_use_of text v [] e))
           (first_stands (first_use_in_each text v [] args) (first_use_of text v [] e) (exprs_stand text v [] args h.2)
           (expr_stands text v [] e h.3))
       command_stands (Assign name ps value) h =

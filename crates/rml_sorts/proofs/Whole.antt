@@ -45,6 +45,7 @@ use Rattle.rml_sorts.specs.Listed.{listed_axiom}
 use Rattle.rml_sorts.specs.Items.{block_command, draft_with, draft_of}
 use Rattle.rml_sorts.specs.Laws.{ModelsAreWhole, DraftsAreSound}
 use Rattle.rml_sorts.specs.Sound.{EachDraftBlock, HasBodies, IsPlainDraft, IsSound}
+use Rattle.rml_terms.specs.Shape.{max_nesting}
 use Rattle.rml_sorts.proofs.Extending.{Extends, further, form_grows, sentence_grows, command_grows, each_more}
 use Rattle.rml_sorts.proofs.Growing.{grown_sorts, grown_relations, grown_functions, grown_elements, element_count}
 use Rattle.rml_sorts.proofs.Growing.{elements_are}
@@ -329,7 +330,7 @@ module _ (laws : AreLaws) (text : List ℕ) (format : Format) (d : DraftTree) (s
     plain : d.places.quantifiers ++ quantifiers_of_block (block_of cs) ≡ []
         → EachPrimitive HasPlainSides (block_command text d cs)
 
-  adds_block : (cs : List syntax.CommandTree) → CommandsNest 100 cs
+  adds_block : (cs : List syntax.CommandTree) → CommandsNest max_nesting cs
       → first_fault (block_demands text d.vocabulary format (block_of cs)) ≡ None → AddsBlock cs
   adds_block cs nests met =
       let b = block_of cs in
@@ -339,7 +340,7 @@ module _ (laws : AreLaws) (text : List ℕ) (format : Format) (d : DraftTree) (s
         fits = block_fits laws.fit text format d.vocabulary d.bodies s.words s.bodies b met;
         conditions = all_append (λ (c : Condition). FitsForm (symbols d.vocabulary.signature) [] c.sentence) old new
             s.conditions (block_conditions_fit laws.fit text format d.vocabulary d.bodies s.words s.bodies b met);
-        branches = block_branches text d.vocabulary d.bodies 100 b (block_nests 100 cs nests);
+        branches = block_branches text d.vocabulary d.bodies max_nesting b (block_nests max_nesting cs nests);
         written = each_more (IsWritten new) (IsWritten (old ++ new)) (written_right old new) (block_command text d cs)
             (block_written text d.vocabulary d.bodies b);
         others = each_more (IsWritten old) (IsWritten (old ++ new)) (written_left old new);
@@ -618,7 +619,7 @@ name_count-places [] = refl
 name_count-places (name ∷ names) = ap suc (name_count-places names)
 
 pub step : (laws : AreLaws) (text : List ℕ) (format : Format) (d : DraftTree) (item : ItemTree) → IsSound d
-    → ItemNests 100 item → first_fault (head_demands text d.vocabulary item) ≡ None
+    → ItemNests max_nesting item → first_fault (head_demands text d.vocabulary item) ≡ None
     → first_fault (body_demands text format d.vocabulary item) ≡ None → IsSound (draft_with text d item)
 step laws text format d (syntax.Sort name names) s nests head body =
     let v = words_with text d.vocabulary (syntax.Sort name names) in
@@ -664,7 +665,7 @@ step laws text format d (Define name bs e) s nests head body =
     (laws.sorted text format d.vocabulary (Define name bs e) s.words head body) body
 
 steps : (laws : AreLaws) (text : List ℕ) (format : Format) (items : List ItemTree) (d : DraftTree) → IsSound d
-    → AllByRecursion (ItemNests 100) items → HaveMet text format d.vocabulary items
+    → AllByRecursion (ItemNests max_nesting) items → HaveMet text format d.vocabulary items
     → IsSound (draft_of text d items)
 steps laws text format [] d s nests h = s
 steps laws text format (item ∷ items) d s nests h =

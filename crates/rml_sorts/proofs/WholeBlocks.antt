@@ -4,7 +4,7 @@ use Rattle.std.proofs.Common.{◌≡◌, ℕ, zero, suc, true, false, inl, inr, 
 use Rattle.std.specs.List.{AllByRecursion}
 use Rattle.base.proofs.Lists.{all_append, some_left, some_right}
 use Rattle.fol_sig.specs.Symbols.{symbols}
-use Rattle.fol_formula.specs.Syntax.{FormTree, TermTree, TermTrees, no_terms, term_then}
+use Rattle.fol_formula.specs.Syntax.{FormTree, TermTree, TermTrees, size_of, no_terms, term_then}
 use Rattle.fol_formula.specs.Fits.{FitsForm}
 use Rattle.fol_formula.specs.Fragments.{IsQuantifierFree, HasPlainTerms, AreQuantifierFree, IsQuantifierFreeTerm, AreQuantifierFreeTerms}
 use Rattle.rml_terms.specs.declared.tree.Name.{Name}
@@ -31,7 +31,7 @@ use Rattle.rml_sort_check.specs.Demands.{first_fault, demands, command_demands, 
 use Rattle.rml_elaborate.specs.Formulas.{formula_of, term_of, terms_of}
 use Rattle.rml_quantifiers.specs.Quantifiers.{quantifiers_in, quantifiers_in_each}
 use Rattle.rml_command.specs.Fresh.{parameters}
-use Rattle.rml_elaborate.specs.Updates.{term_count, equations, insertion, removal, placement, assignment}
+use Rattle.rml_elaborate.specs.Updates.{equations, insertion, removal, placement, assignment}
 use Rattle.rml_sorts.specs.Commands.{command_of, commands_of, branches_of, conditions_of, conditions_of_block}
 use Rattle.rml_sorts.specs.Commands.{conditions_of_blocks}
 use Rattle.rml_quantifiers.specs.Quantifiers.{quantifiers_of_side, quantifiers_of, quantifiers_of_block}
@@ -279,14 +279,14 @@ equations_free (term_then t ts) h = ((tt, h.0), equations_free ts h.1)
 
 insertion_plain : (x : Meaning) (ts : TermTrees) → AreQuantifierFreeTerms ts → HasPlainSides (insertion x ts)
 insertion_plain (meaning.Bound i k) ts h = tt
-insertion_plain (meaning.Relation r) ts h = (parameters_free (term_count ts), (equations_free ts h, tt))
+insertion_plain (meaning.Relation r) ts h = (parameters_free (size_of ts), (equations_free ts h, tt))
 insertion_plain (meaning.Function f) ts h = tt
 insertion_plain (meaning.Derived d) ts h = tt
 insertion_plain meaning.Unknown ts h = tt
 
 removal_plain : (x : Meaning) (ts : TermTrees) → AreQuantifierFreeTerms ts → HasPlainSides (removal x ts)
 removal_plain (meaning.Bound i k) ts h = tt
-removal_plain (meaning.Relation r) ts h = (parameters_free (term_count ts), (equations_free ts h, tt))
+removal_plain (meaning.Relation r) ts h = (parameters_free (size_of ts), (equations_free ts h, tt))
 removal_plain (meaning.Function f) ts h = tt
 removal_plain (meaning.Derived d) ts h = tt
 removal_plain meaning.Unknown ts h = tt
@@ -295,7 +295,7 @@ placement_plain : (x : Meaning) (ts : TermTrees) (u : TermTree) → AreQuantifie
     → HasPlainSides (placement x ts u)
 placement_plain (meaning.Bound i k) ts u h g = tt
 placement_plain (meaning.Relation r) ts u h g = tt
-placement_plain (meaning.Function f) ts u h g = (equations_free ts h, g, parameters_free (term_count ts))
+placement_plain (meaning.Function f) ts u h g = (equations_free ts h, g, parameters_free (size_of ts))
 placement_plain (meaning.Derived d) ts u h g = tt
 placement_plain meaning.Unknown ts u h g = tt
 

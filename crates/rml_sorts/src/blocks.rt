@@ -7,7 +7,7 @@ ghost use Rattle.rml_syntax.specs.Tree as syntax;
 ghost use Rattle.rml_terms.specs.Within.{ExprWithin, ExprsWithin, NameWithin, NamesWithin};
 ghost use Rattle.rml_syntax.specs.Within.{ValueWithin, CommandWithin};
 ghost use Rattle.rml_syntax.specs.Within.{BlockWithin, BlocksWithin};
-ghost use Rattle.rml_terms.specs.Shape.{ExprNests, ExprsNest};
+ghost use Rattle.rml_terms.specs.Shape.{ExprNests, ExprsNest, max_nesting};
 ghost use Rattle.rml_syntax.specs.Shape.{SideNests, CommandNests, BlockNests, BlocksNest};
 ghost use Rattle.rml_command.specs.View.{command as command_view, commands as commands_view};
 ghost use Rattle.rml_command.specs.Trees.{seq, choose};
@@ -53,7 +53,7 @@ fn command(
     c: &syntax::Command,
     conditions: &mut Vec<Condition>,
 ) -> Result<Command, Refused<Fault>>
-    requires nests { CommandNests 100 (command_tree c.now) }
+    requires nests { CommandNests max_nesting (command_tree c.now) }
     requires within { CommandWithin (length text.now) (command_tree c.now) }
     requires sound { IsSound (draft_in draft.now) }
     requires met { first_fault
@@ -102,7 +102,7 @@ fn assumed(
     e: &Expr,
     conditions: &mut Vec<Condition>,
 ) -> Result<Command, Refused<Fault>>
-    requires nests { ExprNests 100 (expr_tree e.now) }
+    requires nests { ExprNests max_nesting (expr_tree e.now) }
     requires within { ExprWithin (length text.now) (expr_tree e.now) }
     requires sound { IsSound (draft_in draft.now) }
     requires met { first_fault (demands text.now (draft_in draft.now).vocabulary [] wanted.Formula (expr_tree e.now))
@@ -129,7 +129,7 @@ fn asserted(
     e: &Expr,
     conditions: &mut Vec<Condition>,
 ) -> Result<Command, Refused<Fault>>
-    requires nests { ExprNests 100 (expr_tree e.now) }
+    requires nests { ExprNests max_nesting (expr_tree e.now) }
     requires within { ExprWithin (length text.now) (expr_tree e.now) }
     requires sound { IsSound (draft_in draft.now) }
     requires met { first_fault (demands text.now (draft_in draft.now).vocabulary [] wanted.Formula (expr_tree e.now))
@@ -158,7 +158,7 @@ pub fn block(
     commands: &[syntax::Command],
     conditions: &mut Vec<Condition>,
 ) -> Result<Vec<Command>, Refused<Fault>>
-    requires nests { BlockNests 100 (block_of (command_trees commands.now)) }
+    requires nests { BlockNests max_nesting (block_of (command_trees commands.now)) }
     requires within { BlockWithin (length text.now) (block_of (command_trees commands.now)) }
     requires sound { IsSound (draft_in draft.now) }
     requires met { first_fault

@@ -2,7 +2,7 @@
 // judged before.
 ghost use Rattle.std.specs.Prelude.{◌≡◌, ◌<◌, ◌≤◌, ◌-◌, ◌++◌, [], None, length, OnOk};
 ghost use Rattle.rml_terms.specs.Tree.{expr_tree};
-ghost use Rattle.rml_terms.specs.Shape.{ExprNests};
+ghost use Rattle.rml_terms.specs.Shape.{ExprNests, max_nesting};
 ghost use Rattle.rml_terms.specs.Within.{NameWithin, NamesWithin, ExprWithin};
 ghost use Rattle.rml_terms.specs.Places.{name_places};
 ghost use Rattle.rml_syntax.specs.Tree.{command_trees, item_tree, block_of};
@@ -52,7 +52,7 @@ fn build_axiom(
     e: &Expr,
 ) -> Result<(), Refused<Fault>>
     requires name { NameWithin (length text.now) name }
-    requires nests { ExprNests 100 (expr_tree e.now) }
+    requires nests { ExprNests max_nesting (expr_tree e.now) }
     requires within { ExprWithin (length text.now) (expr_tree e.now) }
     requires sound { IsSound (draft_in draft.old) }
     requires head { first_fault
@@ -81,7 +81,7 @@ fn build_conjecture(
     e: &Expr,
 ) -> Result<(), Refused<Fault>>
     requires name { NameWithin (length text.now) name }
-    requires nests { ExprNests 100 (expr_tree e.now) }
+    requires nests { ExprNests max_nesting (expr_tree e.now) }
     requires within { ExprWithin (length text.now) (expr_tree e.now) }
     requires sound { IsSound (draft_in draft.old) }
     requires head { first_fault
@@ -110,7 +110,7 @@ fn built_block(
     format: Format,
     commands: &[syntax::Command],
 ) -> Result<Command, Refused<Fault>>
-    requires nests { CommandsNest 100 (command_trees commands.now) }
+    requires nests { CommandsNest max_nesting (command_trees commands.now) }
     requires within { CommandsWithin (length text.now) (command_trees commands.now) }
     requires sound { IsSound (draft_in draft.old) }
     requires met { first_fault
@@ -142,7 +142,7 @@ fn build_action(
     commands: &[syntax::Command],
 ) -> Result<(), Refused<Fault>>
     requires name { NameWithin (length text.now) name }
-    requires nests { CommandsNest 100 (command_trees commands.now) }
+    requires nests { CommandsNest max_nesting (command_trees commands.now) }
     requires within { CommandsWithin (length text.now) (command_trees commands.now) }
     requires sound { IsSound (draft_in draft.old) }
     requires head { first_fault
@@ -171,7 +171,7 @@ fn build_init(
     at: u64,
     commands: &[syntax::Command],
 ) -> Result<(), Refused<Fault>>
-    requires nests { CommandsNest 100 (command_trees commands.now) }
+    requires nests { CommandsNest max_nesting (command_trees commands.now) }
     requires within { CommandsWithin (length text.now) (command_trees commands.now) }
     requires sound { IsSound (draft_in draft.old) }
     requires met { first_fault
@@ -197,7 +197,7 @@ fn build_last(
     at: u64,
     commands: &[syntax::Command],
 ) -> Result<(), Refused<Fault>>
-    requires nests { CommandsNest 100 (command_trees commands.now) }
+    requires nests { CommandsNest max_nesting (command_trees commands.now) }
     requires within { CommandsWithin (length text.now) (command_trees commands.now) }
     requires sound { IsSound (draft_in draft.old) }
     requires met { first_fault
@@ -225,7 +225,7 @@ fn build_definition(
 ) -> Result<(), Refused<Fault>>
     requires name { NameWithin (length text.now) name }
     requires parameters { BindersWithin (length text.now) parameters.now }
-    requires nests { ExprNests 100 (expr_tree value.now) }
+    requires nests { ExprNests max_nesting (expr_tree value.now) }
     requires within { ExprWithin (length text.now) (expr_tree value.now) }
     requires sound { IsSound (draft_in draft.old) }
     requires head { first_fault (head_demands text.now (draft_in draft.old).vocabulary
@@ -323,7 +323,7 @@ pub fn build_item(
     draft: &mut ModelDraft,
     item: &Item,
 ) -> Result<(), Refused<Fault>>
-    requires nests { ItemNests 100 (item_tree item.now) }
+    requires nests { ItemNests max_nesting (item_tree item.now) }
     requires within { ItemWithin (length text.now) (item_tree item.now) }
     requires sound { IsSound (draft_in draft.old) }
     requires head { first_fault (head_demands text.now (draft_in draft.old).vocabulary (item_tree item.now)) ≡ None }

@@ -3,7 +3,7 @@ ghost use Rattle.std.specs.Prelude.{◌≡◌, ◌++◌, ◌∷◌, [], None, le
 ghost use Rattle.fol_formula.specs.Syntax.{negation};
 ghost use Rattle.rml_terms.specs.Tree.{expr_tree};
 ghost use Rattle.rml_terms.specs.Within.{ExprWithin};
-ghost use Rattle.rml_terms.specs.Shape.{ExprNests};
+ghost use Rattle.rml_terms.specs.Shape.{ExprNests, max_nesting};
 ghost use Rattle.rml_command.specs.View.{command as command_view, commands as commands_view};
 ghost use Rattle.rml_command.specs.Trees.{assume, prim, seq, choose, command_then, no_commands};
 ghost use Rattle.rml_sort_check.specs.declared.wanted.Wanted.TheVariants as wanted;
@@ -38,7 +38,7 @@ pub fn too_large(at: u64) -> Refused<Fault>
 
 // The sentence of an expression that is not too large.
 fn written_sentence(alloc: Global, text: &[u8], draft: &ModelDraft, e: &Expr) -> Mem<Sentence>
-    requires nests { ExprNests 100 (expr_tree e.now) }
+    requires nests { ExprNests max_nesting (expr_tree e.now) }
     requires within { ExprWithin (length text.now) (expr_tree e.now) }
     requires sound { IsSound (draft_in draft.now) }
     requires met { first_fault (demands text.now (draft_in draft.now).vocabulary [] wanted.Formula (expr_tree e.now))
@@ -60,7 +60,7 @@ pub fn sentence(
     draft: &ModelDraft,
     e: &Expr,
 ) -> Result<Sentence, Refused<Fault>>
-    requires nests { ExprNests 100 (expr_tree e.now) }
+    requires nests { ExprNests max_nesting (expr_tree e.now) }
     requires within { ExprWithin (length text.now) (expr_tree e.now) }
     requires sound { IsSound (draft_in draft.now) }
     requires met { first_fault (demands text.now (draft_in draft.now).vocabulary [] wanted.Formula (expr_tree e.now))
@@ -87,7 +87,7 @@ pub fn noted_sentence(
     e: &Expr,
     conditions: &mut Vec<Condition>,
 ) -> Result<Sentence, Refused<Fault>>
-    requires nests { ExprNests 100 (expr_tree e.now) }
+    requires nests { ExprNests max_nesting (expr_tree e.now) }
     requires within { ExprWithin (length text.now) (expr_tree e.now) }
     requires sound { IsSound (draft_in draft.now) }
     requires met { first_fault (demands text.now (draft_in draft.now).vocabulary [] wanted.Formula (expr_tree e.now))

@@ -3,7 +3,7 @@ ghost use Rattle.std.specs.Prelude.{◌≡◌, [], None, length, option_map};
 ghost use Rattle.rml_terms.specs.Tree.{expr_tree, exprs_of, expr_trees};
 ghost use Rattle.rml_terms.specs.Within.{ExprWithin, ExprsWithin, NameWithin, NamesWithin};
 ghost use Rattle.rml_syntax.specs.Within.{ValueWithin};
-ghost use Rattle.rml_terms.specs.Shape.{ExprNests, ExprsNest};
+ghost use Rattle.rml_terms.specs.Shape.{ExprNests, ExprsNest, max_nesting};
 ghost use Rattle.rml_syntax.specs.Shape.{SideNests};
 ghost use Rattle.rml_command.specs.View.{command as command_view};
 ghost use Rattle.rml_command.specs.Trees.{prim};
@@ -42,7 +42,7 @@ pub fn insert_command(
     name: Name,
     args: &[Expr],
 ) -> Result<Command, Refused<Fault>>
-    requires nests { ExprsNest 100 (exprs_of (expr_trees args.now)) }
+    requires nests { ExprsNest max_nesting (exprs_of (expr_trees args.now)) }
     requires name { NameWithin (length text.now) name }
     requires within { ExprsWithin (length text.now) (exprs_of (expr_trees args.now)) }
     requires sound { IsSound (draft_in draft.now) }
@@ -72,7 +72,7 @@ pub fn remove_command(
     name: Name,
     args: &[Expr],
 ) -> Result<Command, Refused<Fault>>
-    requires nests { ExprsNest 100 (exprs_of (expr_trees args.now)) }
+    requires nests { ExprsNest max_nesting (exprs_of (expr_trees args.now)) }
     requires name { NameWithin (length text.now) name }
     requires within { ExprsWithin (length text.now) (exprs_of (expr_trees args.now)) }
     requires sound { IsSound (draft_in draft.now) }
@@ -103,8 +103,8 @@ pub fn put_command(
     args: &[Expr],
     value: &Expr,
 ) -> Result<Command, Refused<Fault>>
-    requires nests { ExprsNest 100 (exprs_of (expr_trees args.now)) }
-    requires value_nests { ExprNests 100 (expr_tree value.now) }
+    requires nests { ExprsNest max_nesting (exprs_of (expr_trees args.now)) }
+    requires value_nests { ExprNests max_nesting (expr_tree value.now) }
     requires name { NameWithin (length text.now) name }
     requires within { ExprsWithin (length text.now) (exprs_of (expr_trees args.now)) }
     requires value_within { ExprWithin (length text.now) (expr_tree value.now) }
@@ -139,7 +139,7 @@ pub fn assign_command(
     parameters: &[Name],
     value: &Option<Expr>,
 ) -> Result<Command, Refused<Fault>>
-    requires nests { SideNests 100 (option_map expr_tree value.now) }
+    requires nests { SideNests max_nesting (option_map expr_tree value.now) }
     requires name { NameWithin (length text.now) name }
     requires parameters { NamesWithin (length text.now) parameters.now }
     requires within { ValueWithin (length text.now) (option_map expr_tree value.now) }

@@ -13,6 +13,7 @@ ghost use Rattle.rml_items.specs.Items.{fault_of};
 ghost use Rattle.rml_sorts.specs.Items.{draft_of, items_sizes, model_of, size_fault_of, IsRefusal};
 ghost use Rattle.rml_items.specs.Laws.{HaveMet};
 ghost use Rattle.rml_sorts.specs.Sound.{IsSound};
+ghost use Rattle.rml_terms.specs.Shape.{max_nesting};
 
 use crate::items::build_item;
 use crate::laws::{model_law, size_fault_law};
@@ -32,7 +33,7 @@ fn build_items(
     items: &[Item],
 ) -> Result<(), Refused<Fault>>
     requires within { AllByRecursion (ItemWithin (length text.now)) (item_trees items.now) }
-    requires shape { AllByRecursion (ItemNests 100) (item_trees items.now) }
+    requires shape { AllByRecursion (ItemNests max_nesting) (item_trees items.now) }
     requires sound { IsSound (draft_in draft.old) }
     requires met { HaveMet text.now format (draft_in draft.old).vocabulary (item_trees items.now) }
     ensures { Answers (λ _. draft_in draft.new) result

@@ -5,7 +5,7 @@ use Rattle.rml_phrases.specs.Language.{Tokens}
 use Rattle.rml_phrases.specs.Carries.{Span}
 use Rattle.rml_phrases.proofs.Walk.{Maybe, Each, EachOfSome, all_of_each, no_rules}
 use Rattle.rml_terms.specs.Tree.{ExprTree, ExprTrees, exprs_of}
-use Rattle.rml_terms.specs.Shape.{ExprNests, ExprsNest}
+use Rattle.rml_terms.specs.Shape.{ExprNests, ExprsNest, max_nesting}
 use Rattle.rml_terms.specs.Laws.{TermsNest}
 use Rattle.rml_syntax.specs.Tree.{CommandTree, Block, Blocks, Skip, Abort, Assume, Assert, If, Choose, Insert, Remove}
 use Rattle.rml_syntax.specs.Tree.{Put, Assign, no_command, and_command, no_block, and_block, FileTree, block_of}
@@ -115,12 +115,12 @@ pub is_shaped : TermsNest → ((n : ℕ) (e : ExprTree) → ExprNests n e → Ex
     → (file tree.format max_levels).whole ts tree.items → IsShaped tree
 unfolding max_levels
 is_shaped terms expr_more exprs_more ts tree h =
-    all_of_each no_rules (ItemNests 100) 0 0 tree.items ((file_walks no_rules trees (λ m. record {
+    all_of_each no_rules (ItemNests max_nesting) 0 0 tree.items ((file_walks no_rules trees (λ m. record {
       name = terms.name;
       names = terms.names;
       parameters = terms.parameters m;
       enclosed = terms.enclosed m;
       arguments = terms.arguments m;
       expr = terms.expr m;
-    }) (λ m lo hi x h. command_more expr_more exprs_more m x h) tree.format 100).holds 0 0
+    }) (λ m lo hi x h. command_more expr_more exprs_more m x h) tree.format max_nesting).holds 0 0
     ts tree.items h tt)

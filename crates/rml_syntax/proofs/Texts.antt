@@ -24,7 +24,7 @@ use Rattle.rml_syntax.specs.Faults.{place_at, IsFault}
 use Rattle.rml_phrases.specs.Reading.{number, Why, Unexpected, TooDeep, Failure, fails, Stops}
 use Rattle.rml_syntax.specs.Reading.{items_at, all_at, of_format, read_in, read_at, failure_of, fault_of}
 use Rattle.rml_terms.specs.Tree.{ExprTree, ExprTrees}
-use Rattle.rml_terms.specs.Shape.{ExprNests, ExprsNest}
+use Rattle.rml_terms.specs.Shape.{ExprNests, ExprsNest, max_nesting}
 use Rattle.rml_terms.specs.Laws.{AreRead, TermsStand, TermsNest}
 use Rattle.rml_phrases.proofs.Exact.{bind_ok, bind_err, ok_is, err_is, same_kind}
 use Rattle.rml_phrases.proofs.Fronts.{cut}
@@ -37,23 +37,23 @@ use Rattle.rml_syntax.proofs.Whole.{all_found, all_only, unexpected, deep, IsRef
 
 -- ---- the format
 
-hundred : 100 ≡ max_levels
+as_nested : max_nesting ≡ max_levels
 unfolding max_levels
-hundred = refl
+as_nested = refl
 
 -- ---- what the parser reads
 
 read_is : (text : List ℕ) (ts : Tokens) (f : Format) → format_of text ts ≡ Some f
-    → read_at text ts ≡ of_format f (all_at f 100 ts)
+    → read_at text ts ≡ of_format f (all_at f max_nesting ts)
 read_is text ts f is =
-    ap (λ (o : Option Format). read_in o ts) is ∙ ap (λ (n : ℕ). of_format f (all_at f n ts)) (sym hundred)
+    ap (λ (o : Option Format). read_in o ts) is ∙ ap (λ (n : ℕ). of_format f (all_at f n ts)) (sym as_nested)
 
 pub reads_in : (text : List ℕ) (ts : Tokens) (f : Format) (items : List ItemTree) → format_of text ts ≡ Some f
-    → all_at f 100 ts ≡ Ok items → read_at text ts ≡ Ok (record { format = f; items = items })
+    → all_at f max_nesting ts ≡ Ok items → read_at text ts ≡ Ok (record { format = f; items = items })
 reads_in text ts f items is e = read_is text ts f is ∙ ap (of_format f) e
 
 pub stops_in : (text : List ℕ) (ts : Tokens) (f : Format) → format_of text ts ≡ Some f → (e : Refused Stop)
-    → Stops e (all_at f 100 ts) → Stops e (read_at text ts)
+    → Stops e (all_at f max_nesting ts) → Stops e (read_at text ts)
 stops_in text ts f is refused.NoMemory h = tt
 stops_in text ts f is (refused.For (stops.Unexpected rest)) h = read_is text ts f is ∙ ap (of_format f) h
 stops_in text ts f is (refused.For (stops.TooDeep rest)) h = read_is text ts f is ∙ ap (of_format f) h

@@ -14,6 +14,7 @@ use Rattle.rml_phrases.specs.Piece.{separated}
 use Rattle.rml_terms.specs.declared.tree.Name.{Name}
 use Rattle.rml_terms.specs.declared.tree.Binder.{Binder}
 use Rattle.rml_terms.specs.Tree.{ExprTree}
+use Rattle.rml_terms.specs.Shape.{max_nesting}
 use Rattle.rml_terms.specs.Grammar as terms
 use Rattle.rml_terms.specs.Grammar.{name, names, parameters, enclosed, arguments, expr, binder}
 use Rattle.rml_syntax.specs.declared.tree.Format.{Format}
@@ -126,6 +127,6 @@ level n = record { terms = terms.level n; cmds = inside n; binders = binders_ins
 abbrev pub file : Format → ℕ → Piece (List ItemTree)
 file format levels = items format (level levels)
 
--- how many levels may open inside one another
+-- how many levels may open inside one another: as many as binders, each of which opens one
 unfoldable pub max_levels : ℕ
-max_levels = 100
+max_levels = max_nesting

@@ -2,7 +2,7 @@
 use Rattle.std.specs.Prelude.{ℕ, List, Option, Some, None}
 use Rattle.std.specs.List.{AllByRecursion}
 use Rattle.rml_terms.specs.Tree.{ExprTree}
-use Rattle.rml_terms.specs.Shape.{ExprNests, ExprsNest}
+use Rattle.rml_terms.specs.Shape.{ExprNests, ExprsNest, max_nesting}
 use Rattle.rml_syntax.specs.Tree.{CommandTree, Block, Blocks, Skip, Abort, Assume, Assert, If, Choose, Insert, Remove}
 use Rattle.rml_syntax.specs.Tree.{Put, Assign, no_command, and_command, no_block, and_block, ItemTree, FileTree, Sort}
 use Rattle.rml_syntax.specs.Tree.{Relation, Function, Variable, Axiom, Conjecture, Init, Action, Final, Define}
@@ -52,6 +52,6 @@ ItemNests n (Action name cs) = CommandsNest n cs
 ItemNests n (Final at cs) = CommandsNest n cs
 ItemNests n (Define name bs e) = ExprNests n e
 
--- at most 100 binders lie inside one another, and each choice has a branch
+-- no more binders lie inside one another than may, and each choice has a branch
 abbrev pub IsShaped : FileTree → Type 0
-IsShaped tree = AllByRecursion (ItemNests 100) tree.items
+IsShaped tree = AllByRecursion (ItemNests max_nesting) tree.items

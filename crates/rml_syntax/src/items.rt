@@ -13,7 +13,7 @@ use crate::tree::{Format, Item};
 use base::Refused;
 use rml_lex::{Kind, Sign, Token, Word};
 use rml_phrases::{Read, Stop, after, expect};
-use rml_terms::{Binder, Name, expr, name, names, parameters};
+use rml_terms::{Binder, Name, binder, expr, name, names, parameters};
 use std::alloc::Global;
 
 // ---- what is behind an item's word
@@ -125,17 +125,6 @@ fn sort<'a>(alloc: Global, levels: u8, tokens: &'a [Token]) -> Read<'a, Item>
     let (name, rest) = name(tokens)?;
     let (elements, rest) = elements(alloc, levels, rest)?;
     Ok((Item::Sort(name, elements), rest))
-}
-
-// NAME ":" NAME
-#[tactic(auto, unfolding(rml_terms::specs::Reading::binder_at))]
-fn binder<'a>(tokens: &'a [Token]) -> Read<'a, Binder>
-    ensures { Reads (λ x. x) result binder_at tokens.now }
-{
-    let (bound, rest) = name(tokens)?;
-    let (_, rest) = expect(Kind::Sign(Sign::Colon), rest)?;
-    let (sort, rest) = name(rest)?;
-    Ok((Binder { name: bound, sort }, rest))
 }
 
 fn more_binders<'a>(mut all: Vec<Binder>, tokens: &'a [Token]) -> Read<'a, Vec<Binder>>

@@ -3,6 +3,10 @@ use Rattle.std.specs.Prelude.{ℕ, zero, suc}
 use Rattle.rml_terms.specs.Tree.{ExprTree, ExprTrees, True, False, Apply, Ite, Equal, Not, And, Or, Implies, Iff}
 use Rattle.rml_terms.specs.Tree.{Quantified, no_expr, and_expr}
 
+-- how many binders of a sentence may lie inside one another; each opens a level of the text
+abbrev pub max_nesting : ℕ
+max_nesting = 100
+
 -- at most n binders of an expression lie inside one another
 abbrev mutual
   pub ExprNests : ℕ → ExprTree → Type 0

@@ -12,5 +12,5 @@ mod tree;
 
 pub use laws::{terms_are_read, terms_ascend, terms_nest, terms_stand};
 pub use naming::{name, names, parameters};
-pub use terms::{arguments, enclosed, expr};
+pub use terms::{arguments, binder, enclosed, expr};
 pub use tree::{Binder, Expr, Name, Quantifier};

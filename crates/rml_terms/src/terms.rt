@@ -133,9 +133,9 @@ fn equality(tokens: &[Token]) -> Option<(bool, &[Token])>
     }
 }
 
-// NAME ":" NAME
+/// NAME ":" NAME
 #[tactic(auto, unfolding(crate::specs::Reading::binder_at))]
-fn binder(tokens: &[Token]) -> Read<'_, Binder>
+pub fn binder(tokens: &[Token]) -> Read<'_, Binder>
     ensures { Reads (λ x. x) result binder_at tokens.now }
 {
     let (bound, rest) = name(tokens)?;

@@ -3,6 +3,7 @@
 use Rattle.std.specs.Prelude.{ℕ, ◌-◌, Bool, true, false, ◌||◌, ◌&&◌, nat_lt, nat_eq, if◌then◌else◌, List, [], ◌∷◌}
 use Rattle.std.specs.Prelude.{Option, Some, None, drop, codes}
 use Rattle.std.specs.List.{starts_with}
+use Rattle.std.specs.Option.{option_or}
 use Rattle.std.specs.Str.{bytes_eq}
 use Rattle.rml_lex.specs.declared.token.Token.{Token}
 use Rattle.rml_lex.specs.declared.token.Kind.{Kind}
@@ -232,16 +233,11 @@ abbrev pub or_semicolon : Option Hint → Bool → Option Hint
 or_semicolon (Some h) missing = Some h
 or_semicolon None missing = if missing then Some hint.Semicolon else None
 
--- the first hint, or the second where there is no first
-abbrev pub or_else : Option Hint → Option Hint → Option Hint
-or_else (Some h) other = Some h
-or_else None other = other
-
 -- ---- the hints
 
 -- of what stands at a bad byte
 abbrev pub byte_hint : List ℕ → ℕ → Option Hint
-byte_hint text at = or_else (first_begun pair_rows (drop (at - 1) text)) (first_begun byte_rows (drop at text))
+byte_hint text at = option_or (first_begun pair_rows (drop (at - 1) text)) (first_begun byte_rows (drop at text))
 
 -- Of what stands round an unexpected token, where these kinds may stand: by the rows; or, where a command begins and a
 -- `;` may stand, that it is missing.

@@ -5,7 +5,7 @@ ghost use Rattle.fol_sig.specs.Strata.{IsStrata, IsOnCycle};
 ghost use Rattle.rml_command.specs.Trees.{seq, no_commands};
 ghost use Rattle.rml_command.specs.View.{command as command_view};
 ghost use Rattle.rml_command.specs.Paths.{has_abort, paths_of};
-ghost use Rattle.rml_command.specs.Fragment.{HasFewPaths, IsChecked};
+ghost use Rattle.rml_command.specs.Fragment.{IsChecked};
 ghost use Rattle.rml_command.specs.Parts.{model_of};
 ghost use Rattle.walks.specs.Walks.{joined};
 ghost use Rattle.walks.specs.Laws.{AreLegs};
@@ -17,7 +17,7 @@ use crate::laws::{stopped_model_law, walk_model_law};
 use base::{Mem, Refused, Row};
 use fol_formula::Sentence;
 use fol_sig::{Signature, Strata, strata};
-use rml_command::{Checked, Command, Model, Names, Parts, Paths, Places, paths};
+use rml_command::{Checked, Command, Model, Names, Parts, Paths, Places, few_paths};
 use std::alloc::{AllocError, Global};
 use walks::Leg;
 
@@ -28,18 +28,6 @@ fn strata_of(alloc: Global, signature: &Signature) -> Mem<Strata>
 {
     match strata(alloc, signature) {
         Ok(order) => Ok(order),
-        Err(Refused::For(_)) => unreachable!(),
-        Err(Refused::NoMemory) => Err(AllocError),
-    }
-}
-
-// The paths of a block that has few.
-fn block_paths(alloc: Global, block: &Command) -> Mem<Paths>
-    requires { HasFewPaths (command_view block.now) }
-    ensures { IfOk result (λ ps. ps ≡ paths_of (command_view block.now)) }
-{
-    match paths(alloc, block) {
-        Ok(all) => Ok(all),
         Err(Refused::For(_)) => unreachable!(),
         Err(Refused::NoMemory) => Err(AllocError),
     }
@@ -60,8 +48,8 @@ fn find(alloc: Global, model: &Model) -> Mem<Found>
     ensures last { IfOk result (λ f. f.last ≡ paths_of model.now.last) }
 {
     let strata = strata_of(alloc, model.signature())?;
-    let init = block_paths(alloc, model.init())?;
-    let last = block_paths(alloc, model.last())?;
+    let init = few_paths(alloc, model.init())?;
+    let last = few_paths(alloc, model.last())?;
     Ok(Found { strata, init, last })
 }
 

@@ -2,13 +2,13 @@ use Rattle.std.proofs.Common.{◌≡◌, ◌-◌, ◌+◌, List, length, length-
 use Rattle.fol_formula.specs.Syntax.{size_of}
 use Rattle.fol_subst.specs.Replace.{change_rel}
 use Rattle.fol_subst.specs.Kept.{kept, kept_one}
-use Rattle.rml_elaborate.proofs.Tuples.{terms_sized}
+use Rattle.rml_elaborate.proofs.Tuples.{terms_counted}
 use Rattle.rml_terms.specs.declared.tree.Expr.{Expr}
 use Rattle.rml_terms.specs.Tree.{expr_tree, expr_trees, exprs_of}
 use Rattle.rml_terms.specs.Shape.{ExprsNest}
 use Rattle.rml_terms.specs.Within.{ExprsWithin}
 use Rattle.rml_elaborate.specs.Formulas.{formula_of, formulas_of, term_of, terms_of}
-use Rattle.rml_names.specs.Scopes.{bound_names}
+use Rattle.rml_names.specs.Scopes.{bound_names, max_bound}
 use Rattle.rml_names.specs.Drafts.{words_in}
 use Rattle.rml_elaborate.proofs.Nesting.{nests_inside}
 use Rattle.rml_elaborate.proofs.Turns.{exprs-drop, forms_turn, terms_turn}
@@ -19,7 +19,7 @@ formulas-loop-e-preserved t c =
     let h = c.loop-e.invariant in
     let step = exprs-drop c.args.es.now c.loop-e.e-index c.e-item.result c.loop-e-test.true c.e-item.is in
     record {
-      nests = (subst (ExprsNest (108 - length (bound_names c.args.scope.now))) step h.nests).1;
+      nests = (subst (ExprsNest (max_bound - length (bound_names c.args.scope.now))) step h.nests).1;
       within = (subst (ExprsWithin (length c.args.text.now)) step h.within).1;
       made = forms_turn c.lists.ensures.forms
           (λ (es : List Expr). formulas_of c.args.text.now (words_in c.args.draft.now.declared) c.args.draft.now.bodies.items (bound_names c.args.scope.now)
@@ -34,7 +34,7 @@ terms-loop-e-preserved t c =
     let h = c.loop-e.invariant in
     let step = exprs-drop c.args.es.now c.loop-e.e-index c.e-item.result c.loop-e-test.true c.e-item.is in
     record {
-      nests = (subst (ExprsNest (108 - length (bound_names c.args.scope.now))) step h.nests).1;
+      nests = (subst (ExprsNest (max_bound - length (bound_names c.args.scope.now))) step h.nests).1;
       within = (subst (ExprsWithin (length c.args.text.now)) step h.within).1;
       made = terms_turn c.lists.ensures.terms
           (λ (es : List Expr). terms_of c.args.text.now (words_in c.args.draft.now.declared) c.args.draft.now.bodies.items (bound_names c.args.scope.now)
@@ -63,11 +63,11 @@ kept_terms-loop-e-preserved t c =
     let step = exprs-drop es c.loop-e.e-index c.e-item.result c.loop-e-test.true c.e-item.is in
     let size : c.loop-e.left - 1 ≡ size_of (terms_of text v bodies bs (exprs_of (expr_trees rest))) =
     omega (arith, h.left, c.loop-e-test.true, length-drop (c.loop-e.e-index + 1) es)
-    ∙ sym (terms_sized text v bodies bs rest) in
+    ∙ sym (terms_counted text v bodies bs rest) in
     let one = term_of text v bodies bs (expr_tree c.e-item.result) in
     record {
       left = omega (arith, h.left, c.loop-e-test.true);
-      nests = (subst (ExprsNest (108 - length bs)) step h.nests).1;
+      nests = (subst (ExprsNest (max_bound - length bs)) step h.nests).1;
       within = (subst (ExprsWithin (length text)) step h.within).1;
       made = terms_turn c.lists.ensures.terms
           (λ (es : List Expr). kept change (terms_of text v bodies bs (exprs_of (expr_trees es)))) es

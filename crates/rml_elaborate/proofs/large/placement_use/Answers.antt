@@ -1,8 +1,9 @@
 use Rattle.std.proofs.Common.{[], ap, ◌∙◌}
+use Rattle.std.specs.Option.{option_or}
 use Rattle.rml_terms.specs.Tree.{expr_tree, expr_trees, exprs_of}
 use Rattle.rml_names.specs.Drafts.{words_in}
 use Rattle.rml_elaborate.specs.Formulas.{term_of, terms_of}
-use Rattle.rml_elaborate.specs.Sizes.{first_of, first_use_in_each}
+use Rattle.rml_elaborate.specs.Sizes.{first_use_in_each}
 use Rattle.rml_elaborate.specs.Updates.{right_of_placement}
 use Rattle.rml_elaborate.proofs.Extents.{told_term}
 use Rattle.rml_elaborate.proofs.large.placement_use.Goals as goal
@@ -17,6 +18,6 @@ returns c =
     told_term c.extent_laws.ensures.counts
     (right_of_placement c.args.symbol (terms_of text v bodies [] args) (term_of text v bodies [] value))
     c.placement_extent.result _ _ _ c.placement_extent.ensures
-    (c.first_of-place.ensures
-    ∙ ap (λ z. first_of z c.first_use_outside.result) c.first_use_in_each_outside-inside.ensures
-    ∙ ap (first_of (first_use_in_each text v [] args)) c.first_use_outside.ensures) c.where_large.ensures
+    (c.or-place.ensures
+    ∙ ap (λ z. option_or z c.first_use_outside.result) c.first_use_in_each_outside-inside.ensures
+    ∙ ap (option_or (first_use_in_each text v [] args)) c.first_use_outside.ensures) c.where_large.ensures

@@ -7,10 +7,10 @@ use Rattle.rml_terms.specs.Tree.{expr_tree, expr_trees, exprs_of}
 use Rattle.rml_terms.specs.Shape.{ExprsNest}
 use Rattle.rml_terms.specs.Within.{ExprsWithin}
 use Rattle.rml_elaborate.specs.Formulas.{formula_of, formulas_of, term_of, terms_of}
-use Rattle.rml_names.specs.Scopes.{bound_names}
+use Rattle.rml_names.specs.Scopes.{bound_names, max_bound}
 use Rattle.rml_names.specs.Drafts.{words_in}
 use Rattle.rml_elaborate.proofs.Nesting.{nests_inside}
-use Rattle.rml_elaborate.proofs.Tuples.{terms_sized}
+use Rattle.rml_elaborate.proofs.Tuples.{terms_counted}
 use Rattle.rml_elaborate.proofs.Turns.{exprs-drop}
 use Rattle.rml_elaborate.proofs.Extents.{none-beside, forms-small, terms-small, extents_turn, filled_turn}
 use Rattle.rml_elaborate.proofs.sizes.+sizes.Goals as goal
@@ -46,10 +46,10 @@ use_extent-loop-e-preserved t c =
     let step = exprs-drop es c.loop-e.e-index c.e-item.result c.loop-e-test.true c.e-item.is in
     let size : c.loop-e.left - 1 ≡ size_of (terms_of text v bodies bs (exprs_of (expr_trees rest))) =
     omega (arith, h.left, c.loop-e-test.true, length-drop (c.loop-e.e-index + 1) es)
-    ∙ sym (terms_sized text v bodies bs rest) in
+    ∙ sym (terms_counted text v bodies bs rest) in
     record {
       left = omega (arith, h.left, c.loop-e-test.true);
-      nests = (subst (ExprsNest (108 - length bs)) step h.nests).1;
+      nests = (subst (ExprsNest (max_bound - length bs)) step h.nests).1;
       within = (subst (ExprsWithin (length text)) step h.within).1;
       counted = filled_turn c.in-Some.body.now (λ (es : List Expr). terms_of text v bodies bs (exprs_of (expr_trees es))) es
           c.loop-e.e-index (c.loop-e.left - 1) c.e-item.result (term_of text v bodies bs (expr_tree c.e-item.result))
@@ -77,7 +77,7 @@ formulas_extent-loop-e-preserved t c =
     let es = c.args.es.now in
     let step = exprs-drop es c.loop-e.e-index c.e-item.result c.loop-e-test.true c.e-item.is in
     record {
-      nests = (subst (ExprsNest (108 - length bs)) step h.nests).1;
+      nests = (subst (ExprsNest (max_bound - length bs)) step h.nests).1;
       within = (subst (ExprsWithin (length text)) step h.within).1;
       small = let e = ap (λ z. z.count) c.beside-all.ensures in omega (arith, e);
       counted = extents_turn
@@ -105,7 +105,7 @@ terms_extent-loop-e-preserved t c =
     let es = c.args.es.now in
     let step = exprs-drop es c.loop-e.e-index c.e-item.result c.loop-e-test.true c.e-item.is in
     record {
-      nests = (subst (ExprsNest (108 - length bs)) step h.nests).1;
+      nests = (subst (ExprsNest (max_bound - length bs)) step h.nests).1;
       within = (subst (ExprsWithin (length text)) step h.within).1;
       small = let e = ap (λ z. z.count) c.beside-all.ensures in omega (arith, e);
       counted = extents_turn

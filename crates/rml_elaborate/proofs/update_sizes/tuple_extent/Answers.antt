@@ -3,7 +3,7 @@ use Rattle.fol_subst.specs.Extents.{one, beside, over}
 use Rattle.fol_subst.specs.Templates.{forms_extent, term_extent}
 use Rattle.rml_terms.specs.declared.tree.Expr.{Expr}
 use Rattle.rml_terms.specs.Tree.{expr_tree, expr_trees, exprs_of}
-use Rattle.rml_terms.specs.Shape.{ExprsNest}
+use Rattle.rml_terms.specs.Shape.{ExprsNest, max_nesting}
 use Rattle.rml_terms.specs.Within.{ExprsWithin}
 use Rattle.rml_names.specs.Drafts.{words_in}
 use Rattle.rml_elaborate.specs.Formulas.{term_of, terms_of}
@@ -30,7 +30,7 @@ loop-e-preserved c =
     let step = exprs-drop args c.loop-e.e-index c.e-item.result c.loop-e-test.true c.e-item.is in
     let term = term_of text v bodies [] (expr_tree c.e-item.result) in
     record {
-      nests = (subst (ExprsNest 100) step h.nests).1;
+      nests = (subst (ExprsNest max_nesting) step h.nests).1;
       within = (subst (ExprsWithin (length text)) step h.within).1;
       small = let e = ap (λ z. z.count) c.beside-all.ensures in omega (arith, e);
       counted = extents_turn

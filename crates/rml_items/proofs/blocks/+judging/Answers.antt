@@ -12,6 +12,7 @@ use Rattle.rml_items.specs.Walking.{tree_of, trees_of, rest_nests, rest_within, 
 use Rattle.rml_items.specs.Walking.{front_nests, front_within, front_block_nests, front_block_within, choice_given}
 use Rattle.rml_items.specs.Walking.{branches_nest, of_if, of_choice, element_met, element_stops, all_met}
 use Rattle.rml_items.specs.Walking.{element_smaller, choice_smaller}
+use Rattle.rml_terms.specs.Shape.{max_nesting}
 use Rattle.rml_items.proofs.blocks.+judging.Goals as goal
 
 pub block_fault-command_fault-requires : goal.block_fault-command_fault-requires
@@ -21,7 +22,7 @@ block_fault-command_fault-requires t c =
     let x = c.c-item.result in (
       omega (arith, c.decreases, element_smaller xs i x c.loop-c-test.true c.c-item.is),
       (
-        front_nests 100 xs i x c.loop-c-test.true c.c-item.is c.loop-c.invariant.nests,
+        front_nests max_nesting xs i x c.loop-c-test.true c.c-item.is c.loop-c.invariant.nests,
         (
           front_within (length c.args.text.now) xs i x c.loop-c-test.true c.c-item.is c.loop-c.invariant.within,
           c.requires.sound,
@@ -48,7 +49,7 @@ block_fault-loop-c-preserved t c =
     let lt = c.loop-c-test.true in
     let is = c.c-item.is in
     record {
-      nests = rest_nests 100 xs i x lt is c.loop-c.invariant.nests;
+      nests = rest_nests max_nesting xs i x lt is c.loop-c.invariant.nests;
       within = rest_within (length text) xs i x lt is c.loop-c.invariant.within;
       left = element_met (λ cs. block_demands text v c.args.format (tree_of cs))
           (λ y. command_demands text v c.args.format (command_tree y)) (λ y cs. refl) xs i x lt is
@@ -111,8 +112,8 @@ command_fault-loop-b-init t c =
     let within = choice_given (CommandWithin (length c.args.text.now)) c.args.c.now at all xs c.in-Choose.is
     c.deref-b-items.ensures.value c.requires.within in
     record {
-      nests = branches_nest 100 at (trees_of xs)
-          (choice_given (CommandNests 100) c.args.c.now at all xs c.in-Choose.is c.deref-b-items.ensures.value
+      nests = branches_nest max_nesting at (trees_of xs)
+          (choice_given (CommandNests max_nesting) c.args.c.now at all xs c.in-Choose.is c.deref-b-items.ensures.value
           c.requires.nests);
       within = within.1;
       left = refl;
@@ -123,7 +124,7 @@ command_fault-block_fault-requires-in-loop-b t c =
     let xs = c.deref-b-items.result.now in
     let i = c.loop-b.b-index in
     let x = c.b-item.result in
-    let nests = front_block_nests 100 xs i x c.loop-b-test.true c.b-item.is c.loop-b.invariant.nests in
+    let nests = front_block_nests max_nesting xs i x c.loop-b-test.true c.b-item.is c.loop-b.invariant.nests in
     let within = front_block_within (length c.args.text.now) xs i x c.loop-b-test.true c.b-item.is
     c.loop-b.invariant.within in (
       omega (
@@ -134,7 +135,7 @@ command_fault-block_fault-requires-in-loop-b t c =
             c.deref-in-loop-b.ensures.value,
       ),
       (
-        subst (λ cs. BlockNests 100 (tree_of cs)) (sym c.deref-in-loop-b.ensures.value) nests,
+        subst (λ cs. BlockNests max_nesting (tree_of cs)) (sym c.deref-in-loop-b.ensures.value) nests,
         (
           subst (λ cs. BlockWithin (length c.args.text.now) (tree_of cs)) (sym c.deref-in-loop-b.ensures.value) within,
           c.requires.sound,
@@ -170,7 +171,7 @@ command_fault-loop-b-preserved t c =
     let none = subst (λ cs. first_fault (block_demands text v c.args.format (tree_of cs)) ≡ None)
     c.deref-in-loop-b.ensures.value (sym c.block_fault-in-loop-b.ensures ∙ c.in_default-block_fault-2.is) in
     record {
-      nests = rest_blocks_nest 100 xs i x lt is c.loop-b.invariant.nests;
+      nests = rest_blocks_nest max_nesting xs i x lt is c.loop-b.invariant.nests;
       within = rest_blocks_within (length text) xs i x lt is c.loop-b.invariant.within;
       left = element_met (λ bs. blocks_demands text v c.args.format (trees_of bs))
           (λ b. block_demands text v c.args.format (tree_of b.items)) (λ b bs. refl) xs i x lt is

@@ -5,11 +5,12 @@ use Rattle.rml_syntax.specs.Shape.{BlockNests, BlocksNest}
 use Rattle.rml_sort_check.specs.Demands.{first_fault, block_demands, blocks_demands}
 use Rattle.rml_names.specs.Drafts.{words_in}
 use Rattle.rml_items.specs.Walking.{tree_of, trees_of, command_size, block_size}
+use Rattle.rml_terms.specs.Shape.{max_nesting}
 use Rattle.rml_items.proofs.blocks.+judging.Given as goal
 
 abbrev pub invariant-block_fault-loop-c : goal.invariant-block_fault-loop-c
 invariant-block_fault-loop-c l = record {
-  nests : BlockNests 100 (tree_of (drop l.c-index l.commands));
+  nests : BlockNests max_nesting (tree_of (drop l.c-index l.commands));
   within : BlockWithin (length l.text) (tree_of (drop l.c-index l.commands));
   left : first_fault (block_demands l.text (words_in l.known) l.format (tree_of (drop l.c-index l.commands)))
       ≡ first_fault (block_demands l.text (words_in l.known) l.format (tree_of l.commands));
@@ -17,7 +18,7 @@ invariant-block_fault-loop-c l = record {
 
 abbrev pub invariant-command_fault-loop-b : goal.invariant-command_fault-loop-b
 invariant-command_fault-loop-b l = record {
-  nests : BlocksNest 100 (trees_of (drop l.b-index l.b-items));
+  nests : BlocksNest max_nesting (trees_of (drop l.b-index l.b-items));
   within : BlocksWithin (length l.text) (trees_of (drop l.b-index l.b-items));
   left : first_fault (blocks_demands l.text (words_in l.known) l.format (trees_of (drop l.b-index l.b-items)))
       ≡ first_fault (blocks_demands l.text (words_in l.known) l.format (trees_of l.b-items));

@@ -6,6 +6,7 @@ use Rattle.rml_names.specs.Sound.{IsSorted}
 use Rattle.rml_items.specs.Items.{Standing, items_demands, with_items}
 use Rattle.rml_items.specs.Progress.{standing_of}
 use Rattle.rml_items.specs.Answered.{at_err}
+use Rattle.rml_terms.specs.Shape.{max_nesting}
 use Rattle.rml_items.proofs.Sorted.{item_sorted}
 use Rattle.rml_items.proofs.ItemLists.{all_next, item_refused, item_taken, item_built, all_built, all_taken}
 use Rattle.rml_items.proofs.whole_tree.judge_items.Goals as goal
@@ -37,7 +38,7 @@ loop-item-preserved c =
     let done = c.in_ok-judge_item.ensures in
     record {
       within = (all_next (ItemWithin (length text)) xs i x lt is c.loop-item.invariant.within).1;
-      shape = (all_next (ItemNests 100) xs i x lt is c.loop-item.invariant.shape).1;
+      shape = (all_next (ItemNests max_nesting) xs i x lt is c.loop-item.invariant.shape).1;
       sound = subst (λ (e : Standing). IsSorted e.words) (sym done.0)
           (item_sorted text format old (item_tree x) c.loop-item.invariant.sound done.1);
       demands = item_taken text format xs i x lt is from old c.loop-item.invariant.demands new done.0 done.1;

@@ -7,12 +7,13 @@ use Rattle.rml_sort_check.specs.Demands.{first_fault}
 use Rattle.rml_names.specs.Sound.{IsSorted}
 use Rattle.rml_items.specs.Items.{items_demands, with_items}
 use Rattle.rml_items.specs.Progress.{standing_of}
+use Rattle.rml_terms.specs.Shape.{max_nesting}
 use Rattle.rml_items.proofs.whole_tree.judge_items.Given as goal
 
 abbrev pub invariant-loop-item : goal.invariant-loop-item
 invariant-loop-item l = record {
   within : AllByRecursion (ItemWithin (length l.text)) (item_trees (drop l.item-index l.items));
-  shape : AllByRecursion (ItemNests 100) (item_trees (drop l.item-index l.items));
+  shape : AllByRecursion (ItemNests max_nesting) (item_trees (drop l.item-index l.items));
   sound : IsSorted (standing_of l.progress).words;
   demands : first_fault (items_demands l.text l.format (standing_of l.progress) (item_trees (drop l.item-index l.items)))
       ≡ first_fault (items_demands l.text l.format (standing_of l.fn.progress) (item_trees l.items));

@@ -1,4 +1,5 @@
 use Rattle.std.proofs.Common.{◌≡◌, ◌-◌, length, sym, ap, ◌∙◌, subst, rules, None, inl, inr}
+use Rattle.std.specs.Option.{option_or}
 use Rattle.fol_sig.specs.Tables.{numbers}
 use Rattle.rml_terms.specs.declared.tree.Expr.TheViews.{rolls-Ite, rolls-Equal, rolls-Implies, rolls-Iff}
 use Rattle.rml_terms.specs.declared.tree.Expr.TheOpen as layer
@@ -9,8 +10,8 @@ use Rattle.rml_terms.specs.Within.{ExprsWithin}
 use Rattle.rml_sort_check.specs.declared.wanted.Wanted.TheVariants.{Formula, Term}
 use Rattle.rml_names.specs.Meanings.{term_sort}
 use Rattle.rml_sort_check.specs.Demands.{first_fault, demands, second_sort}
-use Rattle.rml_sort_check.specs.Judging.{compound_fault, first_of}
-use Rattle.rml_names.specs.Scopes.{bound_names}
+use Rattle.rml_sort_check.specs.Judging.{compound_fault}
+use Rattle.rml_names.specs.Scopes.{bound_names, max_bound}
 use Rattle.rml_names.specs.Drafts.{words_in}
 use Rattle.rml_sort_check.proofs.Judged.{exprs-drop, formulas-turn, formulas-stop, arguments-turn, arguments-stop}
 use Rattle.rml_sort_check.proofs.Judged.{implies_fault, iff_fault, equal_fault, ite_fault, apply_fault}
@@ -28,7 +29,8 @@ formulas_fault-loop-e-preserved t c =
     let h = c.loop-e.invariant in
     let step = exprs-drop c.args.args.now c.loop-e.e-index c.e-item.result c.loop-e-test.true c.e-item.is in
     record {
-      nests = (subst (λ (xs : ExprTrees). ExprsNest (108 - length (bound_names c.args.scope.now)) xs) step h.nests).1;
+      nests = (subst (λ (xs : ExprTrees). ExprsNest (max_bound - length (bound_names c.args.scope.now)) xs) step
+          h.nests).1;
       within = (subst (λ (xs : ExprTrees). ExprsWithin (length c.args.text.now) xs) step h.within).1;
       left = formulas-turn c.args.text.now (words_in c.args.known.now) (bound_names c.args.scope.now) c.args.args.now
           c.loop-e.e-index c.e-item.result _
@@ -47,7 +49,8 @@ arguments_fault-loop-e-preserved t c =
     let h = c.loop-e.invariant in
     let step = exprs-drop c.args.args.now c.loop-e.e-index c.e-item.result c.loop-e-test.true c.e-item.is in
     record {
-      nests = (subst (λ (xs : ExprTrees). ExprsNest (108 - length (bound_names c.args.scope.now)) xs) step h.nests).1;
+      nests = (subst (λ (xs : ExprTrees). ExprsNest (max_bound - length (bound_names c.args.scope.now)) xs) step
+          h.nests).1;
       within = (subst (λ (xs : ExprTrees). ExprsWithin (length c.args.text.now) xs) step h.within).1;
       left = arguments-turn c.args.text.now (words_in c.args.known.now) (bound_names c.args.scope.now) c.args.args.now
           c.loop-e.e-index c.e-item.result c.loop-e.sorts.now _
@@ -57,7 +60,7 @@ arguments_fault-loop-e-preserved t c =
 
 pub application_fault-returns : goal.application_fault-returns
 application_fault-returns t c =
-    c.first_of.ensures
+    c.or.ensures
     ∙ apply_fault c.args.text.now (words_in c.args.known.now) (bound_names c.args.scope.now) c.args.wanted c.args.name
     c.args.args.now c.bytes.result.now c.meaning_from-meaning.result (numbers c.argument_sorts.result.now) _ _
     c.bytes.ensures c.meaning_from-meaning.ensures.value c.argument_sorts.ensures.value c.name_fault-named.ensures
@@ -85,8 +88,8 @@ expression_fault-returns-in-Term t c =
     ≡ first_fault
     (demands c.args.text.now (words_in c.args.known.now) (bound_names c.args.scope.now)
     (Term c.second_sort-sort.result) (expr_tree c.in-Ite.b.value)) = search rules in
-    c.first_of-in-Term.ensures
-    ∙ ap (first_of c.expression_fault-condition.result) c.first_of.ensures
+    c.or-in-Term.ensures
+    ∙ ap (option_or c.expression_fault-condition.result) c.or.ensures
     ∙ ite_fault c.args.text.now (words_in c.args.known.now) (bound_names c.args.scope.now) c.args.wanted
     c.in-Term.expected c.in-Ite.at (expr_tree c.args.e.now)
     (expr_tree c.in-Ite.c.value) (expr_tree c.in-Ite.a.value) (expr_tree c.in-Ite.b.value) c.second_sort-sort.result _ _
@@ -110,7 +113,7 @@ expression_fault-returns-in-Equal t c =
     (demands c.args.text.now (words_in c.args.known.now) (bound_names c.args.scope.now)
     (Term c.term_sort-sort.result) (expr_tree c.in-Equal.b.value)) = search rules in
     c.compound_fault.ensures
-    ∙ ap (compound_fault c.args.wanted c.in-Equal.at) c.first_of-in-Equal.ensures
+    ∙ ap (compound_fault c.args.wanted c.in-Equal.at) c.or-in-Equal.ensures
     ∙ equal_fault c.args.text.now (words_in c.args.known.now) (bound_names c.args.scope.now) c.args.wanted c.in-Equal.at
     (expr_tree c.args.e.now)
     (expr_tree c.in-Equal.a.value) (expr_tree c.in-Equal.b.value) c.term_sort-sort.result _ _ tree sort left right
@@ -127,7 +130,7 @@ expression_fault-returns-in-Implies t c =
     (demands c.args.text.now (words_in c.args.known.now) (bound_names c.args.scope.now) Formula
     (expr_tree n.b.value)) = search rules in
     let whole : compound_fault c.args.wanted n.at
-    (first_of c.expression_fault-left-in-Implies.result c.expression_fault-right-in-Implies.result)
+    (option_or c.expression_fault-left-in-Implies.result c.expression_fault-right-in-Implies.result)
     ≡ first_fault (demands c.args.text.now (words_in c.args.known.now) (bound_names c.args.scope.now) c.args.wanted
     (expr_tree c.args.e.now)) =
     elim n.is [
@@ -140,4 +143,4 @@ expression_fault-returns-in-Implies t c =
           (ap expr_tree (is ∙ sym (rolls-Iff n.at n.a n.b))
           ∙ fold-roll-Expr ExprTree expr_step (layer.Iff n.at n.a n.b)) left right
     ] in
-    c.compound_fault-in-Implies.ensures ∙ (ap (compound_fault c.args.wanted n.at) c.first_of-in-Implies.ensures ∙ whole)
+    c.compound_fault-in-Implies.ensures ∙ (ap (compound_fault c.args.wanted n.at) c.or-in-Implies.ensures ∙ whole)

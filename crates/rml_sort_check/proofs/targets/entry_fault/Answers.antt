@@ -15,4 +15,4 @@ returns c =
     let ys = demands c.args.text.now m [] (Term (result_sort m c.args.symbol)) (expr_tree c.args.value.now) in
     let left : c.outer_arguments_fault-arguments.result ≡ first_fault xs = search rules in
     let right : c.outer_fault-entry.result ≡ first_fault ys = search rules in
-    c.first_of.ensures ∙ both xs ys _ _ left right
+    c.or.ensures ∙ both xs ys _ _ left right

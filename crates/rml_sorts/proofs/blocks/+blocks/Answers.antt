@@ -21,6 +21,7 @@ use Rattle.rml_items.specs.Walking.{others_meet, all_met, first_smaller, second_
 use Rattle.rml_sorts.specs.Commands.{command_of, commands_of, branches_of, conditions_of, conditions_of_block}
 use Rattle.rml_sorts.specs.Commands.{conditions_of_blocks}
 use Rattle.rml_sorts.specs.Sizes.{no_large_use, command_sizes, block_sizes, blocks_sizes}
+use Rattle.rml_terms.specs.Shape.{max_nesting}
 use Rattle.rml_sorts.proofs.BlockLists.{block_list, branch_list, block_is, branches_are, pushed_command, branching_is}
 use Rattle.rml_sorts.proofs.BlockLists.{all_noted}
 use Rattle.rml_sorts.proofs.blocks.+blocks.Goals as goal
@@ -50,7 +51,7 @@ block-loop-c-preserved t c =
     let is = c.c-item.is in
     let done = c.in_ok-command.ensures.command in
     record {
-      nests = rest_nests 100 xs i x lt is c.loop-c.invariant.nests;
+      nests = rest_nests max_nesting xs i x lt is c.loop-c.invariant.nests;
       within = rest_within (length text) xs i x lt is c.loop-c.invariant.within;
       met = others_meet (λ cs. block_demands text v c.args.format (tree_of cs))
           (λ y. command_demands text v c.args.format (command_tree y)) (λ y cs. refl) xs i x lt is
@@ -220,7 +221,7 @@ command-loop-b-preserved t c =
     let value = c.deref-in-loop-b.ensures.value in
     let done = c.in_ok-commands-in-Choose.ensures.command in
     record {
-      nests = rest_blocks_nest 100 xs i x lt is c.loop-b.invariant.nests;
+      nests = rest_blocks_nest max_nesting xs i x lt is c.loop-b.invariant.nests;
       within = rest_blocks_within (length text) xs i x lt is c.loop-b.invariant.within;
       met = others_meet (λ bs. blocks_demands text v c.args.format (trees_of bs))
           (λ b. block_demands text v c.args.format (tree_of b.items)) (λ b bs. refl) xs i x lt is
@@ -292,7 +293,7 @@ command-block-requires t c =
     let met = if_given (λ t. first_fault (command_demands text v c.args.format t) ≡ None) c.args.c.now i.at i.e i.a i.b
     c.deref.result.now i.b.items i.is c.deref.ensures.value refl c.requires.met in
     let first = met_left da db (met_right de (da ++ db) met) in
-    let nests = if_given (CommandNests 100) c.args.c.now i.at i.e i.a i.b c.deref.result.now i.b.items i.is
+    let nests = if_given (CommandNests max_nesting) c.args.c.now i.at i.e i.a i.b c.deref.result.now i.b.items i.is
     c.deref.ensures.value refl c.requires.nests in
     let within = if_given (CommandWithin (length c.args.text.now)) c.args.c.now i.at i.e i.a i.b c.deref.result.now
     i.b.items i.is c.deref.ensures.value refl c.requires.within in (
@@ -316,7 +317,7 @@ command-block-requires-in-If t c =
     let met = if_given (λ t. first_fault (command_demands text v c.args.format t) ≡ None) c.args.c.now i.at i.e i.a i.b
     i.a.items c.deref-in-If.result.now i.is refl c.deref-in-If.ensures.value c.requires.met in
     let second = met_right da db (met_right de (da ++ db) met) in
-    let nests = if_given (CommandNests 100) c.args.c.now i.at i.e i.a i.b i.a.items c.deref-in-If.result.now i.is refl
+    let nests = if_given (CommandNests max_nesting) c.args.c.now i.at i.e i.a i.b i.a.items c.deref-in-If.result.now i.is refl
     c.deref-in-If.ensures.value c.requires.nests in
     let within = if_given (CommandWithin (length c.args.text.now)) c.args.c.now i.at i.e i.a i.b i.a.items
     c.deref-in-If.result.now i.is refl c.deref-in-If.ensures.value c.requires.within in (
@@ -336,7 +337,7 @@ block-command-requires t c =
     let x = c.c-item.result in (
       omega (arith, c.decreases, element_smaller xs i x c.loop-c-test.true c.c-item.is),
       (
-        front_nests 100 xs i x c.loop-c-test.true c.c-item.is c.loop-c.invariant.nests,
+        front_nests max_nesting xs i x c.loop-c-test.true c.c-item.is c.loop-c.invariant.nests,
         (
           front_within (length c.args.text.now) xs i x c.loop-c-test.true c.c-item.is c.loop-c.invariant.within,
           (
@@ -355,7 +356,7 @@ command-block-requires-in-loop-b t c =
     let xs = c.deref-b-items.result.now in
     let i = c.loop-b.b-index in
     let x = c.b-item.result in
-    let nests = front_block_nests 100 xs i x c.loop-b-test.true c.b-item.is c.loop-b.invariant.nests in
+    let nests = front_block_nests max_nesting xs i x c.loop-b-test.true c.b-item.is c.loop-b.invariant.nests in
     let within = front_block_within (length c.args.text.now) xs i x c.loop-b-test.true c.b-item.is
     c.loop-b.invariant.within in (
       omega (
@@ -366,7 +367,7 @@ command-block-requires-in-loop-b t c =
             c.deref-in-loop-b.ensures.value,
       ),
       (
-        subst (λ cs. BlockNests 100 (tree_of cs)) (sym c.deref-in-loop-b.ensures.value) nests,
+        subst (λ cs. BlockNests max_nesting (tree_of cs)) (sym c.deref-in-loop-b.ensures.value) nests,
         (
           subst (λ cs. BlockWithin (length c.args.text.now) (tree_of cs)) (sym c.deref-in-loop-b.ensures.value) within,
           (
@@ -406,7 +407,7 @@ command-loop-b-init t c =
     let is = c.in-Choose.is in
     let within = choice_given (CommandWithin (length text)) c.args.c.now at all xs is value c.requires.within in
     record {
-      nests = branches_nest 100 at (trees_of xs) (choice_given (CommandNests 100) c.args.c.now at all xs is value c.requires.nests);
+      nests = branches_nest max_nesting at (trees_of xs) (choice_given (CommandNests max_nesting) c.args.c.now at all xs is value c.requires.nests);
       within = within.1;
       met = choice_given (λ t. first_fault (command_demands text v c.args.format t) ≡ None) c.args.c.now at all xs is value
           c.requires.met;

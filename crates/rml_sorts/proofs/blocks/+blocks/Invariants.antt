@@ -8,12 +8,13 @@ use Rattle.rml_sorts.specs.Commands.{conditions_of_block, conditions_of_blocks}
 use Rattle.rml_names.specs.Drafts.{draft_in}
 use Rattle.rml_sorts.specs.Sizes.{block_sizes, blocks_sizes}
 use Rattle.rml_items.specs.Walking.{tree_of, trees_of, command_size, block_size}
+use Rattle.rml_terms.specs.Shape.{max_nesting}
 use Rattle.rml_sorts.proofs.BlockLists.{block_list, branch_list}
 use Rattle.rml_sorts.proofs.blocks.+blocks.Given as goal
 
 abbrev pub invariant-block-loop-c : goal.invariant-block-loop-c
 invariant-block-loop-c l = record {
-  nests : BlockNests 100 (tree_of (drop l.c-index l.commands));
+  nests : BlockNests max_nesting (tree_of (drop l.c-index l.commands));
   within : BlockWithin (length l.text) (tree_of (drop l.c-index l.commands));
   met : first_fault (block_demands l.text (draft_in l.draft).vocabulary l.format (tree_of (drop l.c-index l.commands)))
       ≡ None;
@@ -27,7 +28,7 @@ invariant-block-loop-c l = record {
 
 abbrev pub invariant-command-loop-b : goal.invariant-command-loop-b
 invariant-command-loop-b l = record {
-  nests : BlocksNest 100 (trees_of (drop l.b-index l.b-items));
+  nests : BlocksNest max_nesting (trees_of (drop l.b-index l.b-items));
   within : BlocksWithin (length l.text) (trees_of (drop l.b-index l.b-items));
   met : first_fault (blocks_demands l.text (draft_in l.draft).vocabulary l.format (trees_of (drop l.b-index l.b-items)))
       ≡ None;

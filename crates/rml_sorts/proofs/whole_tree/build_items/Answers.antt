@@ -7,6 +7,7 @@ use Rattle.rml_items.specs.Answered.{at_err}
 use Rattle.rml_sorts.specs.Items.{items_sizes, draft_of}
 use Rattle.rml_items.specs.Laws.{HaveMet}
 use Rattle.rml_sorts.specs.Sound.{IsSound}
+use Rattle.rml_terms.specs.Shape.{max_nesting}
 use Rattle.rml_sorts.proofs.Whole.{AreLaws, step}
 use Rattle.rml_sorts.proofs.ItemLists.{all_next, met_next, item_refused, item_taken, item_built}
 use Rattle.rml_sorts.proofs.whole_tree.build_items.Goals as goal
@@ -34,7 +35,7 @@ loop-item-preserved c =
     let old = draft_in c.loop-item.draft in
     let new = draft_in c.build_item.new.draft in
     let done = c.in_ok-build_item.ensures in
-    let shape = all_next (ItemNests 100) xs i x lt is c.loop-item.invariant.shape in
+    let shape = all_next (ItemNests max_nesting) xs i x lt is c.loop-item.invariant.shape in
     let met = met_next text xs i x lt is from old format c.loop-item.invariant.met in
     let laws : AreLaws = record {
       fit = c.instance_laws.ensures.fits;
@@ -63,7 +64,7 @@ build_item-requires c =
     let met = met_next text xs i x lt is (draft_in c.args.draft.now) (draft_in c.loop-item.draft) c.args.format
     c.loop-item.invariant.met in
     record {
-      nests = (all_next (ItemNests 100) xs i x lt is c.loop-item.invariant.shape).0;
+      nests = (all_next (ItemNests max_nesting) xs i x lt is c.loop-item.invariant.shape).0;
       within = (all_next (ItemWithin (length text)) xs i x lt is c.loop-item.invariant.within).0;
       sound = c.loop-item.invariant.sound;
       head = met.0;

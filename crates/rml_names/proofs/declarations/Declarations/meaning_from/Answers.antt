@@ -5,7 +5,7 @@ use Rattle.rml_names.specs.declared.scope.Scope.TheOpen as opened
 use Rattle.rml_names.specs.declared.scope.Scope.TheFolds.{fold-roll-Scope}
 use Rattle.rml_names.specs.Meanings.{BoundName}
 use Rattle.rml_names.specs.Drafts.{words_in}
-use Rattle.rml_names.specs.Scopes.{bound_names, scope_step}
+use Rattle.rml_names.specs.Scopes.{bound_names, scope_step, max_bound}
 use Rattle.rml_names.proofs.Binders.{past_binder, one_binder_less}
 use Rattle.rml_names.proofs.declarations.Declarations.meaning_from.Goals as goal
 
@@ -21,5 +21,5 @@ loop-around-preserved c =
     let other : bytes_eq c.args.name.now b.name.now ≡ false = search rules in (
       past_binder (words_in c.args.self.now) c.loop-around.index nearest behind all c.args.name.now is other
           ∙ c.loop-around.invariant.0,
-      one_binder_less c.loop-around.index 108 nearest behind all is c.loop-around.invariant.1,
+      one_binder_less c.loop-around.index max_bound nearest behind all is c.loop-around.invariant.1,
     )
