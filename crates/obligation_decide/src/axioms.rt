@@ -2,14 +2,14 @@
 ghost use Rattle.std.specs.Prelude.{◌≡◌, IfOk};
 ghost use Rattle.fol_formula.specs.View.{form};
 ghost use Rattle.rml_command.specs.Outcomes.{all_of as all_of_them};
-ghost use Rattle.ea_decide.specs.Passing.{ceilings};
+ghost use Rattle.limits.specs.Ceilings.{ceilings};
 ghost use Rattle.obligation_decide.specs.GoalDecisions.{AreAxiomsDecided};
 
 use crate::cause_of;
 use base::Mem;
 use ea_decide::Decided;
 use fol_formula::{Ea, Formula, Sentence};
-use lrat_log::Limits;
+use limits::Limits;
 use rml_command::Checked;
 use rml_report::Axioms;
 use std::alloc::Global;
