@@ -12,7 +12,7 @@ use Rattle.rml_command.specs.Models.{ModelTree, FitsPrimitive, FitsPath}
 use Rattle.rml_command.specs.Fragment.{IsChecked}
 use Rattle.rml_command.specs.Laws.{UpdatesKeepSymbols, PathHasFollowedOutcomes, GoalPathsFit}
 use Rattle.rml_command.specs.declared.goal.About.TheVariants as about
-use Rattle.ea_decide.specs.Passing.{Ceilings}
+use Rattle.limits.specs.Ceilings.{Ceilings}
 use Rattle.rml_bmc.specs.Shown.{outcome_of, EndFits, IsPart, AreParts, IsShownRun}
 use Rattle.rml_bmc.specs.Bounds.{IsBounded}
 use Rattle.rml_bmc.specs.declared.answer.Part.{Part}

@@ -4,7 +4,7 @@
 #![tactic(auto)]
 
 use base::{Mem, Refused};
-use lrat_log::Limits;
+use limits::Limits;
 use rml_command::Checked;
 use rml_front::read_model;
 use std::alloc::{AllocError, Global};

@@ -13,9 +13,9 @@ use Rattle.rml_command.specs.declared.goal.Goal.{Goal}
 use Rattle.rml_exec.specs.declared.trace.Counterexample.{Counterexample}
 use Rattle.rml_wp.specs.Preconditions.{answered}
 use Rattle.rml_report.specs.Words.{cause_text}
-use Rattle.rml_report.specs.declared.cause.Cause.{Cause}
+use Rattle.limits.specs.declared.cause.Cause.{Cause}
 use Rattle.ea_decide.specs.GroundForm.{IsClauseForm}
-use Rattle.ea_decide.specs.Passing.{Ceilings}
+use Rattle.limits.specs.Ceilings.{Ceilings}
 use Rattle.obligation_decide.specs.GoalPassing.{PassesFirst, refuting_sentence}
 use Rattle.obligation_decide.specs.GoalDecisions.{IsFailing, IsLeftOpen}
 use Rattle.goal_clauses.specs.GoalClauses.{AreClausesOf}

@@ -2,7 +2,7 @@
 ghost use Rattle.std.specs.Prelude.{◌≡◌, ◌≤◌, IfOk};
 ghost use Rattle.base.specs.Lists.{numbered};
 ghost use Rattle.rml_command.specs.Goals.{IsGoal, goals_of};
-ghost use Rattle.ea_decide.specs.Passing.{ceilings};
+ghost use Rattle.limits.specs.Ceilings.{ceilings};
 ghost use Rattle.command_line.specs.Asking.{IsInRange};
 ghost use Rattle.command_parts.specs.Limits.{ceilings_of};
 ghost use Rattle.clause_commands.specs.Emit.{AreClausesEmitted, IsLogEmitted, IsGoalEmitted, IsEmittedOf, IsEmitAnswer};
@@ -16,12 +16,12 @@ use command_parts::{complaint, limits_of, read_model, say_model_fault, shown};
 use commands::{Command, Said};
 use goal_clauses::{GoalClauses, clauses_of_goal, decide_goal};
 use goal_number::{GoalAt, goal_at};
-use lrat_log::{Limits, Line, write_lines};
+use limits::{Cause, Limits};
+use lrat_log::{Line, write_lines};
 use obligation_decide::Decision;
 use progress::Progress;
 use rml_command::{Checked, Goal};
 use rml_lex::Fault;
-use rml_report::Cause;
 use std::alloc::{AllocError, Global};
 
 /// The command, with what is to be written.

@@ -3,7 +3,8 @@ ghost use Rattle.std.specs.Prelude.{◌≡◌, IfOk};
 ghost use Rattle.clause_commands.specs.Emit.{fails_text, undecided_text, no_goal_text};
 
 use base::{Mem, push_number, push_text};
-use rml_report::{Cause, push_cause};
+use limits::Cause;
+use rml_report::push_cause;
 use std::alloc::Global;
 
 /// The line of a goal that fails.

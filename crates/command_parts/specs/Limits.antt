@@ -1,5 +1,5 @@
 -- The limits of a decision, as a command line asks for them.
-use Rattle.ea_decide.specs.Passing.{Ceilings}
+use Rattle.limits.specs.Ceilings.{Ceilings}
 use Rattle.command_line.specs.declared.request.Asked.{Asked}
 
 -- the limits that were asked for

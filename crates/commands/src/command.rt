@@ -1,7 +1,8 @@
 // What all commands share: how files are loaded, answered and printed.
-ghost use Rattle.std.specs.Prelude.{◌≡◌, ◌≤◌, ℕ, List, [], IfOk};
+ghost use Rattle.std.specs.Prelude.{◌≡◌, ◌≤◌, ◌⊎◌, ℕ, List, [], IfOk};
 ghost use Rattle.commands.specs.Due.{Due};
 ghost use Rattle.commands.specs.Ends.{EndsNone, EndsOne, EndsTwo};
+ghost use Rattle.rml_bytes.specs.Outside.{one_more};
 
 use crate::said::Said;
 use base::Mem;
@@ -82,6 +83,8 @@ pub fn one_file<C: Command, F: Files, P: Progress>(
 ) -> Result<Done<C::Answer>, LoadError>
     requires { into.old.items ≡ [] }
     ensures same { (n : List ℕ) → F.told files.new n ≡ F.told files.old n }
+    // one file is asked for, and no other
+    ensures once { F.calls files.new ≡ one_more (F.calls files.old) }
     ensures ends { EndsOne (F.told files.old name.now) most (F.faults files.old) (F.faults files.new) into.new.items []
         (λ first second d. C.is_answer command.now first second d.answer
         × (d.said ≡ C.due command.now first second d.answer)) result }
@@ -107,6 +110,9 @@ pub fn two_files<C: Command, F: Files, P: Progress>(
     requires first { into.old.items ≡ [] }
     requires second { others.old.items ≡ [] }
     ensures same { (n : List ℕ) → F.told files.new n ≡ F.told files.old n }
+    // the first is asked for, then the second where the first was loaded
+    ensures calls { (F.calls files.new ≡ one_more (F.calls files.old))
+        ⊎ (F.calls files.new ≡ one_more (one_more (F.calls files.old))) }
     ensures ends { EndsTwo (F.told files.old name.now) (F.told files.old other.now) most limit (F.faults files.old)
         (F.faults files.new)
         into.new.items others.new.items (λ first second d. C.is_answer command.now first second d.answer

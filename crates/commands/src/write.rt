@@ -1,7 +1,8 @@
 // What is due is handed over.
-ghost use Rattle.std.specs.Prelude.{◌≡◌};
+ghost use Rattle.std.specs.Prelude.{◌≡◌, ◌⊎◌};
 ghost use Rattle.commands.specs.Due.{passage, Hands, IsWrittenTo, IsWritten, status_of, stop_due};
 ghost use Rattle.commands.specs.Done.{due_in, outcome_in};
+ghost use Rattle.rml_bytes.specs.Outside.{one_more};
 
 use crate::command::Done;
 use crate::side::{Side, Written};
@@ -9,7 +10,8 @@ use rml_bytes::{LoadError, Sink};
 
 // Hands over all of a text, where there is any.
 fn deliver<S: Sink>(sink: &mut S, text: &[u8]) -> Written
-    ensures { Hands result (passage (S.taken sink.old) (S.taken sink.new) (S.faults sink.old) (S.faults sink.new))
+    ensures once { (S.calls sink.new ≡ S.calls sink.old) ⊎ (S.calls sink.new ≡ one_more (S.calls sink.old)) }
+    ensures hands { Hands result (passage (S.taken sink.old) (S.taken sink.new) (S.faults sink.old) (S.faults sink.new))
         text.now }
 {
     if text.is_empty() {

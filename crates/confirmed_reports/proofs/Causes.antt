@@ -8,15 +8,16 @@ use Rattle.fol_formula.specs.Counts.{saturated}
 use Rattle.rml_command.specs.Models.{ModelTree}
 use Rattle.rml_command.specs.declared.goal.Goal.{Goal}
 use Rattle.rml_wp.specs.Preconditions.{answered, goal_passes_limit}
-use Rattle.rml_report.specs.declared.cause.Cause.{Cause}
-use Rattle.rml_report.specs.declared.cause.Cause.TheVariants as cause
+use Rattle.limits.specs.declared.cause.Cause.{Cause}
+use Rattle.limits.specs.declared.cause.Cause.TheVariants as cause
 use Rattle.rml_report.specs.declared.report.Axioms.{Axioms}
 use Rattle.rml_report.specs.declared.report.Axioms.TheVariants as axioms
 use Rattle.printed_report.specs.Lines.{IsNumber, IsCause, IsCounted, IsAxioms}
 use Rattle.ground_size.specs.Sizes.{size_of}
 use Rattle.ea_decide.specs.declared.decided.Passed.{Passed}
 use Rattle.ea_decide.specs.declared.decided.Passed.TheVariants.{Terms, GroundSize, Conflicts}
-use Rattle.ea_decide.specs.Passing.{Ceilings, Passes}
+use Rattle.limits.specs.Ceilings.{Ceilings}
+use Rattle.ea_decide.specs.Passing.{Passes}
 use Rattle.ea_decide.specs.Decisions.{IsOver}
 use Rattle.obligation_decide.specs.GoalPassing.{cause_of, first_cause, PassesAs, PassesFirstAs}
 use Rattle.obligation_decide.specs.GoalDecisions.{IsLeftOpenAs, AreAxiomsDecided}

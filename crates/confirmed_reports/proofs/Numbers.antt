@@ -13,10 +13,10 @@ use Rattle.rml_command.specs.declared.goal.Goal.{Goal}
 use Rattle.rml_wp.specs.Preconditions.{goal_passes_limit}
 use Rattle.rml_report.specs.ReportText.{answer_text, report_text}
 use Rattle.rml_report.specs.Reports.{head_of}
-use Rattle.rml_report.specs.declared.cause.Bound.{Bound}
-use Rattle.rml_report.specs.declared.cause.Bound.TheVariants as at
-use Rattle.rml_report.specs.declared.cause.Least.{Least}
-use Rattle.rml_report.specs.declared.cause.Least.TheVariants as least
+use Rattle.rml_report.specs.declared.least.Bound.{Bound}
+use Rattle.rml_report.specs.declared.least.Bound.TheVariants as at
+use Rattle.rml_report.specs.declared.least.Least.{Least}
+use Rattle.rml_report.specs.declared.least.Least.TheVariants as least
 use Rattle.rml_report.specs.declared.report.Answer.{Answer}
 use Rattle.rml_report.specs.declared.report.Answer.TheVariants as reported
 use Rattle.rml_report.specs.declared.report.Group.{Group}
@@ -24,7 +24,7 @@ use Rattle.rml_report.specs.declared.report.Report.{Report}
 use Rattle.printed_report.specs.Executions.{IsSize}
 use Rattle.printed_report.specs.Lines.{IsBound, IsLeast}
 use Rattle.report_read.specs.Printing.{CanPrint}
-use Rattle.ea_decide.specs.Passing.{Ceilings}
+use Rattle.limits.specs.Ceilings.{Ceilings}
 use Rattle.obligation_decide.specs.GoalPassing.{refuting_sentence}
 use Rattle.obligation_decide.specs.GoalDecisions.{IsFailing}
 use Rattle.rml_wp.specs.Added.{refuting_all}

@@ -22,7 +22,7 @@ use Rattle.fol_sig.specs.declared.symbol.Symbol.{Symbol}
 use Rattle.fol_sig.specs.declared.symbol.Symbol.TheVariants as symbol
 use Rattle.rml_report.specs.ReportText.{head_text, path_line, least_line, outcome_text, execution_text, block_text}
 use Rattle.rml_report.specs.ReportText.{answer_text, group_text, axioms_text, verdict_text, report_text}
-use Rattle.rml_report.specs.declared.cause.Least.{Least}
+use Rattle.rml_report.specs.declared.least.Least.{Least}
 use Rattle.rml_report.specs.declared.report.Group.{Group}
 use Rattle.rml_report.specs.declared.report.Report.{Report}
 use Rattle.cti_minimise.specs.Extents.{true_tuples}

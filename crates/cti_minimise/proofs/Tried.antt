@@ -8,7 +8,7 @@ use Rattle.fol_sig.specs.Tables.{Tables}
 use Rattle.fol_sig.specs.Symbols.{FitsStructure, symbols}
 use Rattle.rml_command.specs.Models.{ModelTree}
 use Rattle.rml_command.specs.declared.goal.Goal.{Goal}
-use Rattle.ea_decide.specs.Passing.{Ceilings}
+use Rattle.limits.specs.Ceilings.{Ceilings}
 use Rattle.obligation_decide.specs.Restricted.{RestrictedPassesFirst, HasNoneWhere}
 use Rattle.cti_minimise.specs.Bounding.{bound_at, bounds_on}
 use Rattle.cti_minimise.specs.Extents.{extent, places, lowest}

@@ -2,8 +2,8 @@
 use Rattle.std.specs.Prelude.{ℕ, ◌+◌, ◌<◌, nat_lt, if◌then◌else◌, false, List, ◌++◌, length, map, count_by}
 use Rattle.fol_sig.specs.Tables.{Tables, Declared, RelationTable, cell_at}
 use Rattle.fol_sig.specs.Tuples.{tuples}
-use Rattle.rml_report.specs.declared.cause.Bound.{Bound}
-use Rattle.rml_report.specs.declared.cause.Bound.TheVariants.{Sort, Rel}
+use Rattle.rml_report.specs.declared.least.Bound.{Bound}
+use Rattle.rml_report.specs.declared.least.Bound.TheVariants.{Sort, Rel}
 
 -- how many of the tuples of elements of its argument sorts a relation is true of
 abbrev pub true_tuples : List ℕ → RelationTable → ℕ

@@ -5,10 +5,10 @@ use Rattle.rml_command.specs.Models.{ModelTree}
 use Rattle.rml_command.specs.Goals.{IsCounterexample}
 use Rattle.rml_command.specs.declared.goal.Goal.{Goal}
 use Rattle.rml_command.specs.declared.havoc.Havoc.{Havoc}
-use Rattle.rml_report.specs.declared.cause.Cause.{Cause}
-use Rattle.rml_report.specs.declared.cause.Least.{Least}
-use Rattle.rml_report.specs.declared.cause.Least.TheVariants as least
-use Rattle.ea_decide.specs.Passing.{Ceilings}
+use Rattle.limits.specs.declared.cause.Cause.{Cause}
+use Rattle.rml_report.specs.declared.least.Least.{Least}
+use Rattle.rml_report.specs.declared.least.Least.TheVariants as least
+use Rattle.limits.specs.Ceilings.{Ceilings}
 use Rattle.obligation_decide.specs.Restricted.{RestrictedPassesFirst, IsLeftOpenWhere}
 use Rattle.cti_minimise.specs.Extents.{extent, bound_place, HasBound, lowest}
 use Rattle.cti_minimise.specs.Bounding.{bounds_on}

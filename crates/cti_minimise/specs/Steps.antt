@@ -2,7 +2,7 @@
 use Rattle.std.specs.Prelude.{ℕ, suc, ◌<◌, ◌≤◌, ◌++◌, take, List, [], ◌∷◌, None}
 use Rattle.rml_command.specs.Goals.{IsGoal}
 use Rattle.rml_exec.specs.declared.trace.Counterexample.{Counterexample}
-use Rattle.ea_decide.specs.Passing.{Ceilings, ceilings}
+use Rattle.limits.specs.Ceilings.{Ceilings, ceilings}
 use Rattle.obligation_decide.specs.GoalDecisions.{IsFailing}
 use Rattle.obligation_decide.specs.Restricted.{RestrictedPassesFirst, HasNoneWhere, IsFailingWhere, IsLeftOpenWhere}
 use Rattle.lean_decide.specs.Sought.{IsPrepared}

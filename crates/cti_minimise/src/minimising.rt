@@ -1,7 +1,7 @@
 // The search for smaller counterexamples.
 ghost use Rattle.std.specs.Prelude.{◌<◌, take, IfOk};
 ghost use Rattle.rml_command.specs.Goals.{IsGoal};
-ghost use Rattle.ea_decide.specs.Passing.{ceilings};
+ghost use Rattle.limits.specs.Ceilings.{ceilings};
 ghost use Rattle.obligation_decide.specs.GoalDecisions.{IsFailing};
 ghost use Rattle.cti_minimise.specs.Extents.{extent, places};
 ghost use Rattle.cti_minimise.specs.Minimal.{IsLeast};
@@ -13,10 +13,10 @@ use crate::laws::bound_law;
 use crate::trials::{Attempt, Trial, Trials};
 use base::Mem;
 use lean_decide::prepare;
-use lrat_log::Limits;
+use limits::{Cause, Limits};
 use rml_command::{Checked, Goal};
 use rml_exec::Counterexample;
-use rml_report::{Cause, Least};
+use rml_report::Least;
 use std::alloc::Global;
 
 // What the search ends with at one place.

@@ -2,7 +2,7 @@
 ghost use Rattle.std.specs.Prelude.{◌≡◌, ◌≤◌, true, IfOk};
 ghost use Rattle.obligation_decide.specs.Restricted.{IsRestrictedDecision};
 ghost use Rattle.obligation_decide.specs.Costs.{IsRestrictedMeasured};
-ghost use Rattle.ea_decide.specs.Passing.{ceilings};
+ghost use Rattle.limits.specs.Ceilings.{ceilings};
 ghost use Rattle.lean_decide.specs.Sought.{IsSought};
 ghost use Rattle.cti_minimise.specs.Bounding.{bounds_by, bounds_on};
 ghost use Rattle.cti_minimise.specs.Saying.{said_by};
@@ -15,11 +15,10 @@ use crate::laws::{bound_law, saying_law};
 use base::Mem;
 use fol_sig::{RelId, Signature};
 use lean_decide::{Prepared, Sought};
-use lrat_log::Limits;
+use limits::{Cause, Limits};
 use obligation_decide::{Decision, Measured, decide_where};
 use rml_command::{Checked, Goal};
 use rml_exec::Counterexample;
-use rml_report::Cause;
 use std::alloc::Global;
 
 /// What a trial ends with.

@@ -19,7 +19,8 @@ use Rattle.ground_size.specs.Laws.{InstancesAreCounted, AxiomsAreCounted}
 use Rattle.ea_decide.specs.declared.decided.Passed.{Passed}
 use Rattle.ea_decide.specs.declared.decided.Passed.TheVariants.{Terms, GroundSize}
 use Rattle.ea_decide.specs.GroundForm.{ground_formulas}
-use Rattle.ea_decide.specs.Passing.{Ceilings, passed_of, Passes}
+use Rattle.limits.specs.Ceilings.{Ceilings}
+use Rattle.ea_decide.specs.Passing.{passed_of, Passes}
 use Rattle.ea_decide.specs.Steps.{more_symbols, IsGroundable, IsSmallForm, HasRoom}
 use Rattle.ea_decide.proofs.Fragments.{Rewriting, sorted, strata, skolemises}
 use Rattle.ea_decide.proofs.Sums.{one-of-sum, functions-few}

@@ -12,7 +12,8 @@ use Rattle.lrat_check.specs.Checked.{Checked}
 use Rattle.skolem.specs.Laws.{IsModel}
 use Rattle.ground_size.specs.Counting.{skolem_signature, AreTermCounts}
 use Rattle.ea_decide.specs.GroundForm.{skolem_sentence, IsClauseForm}
-use Rattle.ea_decide.specs.Passing.{Ceilings, Passes}
+use Rattle.limits.specs.Ceilings.{Ceilings}
+use Rattle.ea_decide.specs.Passing.{Passes}
 use Rattle.ea_decide.specs.declared.decided.Passed.{Passed}
 use Rattle.ea_decide.specs.declared.decided.Passed.TheVariants.{Conflicts}
 use Rattle.ea_decide.specs.declared.decided.Clauses.{Clauses}

@@ -16,7 +16,8 @@ use Rattle.ground_size.specs.Sizes.{size_of}
 use Rattle.ea_decide.specs.declared.decided.Passed.{Passed}
 use Rattle.ea_decide.specs.GroundForm.{ground_formulas, IsClauseForm}
 use Rattle.ea_decide.specs.Decisions.{HasNoModel, HasFewElements}
-use Rattle.ea_decide.specs.Passing.{Ceilings, Passes}
+use Rattle.limits.specs.Ceilings.{Ceilings}
+use Rattle.ea_decide.specs.Passing.{Passes}
 
 -- where the sorts have an order
 abbrev pub FirstLimitIsOne : Type 0

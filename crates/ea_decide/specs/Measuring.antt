@@ -4,7 +4,8 @@ use Rattle.fol_sig.specs.Tables.{Declared}
 use Rattle.fol_formula.specs.Syntax.{FormTree}
 use Rattle.ground_size.specs.Counting.{AreTermCounts}
 use Rattle.ground_size.specs.Sizes.{size_of}
-use Rattle.ea_decide.specs.Passing.{Ceilings, Passes}
+use Rattle.limits.specs.Ceilings.{Ceilings}
+use Rattle.ea_decide.specs.Passing.{Passes}
 use Rattle.ea_decide.specs.declared.decided.Measured.{Measured}
 use Rattle.ea_decide.specs.declared.decided.Measured.TheVariants.{Within, Over}
 

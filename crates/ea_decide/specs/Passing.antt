@@ -3,20 +3,11 @@ use Rattle.std.specs.Prelude.{◌≡◌, ℕ, nat_lt, List, sum, Option, Some, N
 use Rattle.fol_sig.specs.Tables.{Declared}
 use Rattle.fol_formula.specs.Syntax.{FormTree}
 use Rattle.fol_formula.specs.Counts.{saturated}
-use Rattle.lrat_log.specs.declared.limits.Limits.{Limits}
+use Rattle.limits.specs.Ceilings.{Ceilings}
 use Rattle.ground_size.specs.Counting.{AreTermCounts}
 use Rattle.ground_size.specs.Sizes.{size_of}
 use Rattle.ea_decide.specs.declared.decided.Passed.{Passed}
 use Rattle.ea_decide.specs.declared.decided.Passed.TheVariants.{Terms, GroundSize}
-
--- the limits as plain numbers: most ground terms, largest ground formulas, most learnt clauses
-pub record Ceilings : Type 0 where
-  pub terms : ℕ
-  pub size : ℕ
-  pub conflicts : ℕ
-
-abbrev pub ceilings : Limits → Ceilings
-ceilings l = record { terms = l.terms; size = l.ground_size; conflicts = l.conflicts }
 
 -- more ground terms than the limit; if not, ground formulas larger than theirs
 abbrev pub passed_of : Ceilings → ℕ → ℕ → Option Passed

@@ -23,7 +23,8 @@ use Rattle.clause_form.specs.Meaning.{atoms_of, true_atoms}
 use Rattle.structure_back.specs.ReadBack.{IsReadBack}
 use Rattle.ground_size.specs.Counting.{skolem_signature, AreTermCounts}
 use Rattle.ea_decide.specs.GroundForm.{skolem_sentence, ground_formulas}
-use Rattle.ea_decide.specs.Passing.{Ceilings, Passes}
+use Rattle.limits.specs.Ceilings.{Ceilings}
+use Rattle.ea_decide.specs.Passing.{Passes}
 use Rattle.ea_decide.specs.Decisions.{HasNoModel, Refutes, IsSmallModel, SpendsBudget}
 use Rattle.ea_decide.specs.declared.decided.Passed.TheVariants.{Conflicts}
 use Rattle.ea_decide.specs.declared.decided.Decided.{Decided}

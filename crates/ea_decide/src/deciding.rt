@@ -7,7 +7,8 @@ ghost use Rattle.fol_formula.specs.Fragments.{IsNormalForm};
 ghost use Rattle.ground_terms.specs.Universe.{symbols_in};
 ghost use Rattle.ground_size.specs.Counting.{skolem_signature};
 ghost use Rattle.ea_decide.specs.GroundForm.{skolem_sentence};
-ghost use Rattle.ea_decide.specs.Passing.{ceilings, Passes};
+ghost use Rattle.limits.specs.Ceilings.{ceilings};
+ghost use Rattle.ea_decide.specs.Passing.{Passes};
 ghost use Rattle.ea_decide.specs.Decisions.{IsDecided};
 ghost use Rattle.ea_decide.specs.Steps.{more_symbols, IsGroundable, HasRoom, IsSearchedFor};
 
@@ -20,7 +21,7 @@ use base::Mem;
 use fol_formula::{Ea, Universal};
 use fol_sig::{Signature, Strata};
 use ground_terms::{Herbrand, Terms};
-use lrat_log::Limits;
+use limits::Limits;
 use std::alloc::Global;
 use structure_back::read;
 

@@ -8,7 +8,7 @@ ghost use Rattle.fol_formula.specs.Fits.{FitsForm};
 ghost use Rattle.fol_formula.specs.Fragments.{IsEa};
 ghost use Rattle.ground_size.specs.Conjoined.{and_of};
 ghost use Rattle.ground_size.specs.Found.{IsGroundSize};
-ghost use Rattle.ea_decide.specs.Passing.{ceilings};
+ghost use Rattle.limits.specs.Ceilings.{ceilings};
 ghost use Rattle.ea_decide.specs.Measuring.{IsMeasured};
 
 use crate::decided::{Measured, Passed};
@@ -16,7 +16,7 @@ use base::Mem;
 use fol_formula::Ea;
 use fol_sig::{Signature, Strata};
 use ground_size::{GroundSize, Part, count, count_parts, ground_size, ground_size_of_parts};
-use lrat_log::Limits;
+use limits::Limits;
 use std::alloc::Global;
 
 /// The size of the sentence's ground formulas, or the first limit that the sentence passes by its size. Nothing is

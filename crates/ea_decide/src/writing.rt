@@ -5,7 +5,8 @@ ghost use Rattle.fol_sig.specs.Strata.{IsStrata};
 ghost use Rattle.fol_formula.specs.Fits.{FitsForm};
 ghost use Rattle.cnf_base.specs.Writing.{CanWrite};
 ghost use Rattle.ea_decide.specs.GroundForm.{IsClauseForm};
-ghost use Rattle.ea_decide.specs.Passing.{ceilings, Passes};
+ghost use Rattle.limits.specs.Ceilings.{ceilings};
+ghost use Rattle.ea_decide.specs.Passing.{Passes};
 ghost use Rattle.ea_decide.specs.Decisions.{AreClauses};
 
 use crate::decided::{Clauses, Measured};
@@ -17,7 +18,7 @@ use cnf_base::Cnf;
 use fol_formula::Ea;
 use fol_sig::{Signature, Strata};
 use ground_terms::{Herbrand, Terms};
-use lrat_log::Limits;
+use limits::Limits;
 use std::alloc::Global;
 
 /// The clauses that decide a sentence of the signature, under the limits of ground terms and ground size: the very ones

@@ -7,7 +7,7 @@ use Rattle.rml_command.specs.Goals.{HasNone}
 use Rattle.rml_command.specs.declared.goal.Goal.{Goal}
 use Rattle.ea_decide.specs.GroundForm.{IsClauseForm}
 use Rattle.ea_decide.specs.Laws.{IsSatisfiable}
-use Rattle.ea_decide.specs.Passing.{Ceilings}
+use Rattle.limits.specs.Ceilings.{Ceilings}
 use Rattle.rml_wp.specs.Preconditions.{answered}
 use Rattle.obligation_decide.specs.GoalPassing.{PassesFirst, refuting_sentence}
 use Rattle.goal_clauses.specs.Laws.{HasCounterexample}

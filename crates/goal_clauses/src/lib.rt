@@ -6,7 +6,7 @@
 
 ghost use Rattle.std.specs.Prelude.{◌≡◌, false, IfOk};
 ghost use Rattle.rml_command.specs.Goals.{IsGoal};
-ghost use Rattle.ea_decide.specs.Passing.{ceilings};
+ghost use Rattle.limits.specs.Ceilings.{ceilings};
 ghost use Rattle.rml_wp.specs.Preconditions.{answered as answered_of, goal_passes_limit};
 ghost use Rattle.obligation_decide.specs.GoalPassing.{cause_of as named_cause, refuting_sentence};
 ghost use Rattle.obligation_decide.specs.GoalDecisions.{IsDecision};
@@ -20,10 +20,9 @@ use ea_decide::{Clauses, Passed};
 use fol_formula::Ea;
 use fol_sig::Signature;
 pub use laws::{counterexample_law, exactness_law};
-use lrat_log::Limits;
+use limits::{Cause, Limits};
 use obligation_decide::Decision;
 use rml_command::{Checked, Goal};
-use rml_report::Cause;
 use rml_wp::refuting;
 use std::alloc::{AllocError, Global};
 

@@ -7,12 +7,12 @@ use Rattle.rml_command.specs.declared.goal.Stage.TheVariants as stage
 use Rattle.rml_command.specs.declared.goal.About.{About}
 use Rattle.rml_command.specs.declared.goal.About.TheVariants as about
 use Rattle.rml_report.specs.Words.{name_at}
-use Rattle.rml_report.specs.declared.cause.Bound.{Bound}
-use Rattle.rml_report.specs.declared.cause.Bound.TheVariants as at
-use Rattle.rml_report.specs.declared.cause.Cause.{Cause}
-use Rattle.rml_report.specs.declared.cause.Cause.TheVariants as cause
-use Rattle.rml_report.specs.declared.cause.Least.{Least}
-use Rattle.rml_report.specs.declared.cause.Least.TheVariants as least
+use Rattle.rml_report.specs.declared.least.Bound.{Bound}
+use Rattle.rml_report.specs.declared.least.Bound.TheVariants as at
+use Rattle.limits.specs.declared.cause.Cause.{Cause}
+use Rattle.limits.specs.declared.cause.Cause.TheVariants as cause
+use Rattle.rml_report.specs.declared.least.Least.{Least}
+use Rattle.rml_report.specs.declared.least.Least.TheVariants as least
 use Rattle.json_values.specs.Values.{text_data, number_data, object_of, kind_data, named_data, counted_data}
 
 -- the name of this number, or the empty text

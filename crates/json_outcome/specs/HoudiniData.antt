@@ -5,7 +5,7 @@ use Rattle.rml_command.specs.Models.{ModelTree}
 use Rattle.rml_command.specs.Goals.{stage_paths}
 use Rattle.rml_command.specs.declared.names.Names.{Names}
 use Rattle.rml_command.specs.declared.goal.Goal.{Goal}
-use Rattle.rml_report.specs.declared.cause.Cause.{Cause}
+use Rattle.limits.specs.declared.cause.Cause.{Cause}
 use Rattle.rml_houdini.specs.declared.houdini.Dropped.{Dropped}
 use Rattle.rml_houdini.specs.declared.houdini.Houdini.{Houdini}
 use Rattle.json_values.specs.Values.{list_data, number_data, object_of, set_each}

@@ -3,8 +3,8 @@ use Rattle.std.specs.Prelude.{ℕ, List, [], ◌∷◌, drop, codes}
 use Rattle.serde_json.specs.Data.{Data, Members, string, no_members}
 use Rattle.rml_command.specs.Models.{ModelTree}
 use Rattle.rml_exec.specs.declared.trace.Counterexample.{Counterexample}
-use Rattle.rml_report.specs.declared.cause.Cause.{Cause}
-use Rattle.rml_report.specs.declared.cause.Least.{Least}
+use Rattle.limits.specs.declared.cause.Cause.{Cause}
+use Rattle.rml_report.specs.declared.least.Least.{Least}
 use Rattle.rml_report.specs.declared.report.Axioms.{Axioms}
 use Rattle.rml_report.specs.declared.report.Axioms.TheVariants as axioms
 use Rattle.rml_report.specs.declared.report.Verdict.{Verdict}

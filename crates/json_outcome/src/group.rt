@@ -6,8 +6,9 @@ ghost use Rattle.json_outcome.specs.GroupData.{least_data, group_members};
 
 use base::Mem;
 use json_values::{Json, ObjectBuilder, counted, kind};
+use limits::Cause;
 use rml_command::{About, Name, Names, Stage};
-use rml_report::{Bound, Cause, Least};
+use rml_report::{Bound, Least};
 use std::alloc::Global;
 
 /// The name of this number; the empty text where there is none.

@@ -11,9 +11,9 @@ use crate::execution::{behind_first, execution_value};
 use crate::group::{cause_value, name_value, with_group};
 use base::Mem;
 use json_values::{Json, JsonList, JsonObject, ObjectBuilder};
+use limits::Cause;
 use rml_command::{Checked, Goal, Names};
 use rml_houdini::{Dropped, Houdini};
-use rml_report::Cause;
 use std::alloc::Global;
 
 /// The names of conjectures.

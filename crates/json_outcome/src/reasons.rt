@@ -11,11 +11,11 @@ use crate::group::{cause_value, name_value, with_group};
 use crate::houdini::names_value;
 use base::Mem;
 use json_values::{Json, JsonList, JsonObject, ObjectBuilder};
+use limits::Cause;
 use model_reasons::{Reason, idle};
 use rml_command::{Checked, Goal};
 use rml_exec::Counterexample;
 use rml_reasons::{Carried, Lack, Need};
-use rml_report::Cause;
 use std::alloc::Global;
 
 #[tactic(auto, unfolding(crate::specs::ReasonsData::lack_data))]

@@ -12,9 +12,10 @@ use crate::execution::{behind_first, execution_value};
 use crate::group::{cause_value, least_value, with_group};
 use base::Mem;
 use json_values::{Json, JsonList, JsonObject, ObjectBuilder};
+use limits::Cause;
 use rml_command::Checked;
 use rml_exec::Counterexample;
-use rml_report::{Answer, Axioms, Cause, Group, Least, Report, Verdict};
+use rml_report::{Answer, Axioms, Group, Least, Report, Verdict};
 use std::alloc::Global;
 
 fn with_failing(

@@ -9,7 +9,8 @@ use Rattle.rml_command.specs.Models.{ModelTree}
 use Rattle.fol_formula.specs.Sentences.{all_of}
 use Rattle.rml_report.specs.Reports.{AxiomsAre}
 use Rattle.rml_report.specs.declared.report.Axioms.TheVariants.{Consistent, Inconsistent}
-use Rattle.ea_decide.specs.Passing.{Ceilings, Passes}
+use Rattle.limits.specs.Ceilings.{Ceilings}
+use Rattle.ea_decide.specs.Passing.{Passes}
 use Rattle.ea_decide.specs.Measuring.{IsMeasured}
 use Rattle.ea_decide.specs.declared.decided.Measured.{Measured}
 use Rattle.ea_decide.specs.declared.decided.Measured.TheVariants.{Within}

@@ -9,7 +9,7 @@ use Rattle.rml_wp.specs.declared.premises.Premises.TheVariants.{Affected}
 use Rattle.rml_wp.specs.Preconditions.{answered, goal_precondition, goal_passes_limit, goal_passes_limit_by}
 use Rattle.rml_wp.specs.Added.{refuting_all_by}
 use Rattle.ea_decide.specs.declared.decided.Passed.{Passed}
-use Rattle.ea_decide.specs.Passing.{Ceilings}
+use Rattle.limits.specs.Ceilings.{Ceilings}
 use Rattle.ea_decide.specs.Decisions.{IsOver}
 use Rattle.pruned_decide.specs.Decisions.{lean_signature, lean_sentence, HasManyConstants}
 use Rattle.obligation_decide.specs.Restricted.{HasNoneWhere, IsFailingWhere}

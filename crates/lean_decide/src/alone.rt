@@ -17,7 +17,7 @@ use ea_decide::Decided;
 use fol_formula::{Ae, Ea, Formula, Sentence};
 use fol_occurs::mentions;
 use fol_sig::{Signature, Symbol};
-use lrat_log::Limits;
+use limits::Limits;
 use rml_command::{About, Checked, Goal, Path, Primitive, Stage};
 use rml_wp::{Premises, precondition_by};
 use std::alloc::{AllocError, Global};

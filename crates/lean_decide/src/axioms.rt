@@ -1,13 +1,14 @@
 // Whether the axioms of a model can be satisfied. They are decided as goals are, by the lean form of their And first.
 ghost use Rattle.std.specs.Prelude.{◌≡◌, IfOk, None};
 ghost use Rattle.fol_formula.specs.Sentences.{all_of};
-ghost use Rattle.ea_decide.specs.Passing.{ceilings, Passes};
+ghost use Rattle.ea_decide.specs.Passing.{Passes};
+ghost use Rattle.limits.specs.Ceilings.{ceilings};
 ghost use Rattle.obligation_decide.specs.GoalDecisions.{AreAxiomsDecided};
 
 use base::{Mem, Refused};
 use ea_decide::{Decided, Measured, measure};
 use fol_formula::Ea;
-use lrat_log::Limits;
+use limits::Limits;
 use obligation_decide::{all_axioms, decide_axioms};
 use rml_command::Checked;
 use rml_report::Axioms;

@@ -5,7 +5,7 @@ ghost use Rattle.rml_command.specs.Goals.{IsGoal};
 ghost use Rattle.rml_wp.specs.declared.premises.Premises.TheVariants.{Affected};
 ghost use Rattle.rml_wp.specs.Preconditions.{answered as answered_of, goal_passes_limit_by};
 ghost use Rattle.pool_wp.specs.Sharing.{IsPoolOf};
-ghost use Rattle.ea_decide.specs.Passing.{ceilings};
+ghost use Rattle.limits.specs.Ceilings.{ceilings};
 ghost use Rattle.lean_decide.specs.Lean.{affected_refuting};
 ghost use Rattle.lean_decide.specs.Settled.{IsPassing};
 ghost use Rattle.lean_decide.specs.declared.settling.Counted.TheVariants.{Whole, Lean};
@@ -13,11 +13,10 @@ ghost use Rattle.lean_decide.specs.declared.settling.Counted.TheVariants.{Whole,
 use base::{Mem, Refused};
 use fol_formula::Ea;
 use fol_sig::Signature;
-use lrat_log::Limits;
+use limits::{Cause, Limits};
 use obligation_decide::{Measured, cause_of, measure};
 use pool_wp::ModelPool;
 use rml_command::{Checked, Goal};
-use rml_report::Cause;
 use rml_wp::{Premises, refuting_by};
 use std::alloc::{AllocError, Global};
 

@@ -6,7 +6,7 @@ ghost use Rattle.fol_sig.specs.Symbols.{symbols};
 ghost use Rattle.fol_formula.specs.Fits.{FitsForm};
 ghost use Rattle.fol_formula.specs.Fragments.{IsEa};
 ghost use Rattle.rml_command.specs.Goals.{IsGoal};
-ghost use Rattle.ea_decide.specs.Passing.{ceilings};
+ghost use Rattle.limits.specs.Ceilings.{ceilings};
 ghost use Rattle.obligation_decide.specs.Costs.{IsRestrictedMeasured};
 ghost use Rattle.lean_decide.specs.Sought.{IsSought, IsAffected, IsCounted, IsPrepared};
 
@@ -14,10 +14,9 @@ use crate::seeking::{Sought, seek_by};
 use base::{Mem, Refused};
 use fol_formula::{Ae, Ea, Sentence};
 use fol_sig::Signature;
-use lrat_log::Limits;
+use limits::{Cause, Limits};
 use obligation_decide::{Measured, measure_by};
 use rml_command::{Checked, Goal};
-use rml_report::Cause;
 use rml_wp::{Premises, precondition, refuting_by};
 use std::alloc::{AllocError, Global};
 

@@ -8,7 +8,7 @@ ghost use Rattle.rml_command.specs.Goals.{IsGoal};
 ghost use Rattle.rml_wp.specs.declared.premises.Premises.TheVariants.{Affected};
 ghost use Rattle.rml_wp.specs.Preconditions.{answered as answered_of};
 ghost use Rattle.rml_wp.specs.Added.{refuting_all_by};
-ghost use Rattle.ea_decide.specs.Passing.{ceilings};
+ghost use Rattle.limits.specs.Ceilings.{ceilings};
 ghost use Rattle.lean_decide.specs.Lean.{affected_refuting};
 ghost use Rattle.lean_decide.specs.Sought.{IsSought};
 
@@ -16,7 +16,7 @@ use crate::deciding::decide_sentence;
 use base::{Mem, Refused};
 use fol_formula::{Ea, Sentence};
 use fol_sig::Signature;
-use lrat_log::Limits;
+use limits::Limits;
 use obligation_decide::{Decision, with_parts};
 use rml_command::{Checked, Goal};
 use rml_exec::Counterexample;

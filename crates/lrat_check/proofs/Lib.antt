@@ -7,3 +7,4 @@ pub mod Deletion
 pub mod Growth
 pub mod Taken
 pub mod Stepping
+pub mod Taking

@@ -4,3 +4,4 @@ pub mod TableState
 pub mod Checked
 pub mod CheckerState
 pub mod Whole
+pub mod Written

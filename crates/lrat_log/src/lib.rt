@@ -5,7 +5,6 @@
 
 mod fault_code;
 mod laws;
-mod limits;
 mod line;
 mod outcome;
 mod reader;
@@ -16,7 +15,7 @@ mod writer;
 
 pub use fault_code::LogFaultCode;
 pub use laws::{bound_law, code_laws, growth_laws, learnt_laws, range_laws, round_trip, soundness};
-pub use limits::Limits;
+pub use limits::{Cause, Limits};
 pub use line::{Line, Log};
 pub use outcome::{Effect, Outcome};
 pub use reader::read_log;

@@ -7,7 +7,7 @@ use Rattle.rml_report.specs.ReportText.{report_text}
 use Rattle.rml_report.specs.declared.report.Report.{Report}
 use Rattle.rml_report.specs.declared.report.Verdict.{Verdict}
 use Rattle.rml_report.specs.declared.report.Verdict.TheVariants as verdict
-use Rattle.ea_decide.specs.Passing.{Ceilings}
+use Rattle.limits.specs.Ceilings.{Ceilings}
 use Rattle.lean_decide.specs.declared.settling.Counted.{Counted}
 use Rattle.lean_decide.specs.declared.settling.Counted.TheVariants.{Whole}
 use Rattle.verdicts.specs.Answers.{IsReportBy}

@@ -3,7 +3,7 @@ use Rattle.std.proofs.Common.{ℕ, List, [], ◌∷◌}
 use Rattle.std.specs.List.{AllByRecursion}
 use Rattle.rml_command.specs.Models.{ModelTree}
 use Rattle.rml_command.specs.declared.goal.Head.{Head}
-use Rattle.ea_decide.specs.Passing.{Ceilings}
+use Rattle.limits.specs.Ceilings.{Ceilings}
 use Rattle.rml_reasons.specs.Reasons.{IsLack, IsCarried, without}
 use Rattle.rml_reasons.specs.declared.reason.Lack.{Lack}
 use Rattle.rml_reasons.specs.declared.reason.Lack.TheVariants.{Fails, Open}

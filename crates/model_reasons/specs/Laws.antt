@@ -5,7 +5,7 @@ use Rattle.base.specs.Lists.{SomeOf}
 use Rattle.rml_command.specs.Models.{ModelTree}
 use Rattle.rml_command.specs.declared.goal.About.TheVariants as about
 use Rattle.rml_report.specs.Reports.{IsExecution}
-use Rattle.ea_decide.specs.Passing.{Ceilings}
+use Rattle.limits.specs.Ceilings.{Ceilings}
 use Rattle.rml_houdini.specs.Subsets.{Has}
 use Rattle.rml_reasons.specs.Reasons.{IsReason, needed_conjectures}
 use Rattle.rml_reasons.specs.declared.reason.Need.{Need}

@@ -4,7 +4,7 @@ use Rattle.std.specs.List.{AllByRecursion}
 use Rattle.rml_command.specs.Models.{ModelTree}
 use Rattle.rml_command.specs.Goals.{groups_of}
 use Rattle.rml_command.specs.declared.goal.Head.{Head}
-use Rattle.ea_decide.specs.Passing.{Ceilings}
+use Rattle.limits.specs.Ceilings.{Ceilings}
 use Rattle.rml_reasons.specs.Reasons.{IsCarried}
 use Rattle.model_reasons.specs.declared.reason.Reason.{Reason}
 

@@ -2,12 +2,12 @@
 ghost use Rattle.std.specs.Prelude.{◌≡◌, map, IfOk};
 ghost use Rattle.std.specs.List.{AllByRecursion};
 ghost use Rattle.rml_command.specs.Goals.{HasAbout};
-ghost use Rattle.ea_decide.specs.Passing.{ceilings};
+ghost use Rattle.limits.specs.Ceilings.{ceilings};
 ghost use Rattle.model_reasons.specs.Reasons.{head_of, IsCarriedSo, AreReasons};
 
 use crate::reason::Reason;
 use base::{Mem, Row};
-use lrat_log::Limits;
+use limits::Limits;
 use progress::{Progress, Work};
 use rml_command::{Checked, Head, goal_law, heads};
 use rml_reasons::carried_by;

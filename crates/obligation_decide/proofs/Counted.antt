@@ -13,7 +13,7 @@ use Rattle.rml_command.specs.declared.goal.Stage.TheVariants as stage
 use Rattle.rml_wp.specs.declared.premises.Premises.TheVariants.{All}
 use Rattle.rml_wp.specs.Preconditions.{answered, parts_before, goal_precondition}
 use Rattle.rml_wp.specs.Added.{refuting_all, IsRefutingSentence}
-use Rattle.ea_decide.specs.Passing.{Ceilings}
+use Rattle.limits.specs.Ceilings.{Ceilings}
 use Rattle.ea_decide.specs.Measuring.{IsMeasured}
 use Rattle.ea_decide.specs.declared.decided.Measured.{Measured}
 use Rattle.obligation_decide.specs.Costs.{held_before}

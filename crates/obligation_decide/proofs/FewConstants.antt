@@ -10,7 +10,8 @@ use Rattle.fol_sig.specs.Growing.{GrowsBy}
 use Rattle.fol_formula.specs.Syntax.{FormTree}
 use Rattle.ground_terms.specs.TermCounts.{sum_below, or_one, application_count, AreCounts}
 use Rattle.ground_size.specs.Counting.{skolem_signature}
-use Rattle.ea_decide.specs.Passing.{Ceilings, Passes}
+use Rattle.limits.specs.Ceilings.{Ceilings}
+use Rattle.ea_decide.specs.Passing.{Passes}
 
 -- sums of the numbers below a bound
 sum_below-at : (n : ℕ) (f : ℕ → ℕ) (k : ℕ) → k < n → f k ≤ sum_below n f

@@ -14,9 +14,10 @@ use Rattle.rml_command.specs.Goals.{IsGoal}
 use Rattle.rml_command.specs.declared.goal.Goal.{Goal}
 use Rattle.rml_wp.specs.declared.premises.Premises.TheVariants.{All}
 use Rattle.rml_wp.specs.Preconditions.{answered, goal_passes_limit}
-use Rattle.rml_report.specs.declared.cause.Cause.{Cause}
-use Rattle.rml_report.specs.declared.cause.Cause.TheVariants as cause
-use Rattle.ea_decide.specs.Passing.{Ceilings, passed_of}
+use Rattle.limits.specs.declared.cause.Cause.{Cause}
+use Rattle.limits.specs.declared.cause.Cause.TheVariants as cause
+use Rattle.limits.specs.Ceilings.{Ceilings}
+use Rattle.ea_decide.specs.Passing.{passed_of}
 use Rattle.obligation_decide.specs.GoalPassing.{first_cause, refuting_sentence, SentencePasses}
 use Rattle.obligation_decide.specs.Laws.{FirstLimitIsOne}
 use Rattle.obligation_decide.proofs.Shown.{AreRead, alone, normal-fits}

@@ -11,8 +11,8 @@ use Rattle.rml_wp.specs.declared.premises.Premises.TheVariants.{All}
 use Rattle.rml_wp.specs.Preconditions.{goal_passes_limit, refuting_of}
 use Rattle.rml_wp.specs.Added.{AreAdded, NoPartsAreAdded}
 use Rattle.rml_wp.specs.Answered.{CounterexamplesAreCuts}
-use Rattle.rml_report.specs.declared.cause.Cause.{Cause}
-use Rattle.ea_decide.specs.Passing.{Ceilings}
+use Rattle.limits.specs.declared.cause.Cause.{Cause}
+use Rattle.limits.specs.Ceilings.{Ceilings}
 use Rattle.obligation_decide.specs.GoalPassing.{SentencePassesBy, PassesFirstBy}
 use Rattle.obligation_decide.specs.GoalDecisions.{IsLeftOpenBy, IsFailingBy, IsDecisionBy}
 use Rattle.obligation_decide.specs.Restricted.{IsSentenceFailing, IsSentenceDecision}

@@ -5,11 +5,11 @@ use Rattle.fol_formula.specs.Syntax.{FormTree}
 use Rattle.rml_command.specs.Models.{ModelTree}
 use Rattle.rml_command.specs.declared.goal.Goal.{Goal}
 use Rattle.rml_wp.specs.Preconditions.{answered, goal_passes_limit}
-use Rattle.rml_report.specs.declared.cause.Cause.{Cause}
-use Rattle.rml_report.specs.declared.cause.Cause.TheVariants as cause
+use Rattle.limits.specs.declared.cause.Cause.{Cause}
+use Rattle.limits.specs.declared.cause.Cause.TheVariants as cause
 use Rattle.ea_decide.specs.declared.decided.Passed.{Passed}
 use Rattle.ea_decide.specs.declared.decided.Passed.TheVariants as passed
-use Rattle.ea_decide.specs.Passing.{Ceilings}
+use Rattle.limits.specs.Ceilings.{Ceilings}
 use Rattle.ea_decide.specs.Decisions.{IsOver}
 use Rattle.obligation_decide.specs.GoalPassing.{cause_of, PassesAs, PassesFirstAs}
 use Rattle.obligation_decide.specs.GoalDecisions.{IsLeftOpenAs}

@@ -40,10 +40,11 @@ use Rattle.rml_wp.specs.Answered.{IsAnswered, CounterexamplesAreCuts}
 use Rattle.rml_wp.specs.Added.{AreAdded, refuting_all, refuting_all_by, NoPartsAreAdded}
 use Rattle.rml_wp.specs.Laws.{AllConjecturesHeld}
 use Rattle.rml_exec.specs.declared.trace.Counterexample.{Counterexample}
-use Rattle.rml_report.specs.declared.cause.Cause.{Cause}
-use Rattle.rml_report.specs.declared.cause.Cause.TheVariants as cause
+use Rattle.limits.specs.declared.cause.Cause.{Cause}
+use Rattle.limits.specs.declared.cause.Cause.TheVariants as cause
 use Rattle.ea_decide.specs.declared.decided.Passed.{Passed}
-use Rattle.ea_decide.specs.Passing.{Ceilings, Passes}
+use Rattle.limits.specs.Ceilings.{Ceilings}
+use Rattle.ea_decide.specs.Passing.{Passes}
 use Rattle.ea_decide.specs.Decisions.{Refutes, SpendsBudget}
 use Rattle.obligation_decide.specs.GoalPassing.{first_cause}
 use Rattle.obligation_decide.specs.GoalDecisions.{IsFailing, IsDecision}

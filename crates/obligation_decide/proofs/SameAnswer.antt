@@ -8,7 +8,7 @@ use Rattle.rml_command.specs.Models.{ModelTree}
 use Rattle.rml_command.specs.declared.goal.Goal.{Goal}
 use Rattle.rml_wp.specs.Preconditions.{answered}
 use Rattle.rml_wp.specs.Answered.{IsAnswered}
-use Rattle.ea_decide.specs.Passing.{Ceilings}
+use Rattle.limits.specs.Ceilings.{Ceilings}
 use Rattle.ea_decide.specs.Decisions.{IsDecided}
 use Rattle.ea_decide.specs.declared.decided.Decided.{Decided}
 

@@ -10,7 +10,8 @@ use Rattle.rml_command.specs.declared.goal.Stage.TheVariants as stage
 use Rattle.rml_wp.specs.Preconditions.{answered}
 use Rattle.rml_wp.specs.Added.{refuting_all}
 use Rattle.ea_decide.specs.declared.decided.Passed.{Passed}
-use Rattle.ea_decide.specs.Passing.{Ceilings, Passes}
+use Rattle.limits.specs.Ceilings.{Ceilings}
+use Rattle.ea_decide.specs.Passing.{Passes}
 use Rattle.ea_decide.specs.Measuring.{HasSize}
 use Rattle.obligation_decide.specs.GoalPassing.{cause_of}
 use Rattle.obligation_decide.specs.Restricted.{RestrictedPassesFirst}

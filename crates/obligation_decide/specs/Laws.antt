@@ -14,9 +14,9 @@ use Rattle.rml_wp.specs.declared.premises.Premises.{Premises}
 use Rattle.rml_wp.specs.Preconditions.{refuting_by}
 use Rattle.rml_wp.specs.Added.{refuting_all_by}
 use Rattle.rml_report.specs.Reports.{AxiomsAre}
-use Rattle.rml_report.specs.declared.cause.Cause.{Cause}
+use Rattle.limits.specs.declared.cause.Cause.{Cause}
 use Rattle.rml_report.specs.declared.report.Axioms.TheVariants.{Consistent, Inconsistent}
-use Rattle.ea_decide.specs.Passing.{Ceilings}
+use Rattle.limits.specs.Ceilings.{Ceilings}
 use Rattle.ea_decide.specs.Decisions.{HasNoModel}
 use Rattle.obligation_decide.specs.GoalPassing.{PassesFirst}
 use Rattle.obligation_decide.specs.Restricted.{with_parts}

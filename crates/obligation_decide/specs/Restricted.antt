@@ -15,9 +15,10 @@ use Rattle.rml_wp.specs.Preconditions.{answered}
 use Rattle.rml_wp.specs.Answered.{IsCutOfSatisfying}
 use Rattle.rml_wp.specs.Added.{AreAdded, refuting_all, refuting_all_by}
 use Rattle.rml_wp.specs.Laws.{IsCounterexampleBy}
-use Rattle.rml_report.specs.declared.cause.Cause.{Cause}
+use Rattle.limits.specs.declared.cause.Cause.{Cause}
 use Rattle.ea_decide.specs.declared.decided.Passed.{Passed}
-use Rattle.ea_decide.specs.Passing.{Ceilings, Passes}
+use Rattle.limits.specs.Ceilings.{Ceilings}
+use Rattle.ea_decide.specs.Passing.{Passes}
 use Rattle.ea_decide.specs.Decisions.{HasNoModel, Refutes, IsOver}
 use Rattle.obligation_decide.specs.GoalPassing.{cause_of, PassesAs, PassesFirstAs}
 use Rattle.obligation_decide.specs.GoalDecisions.{IsFailing, IsLeftOpenAs, IsDecisionAs}

@@ -1,14 +1,14 @@
 // Whether the axioms of a model can be satisfied.
 ghost use Rattle.std.specs.Prelude.{◌≡◌, IfOk};
 ghost use Rattle.fol_formula.specs.Sentences.{all_of};
-ghost use Rattle.ea_decide.specs.Passing.{ceilings};
+ghost use Rattle.limits.specs.Ceilings.{ceilings};
 ghost use Rattle.obligation_decide.specs.GoalDecisions.{AreAxiomsDecided};
 
 use crate::cause_of;
 use base::Mem;
 use ea_decide::Decided;
 use fol_formula::{Ea, Sentence, conjunction};
-use lrat_log::Limits;
+use limits::Limits;
 use rml_command::Checked;
 use rml_report::Axioms;
 use std::alloc::Global;

@@ -1,7 +1,7 @@
 // What is answered of a goal.
 use ea_decide::Proof;
+use limits::Cause;
 use rml_exec::Counterexample;
-use rml_report::Cause;
 
 /// The answer to a goal.
 #[derive(Drop)]

@@ -14,7 +14,7 @@ ghost use Rattle.rml_wp.specs.Added.{refuting_all};
 ghost use Rattle.ground_size.specs.Found.{IsGroundSize};
 ghost use Rattle.pool_wp.specs.Sharing.{IsPoolOf};
 ghost use Rattle.ground_size.specs.Conjoined.{forms_at};
-ghost use Rattle.ea_decide.specs.Passing.{ceilings};
+ghost use Rattle.limits.specs.Ceilings.{ceilings};
 ghost use Rattle.obligation_decide.specs.Costs.{IsSentenceMeasured, IsRestrictedMeasured, held_before};
 
 use crate::cause_of;
@@ -25,10 +25,9 @@ use fol_formula::{Ae, Sentence};
 use fol_pool::Node;
 use fol_sig::Signature;
 use ground_size::{GroundSize, Part};
-use lrat_log::Limits;
+use limits::{Cause, Limits};
 use pool_wp::ModelPool;
 use rml_command::{Checked, Goal, Stage};
-use rml_report::Cause;
 use std::alloc::{AllocError, Global};
 
 /// What it would cost to decide a goal of the model: the size of the ground formulas, or the limit that is passed

@@ -14,12 +14,12 @@ use Rattle.rml_report.specs.HavocText.{havoc_line}
 use Rattle.rml_report.specs.TableText.{sort_line, relation_line, function_line}
 use Rattle.rml_report.specs.ReportText.{head_text, path_line, least_line, undecided_text, axioms_text}
 use Rattle.rml_report.specs.Reports.{goal_at}
-use Rattle.rml_report.specs.declared.cause.Bound.{Bound}
-use Rattle.rml_report.specs.declared.cause.Bound.TheVariants as at
-use Rattle.rml_report.specs.declared.cause.Cause.{Cause}
-use Rattle.rml_report.specs.declared.cause.Cause.TheVariants as cause
-use Rattle.rml_report.specs.declared.cause.Least.{Least}
-use Rattle.rml_report.specs.declared.cause.Least.TheVariants as least
+use Rattle.rml_report.specs.declared.least.Bound.{Bound}
+use Rattle.rml_report.specs.declared.least.Bound.TheVariants as at
+use Rattle.limits.specs.declared.cause.Cause.{Cause}
+use Rattle.limits.specs.declared.cause.Cause.TheVariants as cause
+use Rattle.rml_report.specs.declared.least.Least.{Least}
+use Rattle.rml_report.specs.declared.least.Least.TheVariants as least
 use Rattle.rml_report.specs.declared.report.Axioms.{Axioms}
 use Rattle.rml_report.specs.declared.report.Axioms.TheVariants as axioms
 use Rattle.printed_report.specs.Executions.{IsSize}

@@ -6,7 +6,7 @@ use Rattle.pruning.specs.Pruned.{occurring_in, pruned_signature, renaming}
 use Rattle.pruning.specs.Renaming.{renamed_form}
 use Rattle.ground_size.specs.Counting.{skolem_signature}
 use Rattle.ea_decide.specs.GroundForm.{skolem_sentence}
-use Rattle.ea_decide.specs.Passing.{Ceilings}
+use Rattle.limits.specs.Ceilings.{Ceilings}
 use Rattle.ea_decide.specs.Measuring.{IsMeasured}
 use Rattle.ea_decide.specs.declared.decided.Measured.{Measured}
 use Rattle.pruned_decide.specs.Decisions.{IsMeasuredSmall}

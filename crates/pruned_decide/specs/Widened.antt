@@ -6,7 +6,7 @@ use Rattle.fol_sig.specs.Constants.{reduct}
 use Rattle.fol_formula.specs.Syntax.{FormTree}
 use Rattle.pruning.specs.Pruned.{Flags, occurring_in, pruned_signature, renaming, Widens}
 use Rattle.pruning.specs.Renaming.{renamed_form}
-use Rattle.ea_decide.specs.Passing.{Ceilings}
+use Rattle.limits.specs.Ceilings.{Ceilings}
 use Rattle.ea_decide.specs.Measuring.{IsMeasured}
 use Rattle.ea_decide.specs.Decisions.{IsDecided}
 use Rattle.ea_decide.specs.declared.decided.Measured.{Measured}

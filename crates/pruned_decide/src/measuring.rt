@@ -4,7 +4,7 @@ ghost use Rattle.base.specs.Because.{Because};
 ghost use Rattle.fol_sig.specs.Symbols.{symbols};
 ghost use Rattle.fol_sig.specs.Strata.{IsStrata};
 ghost use Rattle.fol_formula.specs.Fits.{FitsForm};
-ghost use Rattle.ea_decide.specs.Passing.{ceilings};
+ghost use Rattle.limits.specs.Ceilings.{ceilings};
 ghost use Rattle.pruned_decide.specs.Decisions.{IsMeasuredSmall, HasManyConstants};
 ghost use Rattle.pruned_decide.specs.Widened.{IsMeasuredPruned};
 
@@ -13,7 +13,7 @@ use base::{Mem, Refused};
 use ea_decide::Measured;
 use fol_formula::Ea;
 use fol_sig::{Signature, Strata};
-use lrat_log::Limits;
+use limits::Limits;
 use pruning::pruning_law;
 use skolem::Skolemised;
 use std::alloc::Global;

@@ -11,8 +11,8 @@ use Rattle.rml_command.specs.declared.goal.Head.{Head}
 use Rattle.rml_report.specs.Words.{cause_text}
 use Rattle.rml_report.specs.ReportText.{stage_text, about_text, head_text, path_line, undecided_text, verdict_text}
 use Rattle.rml_report.specs.Reports.{goal_at}
-use Rattle.rml_report.specs.declared.cause.Cause.{Cause}
-use Rattle.rml_report.specs.declared.cause.Cause.TheVariants as cause
+use Rattle.limits.specs.declared.cause.Cause.{Cause}
+use Rattle.limits.specs.declared.cause.Cause.TheVariants as cause
 use Rattle.rml_report.specs.declared.report.Verdict.{Verdict}
 use Rattle.rml_report.specs.declared.report.Verdict.TheVariants as verdict
 use Rattle.line_scan.specs.Scanning.{behind, number_at, is_end, most}

@@ -10,10 +10,10 @@ use Rattle.rml_command.specs.Models.{ModelTree}
 use Rattle.rml_command.specs.declared.names.Names.{Names}
 use Rattle.rml_report.specs.Words.{cause_text, labelled, numbers_text, numbers_line, name_at}
 use Rattle.rml_report.specs.ReportText.{stopped_text, least_line}
-use Rattle.rml_report.specs.declared.cause.Bound.TheVariants as at
-use Rattle.rml_report.specs.declared.cause.Cause.{Cause}
-use Rattle.rml_report.specs.declared.cause.Least.{Least}
-use Rattle.rml_report.specs.declared.cause.Least.TheVariants as least
+use Rattle.rml_report.specs.declared.least.Bound.TheVariants as at
+use Rattle.limits.specs.declared.cause.Cause.{Cause}
+use Rattle.rml_report.specs.declared.least.Least.{Least}
+use Rattle.rml_report.specs.declared.least.Least.TheVariants as least
 use Rattle.rml_report.specs.declared.report.Axioms.TheVariants as axioms
 use Rattle.line_scan.specs.Scanning.{behind, number_at, most}
 use Rattle.line_scan.specs.Laws.{ScansAreExact}

@@ -8,8 +8,8 @@ use Rattle.std.proofs.lemmas.Bool.{and_parts, and_from, leb-true, le-leb, ltb-tr
 use Rattle.fol_sig.specs.Tables.{InRange}
 use Rattle.rml_report.specs.Words.{cause_text, labelled, numbers_text}
 use Rattle.rml_report.specs.ReportText.{axioms_text, open_text}
-use Rattle.rml_report.specs.declared.cause.Cause.{Cause}
-use Rattle.rml_report.specs.declared.cause.Cause.TheVariants as cause
+use Rattle.limits.specs.declared.cause.Cause.{Cause}
+use Rattle.limits.specs.declared.cause.Cause.TheVariants as cause
 use Rattle.rml_report.specs.declared.report.Axioms.{Axioms}
 use Rattle.rml_report.specs.declared.report.Axioms.TheVariants as axioms
 use Rattle.line_scan.specs.Scanning.{behind, number_at, is_end, most}

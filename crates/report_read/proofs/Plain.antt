@@ -29,11 +29,11 @@ use Rattle.rml_report.specs.ReportText.{stage_text, about_text, head_text, path_
 use Rattle.rml_report.specs.ReportText.{least_text}
 use Rattle.rml_report.specs.ReportText.{least_line, undecided_text, open_text, axioms_text, verdict_text}
 use Rattle.fol_sig.specs.declared.symbol.Symbol.TheVariants as symbol
-use Rattle.rml_report.specs.declared.cause.Bound.{Bound}
-use Rattle.rml_report.specs.declared.cause.Bound.TheVariants as at
-use Rattle.rml_report.specs.declared.cause.Cause.{Cause}
-use Rattle.rml_report.specs.declared.cause.Cause.TheVariants as cause
-use Rattle.rml_report.specs.declared.cause.Least.{Least}
+use Rattle.rml_report.specs.declared.least.Bound.{Bound}
+use Rattle.rml_report.specs.declared.least.Bound.TheVariants as at
+use Rattle.limits.specs.declared.cause.Cause.{Cause}
+use Rattle.limits.specs.declared.cause.Cause.TheVariants as cause
+use Rattle.rml_report.specs.declared.least.Least.{Least}
 use Rattle.rml_report.specs.declared.report.Axioms.{Axioms}
 use Rattle.rml_report.specs.declared.report.Axioms.TheVariants as axioms
 use Rattle.rml_report.specs.declared.report.Verdict.{Verdict}

@@ -30,9 +30,9 @@ use Rattle.rml_report.specs.ReportText.{head_text, path_line, least_line, undeci
 use Rattle.rml_report.specs.ReportText.{verdict_text, outcome_of, followed, end_tables, end_text, outcome_text}
 use Rattle.rml_report.specs.ReportText.{execution_text, block_text, answer_text, group_text, report_text}
 use Rattle.rml_report.specs.Reports.{head_of, goal_at, IsRight, IsAnswer, IsShown, Reports}
-use Rattle.rml_report.specs.declared.cause.Least.{Least}
-use Rattle.rml_report.specs.declared.cause.Least.TheVariants as least
-use Rattle.rml_report.specs.declared.cause.Bound.TheVariants as at
+use Rattle.rml_report.specs.declared.least.Least.{Least}
+use Rattle.rml_report.specs.declared.least.Least.TheVariants as least
+use Rattle.rml_report.specs.declared.least.Bound.TheVariants as at
 use Rattle.rml_report.specs.declared.report.Answer.{Answer}
 use Rattle.rml_report.specs.declared.report.Answer.TheVariants as reported
 use Rattle.rml_report.specs.declared.report.Group as report

@@ -8,7 +8,7 @@ use Rattle.rml_command.specs.Trees.{PrimitiveTree}
 use Rattle.rml_command.specs.Paths.{is_abort, has_abort}
 use Rattle.walks.specs.Walks.{leg_path, joined}
 use Rattle.rml_command.specs.Models.{ModelTree}
-use Rattle.ea_decide.specs.Passing.{Ceilings}
+use Rattle.limits.specs.Ceilings.{Ceilings}
 use Rattle.lean_decide.specs.declared.settling.Counted.{Counted}
 use Rattle.walks.specs.declared.leg.Leg.{Leg}
 use Rattle.walks.specs.declared.leg.Walk.{Walk}

@@ -4,7 +4,7 @@ use Rattle.std.proofs.Common.{refl, sym, ap, ◌∙◌, subst, arith}
 use Rattle.std.specs.List.{AllByRecursion}
 use Rattle.base.specs.Lists.{count_from}
 use Rattle.rml_command.specs.Models.{ModelTree}
-use Rattle.ea_decide.specs.Passing.{Ceilings}
+use Rattle.limits.specs.Ceilings.{Ceilings}
 use Rattle.lean_decide.specs.declared.settling.Counted.{Counted}
 use Rattle.walks.specs.declared.leg.Walk.{Walk}
 use Rattle.rml_bmc.specs.Tallies.{Passed, Met, HasRoom}

@@ -1,7 +1,7 @@
 -- What is answered of the runs with at most so many actions.
 use Rattle.std.specs.Prelude.{◌≡◌, ℕ, ◌+◌, Some, slice_get}
 use Rattle.rml_command.specs.Models.{ModelTree}
-use Rattle.ea_decide.specs.Passing.{Ceilings}
+use Rattle.limits.specs.Ceilings.{Ceilings}
 use Rattle.lean_decide.specs.declared.settling.Counted.{Counted}
 use Rattle.walks.specs.Runs.{SafeWithin, IsSafeLength}
 use Rattle.rml_bmc.specs.Shown.{IsShownRun, BreaksOff}

@@ -13,7 +13,7 @@ ghost use Rattle.rml_bmc.specs.Infeasible.{AreInfeasible, IsKnown};
 use crate::deciding::{Known, is_infeasible};
 use base::{Mem, Row};
 use lean_decide::Counted;
-use lrat_log::Limits;
+use limits::Limits;
 use rml_command::Checked;
 use std::alloc::Global;
 use walk_model::path_of;

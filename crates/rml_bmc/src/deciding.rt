@@ -1,7 +1,7 @@
 // A goal along a walk is decided, as the goal of the walk's model: under limits on its whole refuting sentence, by the
 // lean sentence where that decides, or under limits on that. Along a walk that is infeasible it is counted alone.
 ghost use Rattle.std.specs.Prelude.{◌≡◌, true, false, IfOk};
-ghost use Rattle.ea_decide.specs.Passing.{ceilings};
+ghost use Rattle.limits.specs.Ceilings.{ceilings};
 ghost use Rattle.rml_command.specs.Goals.{IsCounterexample, IsGoal};
 ghost use Rattle.rml_command.specs.Paths.{has_abort};
 ghost use Rattle.walks.specs.Walks.{joined};
@@ -18,11 +18,10 @@ use crate::answer::Run;
 use crate::following::follow_legs;
 use base::Mem;
 use lean_decide::{Counted, Settled, first_passed, settle};
-use lrat_log::Limits;
+use limits::{Cause, Limits};
 use pool_wp::ModelPool;
 use rml_command::{About, Checked, Goal, Stage};
 use rml_exec::Counterexample;
-use rml_report::Cause;
 use std::alloc::Global;
 use walk_model::{model_of_stopped_walk, model_of_walk, stopped_model_law, walk_model_law};
 use walks::{Leg, Walk};

@@ -1,7 +1,7 @@
 // The goals of one length are decided, walk by walk.
 ghost use Rattle.std.specs.Prelude.{◌≡◌, ◌≤◌, ◌+◌, ◌++◌, ◌∷◌, [], map, length, false, IfOk};
 ghost use Rattle.std.specs.List.{AllByRecursion};
-ghost use Rattle.ea_decide.specs.Passing.{ceilings};
+ghost use Rattle.limits.specs.Ceilings.{ceilings};
 ghost use Rattle.rml_command.specs.Paths.{has_abort};
 ghost use Rattle.base.specs.Lists.{count_from};
 ghost use Rattle.rml_command.specs.declared.goal.Stage.{Stage};
@@ -17,7 +17,7 @@ use crate::deciding::Known;
 use crate::tally::{Tally, Turn, decide_one, no_goal};
 use base::{Mem, Row};
 use lean_decide::Counted;
-use lrat_log::Limits;
+use limits::Limits;
 use progress::{Progress, Work};
 use rml_command::{About, Checked};
 use std::alloc::Global;

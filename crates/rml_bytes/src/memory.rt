@@ -2,7 +2,7 @@
 ghost use Rattle.std.specs.Prelude.{◌≡◌, ◌⊎◌, List, [], ℕ, IfOk, IsTrue, IsErrOf, is_err, MatchOption, Some};
 ghost use Rattle.rml_bytes.specs.Memory.{NamesDiffer, IncreaseAbove, new_shelf, told_by, fails_next, called, new_slot};
 ghost use Rattle.rml_bytes.specs.Memory.{fault_at, after_put, put_fails, firsts};
-ghost use Rattle.rml_bytes.specs.Outside.{Told, Loads, Takes, HasCause, absent, whole};
+ghost use Rattle.rml_bytes.specs.Outside.{Told, Loads, Takes, HasCause, absent, whole, one_more};
 
 use crate::{Bytes, Failed, FileName, Files, LoadError, Sink};
 use base::Mem;
@@ -80,10 +80,13 @@ impl Files for MemFiles {
 
     ghost faults = { λ m. m.faults };
 
+    ghost calls = { λ m. m.calls };
+
     fn load(&mut self, name: &str, limit: u64, into: &mut Vec<u8>) -> Result<(), LoadError>
         ensures same { (n : List ℕ) → told_by self.new.files n ≡ told_by self.old.files n }
         ensures loads { Loads (told_by self.old.files name.now) limit self.old.faults self.new.faults into.old.items
             into.new.items result }
+        ensures counted { self.new.calls ≡ one_more self.old.calls }
 
         // It fails at the calls that are to fail, and at a name that it doesn't hold.
         ensures state { self.new ≡ called self.old (fails_next self.old) }
@@ -175,9 +178,12 @@ impl Sink for MemSink {
 
     ghost faults = { λ s. s.faults };
 
+    ghost calls = { λ s. s.calls };
+
     fn put(&mut self, piece: &[u8]) -> Result<(), Failed>
         ensures takes { Takes (Some self.old.taken) (Some self.new.taken) piece.now result }
         ensures cause { HasCause self.old.faults self.new.faults result }
+        ensures counted { self.new.calls ≡ one_more self.old.calls }
 
         // It fails at a piece that is longer than its room, and at the calls that are to fail.
         ensures state { self.new ≡ after_put self.old piece.now }

@@ -1,7 +1,7 @@
 // The outside as the product sees it.
 ghost use Rattle.std.specs.Prelude.{◌≡◌, ◌≤◌, List, ℕ, Option};
 ghost use Rattle.rml_bytes.specs.declared.outside.LoadError.TheVariants.{NoMemory};
-ghost use Rattle.rml_bytes.specs.Outside.{Told, Loads, Takes, HasCause};
+ghost use Rattle.rml_bytes.specs.Outside.{Told, Loads, Takes, HasCause, one_more};
 
 use std::alloc::{AllocError, AllocFailed};
 
@@ -44,11 +44,15 @@ pub trait Files {
     /// How often it has failed. The count never falls, and stands still at the last value of a `u64`.
     ghost faults: { Self → ℕ };
 
+    /// How many loads were asked for. The count stands still at the last value of a `u64`.
+    ghost calls: { Self → ℕ };
+
     /// Adds the whole file of at most `limit` bytes behind what stands in `into`, or says why not.
     fn load(&mut self, name: &str, limit: u64, into: &mut Vec<u8>) -> Result<(), LoadError>
         ensures same { (n : List ℕ) → told self.new n ≡ told self.old n }
         ensures loads { Loads (told self.old name.now) limit (faults self.old) (faults self.new) into.old.items
-            into.new.items result };
+            into.new.items result }
+        ensures counted { calls self.new ≡ one_more (calls self.old) };
 }
 
 /// What takes bytes, piece by piece.
@@ -59,8 +63,12 @@ pub trait Sink {
     /// How often it has failed, as `Files.faults`.
     ghost faults: { Self → ℕ };
 
+    /// How many pieces were handed over, as `Files.calls`.
+    ghost calls: { Self → ℕ };
+
     /// Hands over the whole piece, or a front of it where it fails.
     fn put(&mut self, piece: &[u8]) -> Result<(), Failed>
         ensures takes { Takes (taken self.old) (taken self.new) piece.now result }
-        ensures cause { HasCause (faults self.old) (faults self.new) result };
+        ensures cause { HasCause (faults self.old) (faults self.new) result }
+        ensures counted { calls self.new ≡ one_more (calls self.old) };
 }

@@ -1,7 +1,7 @@
 // The real outside: loops over read and write, and counts of their faults.
 ghost use Rattle.std.specs.Prelude.{◌≡◌, ◌≤◌, ◌<◌, ℕ, Option, List};
 ghost use Rattle.rml_bytes.specs.Outside.{Told, untold, Loads, Takes};
-ghost use Rattle.rml_bytes.specs.System.{Turn, told_left};
+ghost use Rattle.rml_bytes.specs.System.{Turn, told_left, none_counted};
 
 use crate::{Failed, Files, LoadError, Sink};
 use std::io::{Read, Write};
@@ -16,22 +16,27 @@ const PIECE: usize = 4096;
 pub struct DiskFiles<R: rt::Files + Drop> {
     system: R,
     faults: u64,
+    calls: u64,
 }
 
 impl<R: rt::Files + Drop> Model for DiskFiles<R> {
-    ghost use Rattle.std.specs.Prelude.{ℕ};
+    ghost use Rattle.rml_bytes.specs.System.{Counts};
 
-    ghost Value = { ℕ };
+    ghost Value = { Counts };
 
-    ghost view = { λ d. d.faults };
+    ghost view = { λ d. record { faults = d.faults; calls = d.calls } };
 }
 
 impl<R: rt::Files + Drop> DiskFiles<R> {
-    /// The files of a system, of which none has failed so far.
+    /// The files of a system, of which none was read so far.
     pub fn new(system: R) -> Self
-        ensures { result ≡ 0 }
+        ensures { result ≡ none_counted }
     {
-        DiskFiles { system, faults: 0 }
+        DiskFiles {
+            system,
+            faults: 0,
+            calls: 0,
+        }
     }
 }
 
@@ -78,9 +83,12 @@ fn read_whole<R: Read>(reader: &mut R, limit: u64, into: &mut Vec<u8>) -> Result
 impl<R: rt::Files + Drop> Files for DiskFiles<R> {
     ghost told = { λ _ _. untold };
 
-    ghost faults = { λ d. d };
+    ghost faults = { λ d. d.faults };
+
+    ghost calls = { λ d. d.calls };
 
     fn load(&mut self, name: &str, limit: u64, into: &mut Vec<u8>) -> Result<(), LoadError> {
+        self.calls = self.calls.saturating_add(1);
         let Ok(mut file) = fs::open(&self.system, name) else {
             self.faults = self.faults.saturating_add(1);
             return Err(LoadError::Failed);
@@ -104,17 +112,17 @@ pub struct InputFiles<R: rt::Files + Drop, I: Read + Drop> {
 }
 
 impl<R: rt::Files + Drop, I: Read + Drop> Model for InputFiles<R, I> {
-    ghost use Rattle.std.specs.Prelude.{ℕ};
+    ghost use Rattle.rml_bytes.specs.System.{Counts};
 
-    ghost Value = { ℕ };
+    ghost Value = { Counts };
 
     ghost view = { λ f. f.disk };
 }
 
 impl<R: rt::Files + Drop, I: Read + Drop> InputFiles<R, I> {
-    /// The files of a system and a reader, of which none has failed so far.
+    /// The files of a system and a reader, of which none was read so far.
     pub fn new(system: R, input: I) -> Self
-        ensures { result ≡ 0 }
+        ensures { result ≡ none_counted }
     {
         InputFiles {
             disk: DiskFiles::new(system),
@@ -126,12 +134,15 @@ impl<R: rt::Files + Drop, I: Read + Drop> InputFiles<R, I> {
 impl<R: rt::Files + Drop, I: Read + Drop> Files for InputFiles<R, I> {
     ghost told = { λ _ _. untold };
 
-    ghost faults = { λ f. f };
+    ghost faults = { λ f. f.faults };
+
+    ghost calls = { λ f. f.calls };
 
     fn load(&mut self, name: &str, limit: u64, into: &mut Vec<u8>) -> Result<(), LoadError> {
         if name != INPUT {
             return self.disk.load(name, limit, into);
         }
+        self.disk.calls = self.disk.calls.saturating_add(1);
         let result = read_whole(&mut self.input, limit, into);
         if result == Err(LoadError::Failed) {
             self.disk.faults = self.disk.faults.saturating_add(1);
@@ -145,22 +156,28 @@ impl<R: rt::Files + Drop, I: Read + Drop> Files for InputFiles<R, I> {
 pub struct StdSink<W: Write + Drop> {
     inner: W,
     faults: u64,
+    calls: u64,
 }
 
 impl<W: Write + Drop> Model for StdSink<W> {
     ghost use Rattle.std.specs.Prelude.{ℕ, List, Option};
+    ghost use Rattle.rml_bytes.specs.System.{Counts};
 
-    ghost Value = { Option (List ℕ) × ℕ };
+    ghost Value = { Option (List ℕ) × Counts };
 
-    ghost view = { λ s. (W.contents s.inner, s.faults) };
+    ghost view = { λ s. (W.contents s.inner, record { faults = s.faults; calls = s.calls }) };
 }
 
 impl<W: Write + Drop> StdSink<W> {
-    /// A writer that has not failed so far.
+    /// A writer that was handed nothing so far.
     pub fn new(inner: W) -> Self
-        ensures { result ≡ (W.contents inner, 0) }
+        ensures { result ≡ (W.contents inner, none_counted) }
     {
-        StdSink { inner, faults: 0 }
+        StdSink {
+            inner,
+            faults: 0,
+            calls: 0,
+        }
     }
 }
 
@@ -182,9 +199,12 @@ fn write_whole<W: Write>(writer: &mut W, piece: &[u8]) -> Result<(), Failed>
 impl<W: Write + Drop> Sink for StdSink<W> {
     ghost taken = { λ s. s.0 };
 
-    ghost faults = { λ s. s.1 };
+    ghost faults = { λ s. s.1.faults };
+
+    ghost calls = { λ s. s.1.calls };
 
     fn put(&mut self, piece: &[u8]) -> Result<(), Failed> {
+        self.calls = self.calls.saturating_add(1);
         let result = write_whole(&mut self.inner, piece);
         if result.is_err() {
             self.faults = self.faults.saturating_add(1);

@@ -26,7 +26,7 @@ use Rattle.rml_wp.specs.Answered.{IsAnswered, CounterexamplesAreCuts}
 use Rattle.rml_wp.specs.Added.{AreAdded, refuting_all_by, RefutingSentencesFit, NoPartsAreAdded}
 use Rattle.ea_decide.specs.GroundForm.{skolem_sentence}
 use Rattle.ea_decide.specs.Decisions.{HasNoModel}
-use Rattle.ea_decide.specs.Passing.{Ceilings}
+use Rattle.limits.specs.Ceilings.{Ceilings}
 use Rattle.ea_decide.specs.declared.decided.Decided.{Decided}
 use Rattle.pruned_decide.specs.Decisions.{IsDecidedSmall}
 use Rattle.obligation_decide.specs.GoalDecisions.{HasNoneBy}

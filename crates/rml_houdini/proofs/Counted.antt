@@ -16,15 +16,16 @@ use Rattle.rml_wp.specs.declared.premises.Premises.TheVariants.{All}
 use Rattle.rml_wp.specs.Preconditions.{answered, conjectures_of, goal_precondition, goal_passes_limit, parts_before}
 use Rattle.rml_wp.specs.Preconditions.{refuting_of}
 use Rattle.rml_wp.specs.Added.{IsRefutingSentence, NoPartsAreAdded}
-use Rattle.rml_report.specs.declared.cause.Cause.{Cause}
-use Rattle.rml_report.specs.declared.cause.Cause.TheVariants as cause
+use Rattle.limits.specs.declared.cause.Cause.{Cause}
+use Rattle.limits.specs.declared.cause.Cause.TheVariants as cause
 use Rattle.ground_size.specs.Sizes.{size_of}
 use Rattle.ea_decide.specs.declared.decided.Passed.{Passed}
 use Rattle.ea_decide.specs.declared.decided.Passed.TheVariants as passed
 use Rattle.ea_decide.specs.declared.decided.Measured.{Measured}
 use Rattle.ea_decide.specs.declared.decided.Measured.TheVariants.{Within, Over}
 use Rattle.ea_decide.specs.Measuring.{IsMeasured}
-use Rattle.ea_decide.specs.Passing.{Ceilings, Passes}
+use Rattle.limits.specs.Ceilings.{Ceilings}
+use Rattle.ea_decide.specs.Passing.{Passes}
 use Rattle.obligation_decide.specs.GoalPassing.{cause_of, first_cause, SentencePassesBy, PassesFirstBy}
 use Rattle.obligation_decide.specs.GoalDecisions.{IsLeftOpenBy}
 use Rattle.rml_houdini.specs.Assuming.{held_parts}

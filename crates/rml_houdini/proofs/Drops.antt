@@ -15,8 +15,8 @@ use Rattle.rml_command.specs.declared.goal.About.TheVariants as about
 use Rattle.rml_command.specs.declared.goal.Goal.{Goal}
 use Rattle.rml_exec.specs.declared.trace.Counterexample.{Counterexample}
 use Rattle.rml_wp.specs.Preconditions.{conjectures_of}
-use Rattle.rml_report.specs.declared.cause.Cause.{Cause}
-use Rattle.ea_decide.specs.Passing.{Ceilings}
+use Rattle.limits.specs.declared.cause.Cause.{Cause}
+use Rattle.limits.specs.Ceilings.{Ceilings}
 use Rattle.obligation_decide.specs.GoalDecisions.{HasNoneBy}
 use Rattle.rml_houdini.specs.Subsets.{Has, IsWithin, IsInductive}
 use Rattle.lean_decide.specs.declared.settling.Counted.{Counted}

@@ -23,9 +23,10 @@ use Rattle.rml_command.specs.declared.goal.Stage.{Stage}
 use Rattle.rml_command.specs.declared.goal.Stage.TheVariants as stage
 use Rattle.rml_wp.specs.Preconditions.{answered, conjectures_of, goal_precondition, goal_passes_limit, parts_before}
 use Rattle.rml_wp.specs.Preconditions.{refuting_of}
-use Rattle.rml_report.specs.declared.cause.Cause.TheVariants as cause
+use Rattle.limits.specs.declared.cause.Cause.TheVariants as cause
 use Rattle.ea_decide.specs.declared.decided.Passed.{Passed}
-use Rattle.ea_decide.specs.Passing.{Ceilings, Passes, passed_of}
+use Rattle.limits.specs.Ceilings.{Ceilings}
+use Rattle.ea_decide.specs.Passing.{Passes, passed_of}
 use Rattle.obligation_decide.specs.GoalPassing.{first_cause, SentencePassesBy, PassesFirstBy}
 
 -- a universal formula has no existentials

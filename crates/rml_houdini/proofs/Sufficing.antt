@@ -23,8 +23,8 @@ use Rattle.rml_exec.specs.declared.trace.Counterexample.{Counterexample}
 use Rattle.rml_wp.specs.Preconditions.{conjectures_of}
 use Rattle.rml_wp.specs.Laws.{is_allowed_by}
 use Rattle.rml_wp.specs.Added.{ConjecturesAreAdded}
-use Rattle.rml_report.specs.declared.cause.Cause.{Cause}
-use Rattle.ea_decide.specs.Passing.{Ceilings}
+use Rattle.limits.specs.declared.cause.Cause.{Cause}
+use Rattle.limits.specs.Ceilings.{Ceilings}
 use Rattle.obligation_decide.specs.GoalPassing.{PassesFirstBy}
 use Rattle.obligation_decide.specs.GoalDecisions.{HasNoneBy, IsFailingBy}
 use Rattle.lean_decide.specs.declared.settling.Counted.{Counted}

@@ -6,10 +6,11 @@ use Rattle.rml_command.specs.Models.{ModelTree}
 use Rattle.rml_command.specs.declared.goal.Goal.{Goal}
 use Rattle.rml_wp.specs.declared.premises.Premises.TheVariants.{Affected}
 use Rattle.rml_wp.specs.Preconditions.{answered, conjectures_of, goal_passes_limit_by, refuting_by}
-use Rattle.rml_report.specs.declared.cause.Cause.{Cause}
-use Rattle.rml_report.specs.declared.cause.Cause.TheVariants as cause
+use Rattle.limits.specs.declared.cause.Cause.{Cause}
+use Rattle.limits.specs.declared.cause.Cause.TheVariants as cause
 use Rattle.ea_decide.specs.declared.decided.Passed.{Passed}
-use Rattle.ea_decide.specs.Passing.{Ceilings, Passes}
+use Rattle.limits.specs.Ceilings.{Ceilings}
+use Rattle.ea_decide.specs.Passing.{Passes}
 use Rattle.ea_decide.specs.Decisions.{SpendsBudget}
 use Rattle.pruned_decide.specs.Decisions.{lean_signature, lean_sentence}
 use Rattle.obligation_decide.specs.GoalPassing.{first_cause, PassesFirstBy}

@@ -5,7 +5,7 @@ use Rattle.std.specs.List.{filter, list_any}
 use Rattle.base.specs.Lists.{count_from}
 use Rattle.rml_command.specs.Models.{ModelTree}
 use Rattle.rml_command.specs.declared.goal.About.TheVariants as about
-use Rattle.ea_decide.specs.Passing.{Ceilings}
+use Rattle.limits.specs.Ceilings.{Ceilings}
 use Rattle.lean_decide.specs.declared.settling.Counted.{Counted}
 use Rattle.rml_houdini.specs.Subsets.{Has, IsWithin, IsInductive}
 use Rattle.rml_houdini.specs.Rounds.{goals_about, IsFirstFailing, AreSettled}

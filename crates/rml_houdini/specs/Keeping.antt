@@ -12,7 +12,8 @@ use Rattle.rml_command.specs.declared.goal.Stage.{Stage}
 use Rattle.rml_command.specs.declared.goal.Stage.TheVariants as stage
 use Rattle.rml_wp.specs.Preconditions.{answered, conjectures_of}
 use Rattle.ea_decide.specs.declared.decided.Passed.{Passed}
-use Rattle.ea_decide.specs.Passing.{Ceilings, Passes}
+use Rattle.limits.specs.Ceilings.{Ceilings}
+use Rattle.ea_decide.specs.Passing.{Passes}
 use Rattle.ea_decide.specs.Decisions.{IsOver}
 use Rattle.pruned_decide.specs.Decisions.{lean_signature, lean_sentence}
 use Rattle.obligation_decide.specs.GoalPassing.{PassesFirstBy}

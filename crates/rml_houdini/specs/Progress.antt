@@ -8,8 +8,8 @@ use Rattle.rml_command.specs.declared.goal.Stage.TheVariants as stage
 use Rattle.rml_command.specs.declared.goal.About.{About}
 use Rattle.rml_command.specs.declared.goal.About.TheVariants as about
 use Rattle.rml_command.specs.declared.goal.Goal.{Goal}
-use Rattle.rml_report.specs.declared.cause.Cause.{Cause}
-use Rattle.ea_decide.specs.Passing.{Ceilings}
+use Rattle.limits.specs.declared.cause.Cause.{Cause}
+use Rattle.limits.specs.Ceilings.{Ceilings}
 use Rattle.lean_decide.specs.declared.settling.Counted.{Counted}
 use Rattle.rml_houdini.specs.Rounds.{stage_goals, IsSafe, IsOpen, IsFirstFailing}
 use Rattle.rml_houdini.specs.declared.round.Round.{Round}

@@ -3,7 +3,7 @@ ghost use Rattle.std.specs.Prelude.{◌≡◌, ◌<◌, length, All, IfOk};
 ghost use Rattle.rml_command.specs.Goals.{IsGoal};
 ghost use Rattle.rml_wp.specs.Preconditions.{answered as answered_of, conjectures_of, goal_precondition};
 ghost use Rattle.ground_size.specs.Conjoined.{forms_at};
-ghost use Rattle.ea_decide.specs.Passing.{ceilings};
+ghost use Rattle.limits.specs.Ceilings.{ceilings};
 ghost use Rattle.obligation_decide.specs.GoalPassing.{PassesFirstBy, SentencePassesBy};
 ghost use Rattle.rml_houdini.specs.Assuming.{held_parts};
 
@@ -13,10 +13,9 @@ use ea_decide::{Measured, measure_parts};
 use fol_formula::{Ae, Sentence};
 use fol_sig::Signature;
 use ground_size::Part;
-use lrat_log::Limits;
+use limits::{Cause, Limits};
 use obligation_decide::cause_of;
 use rml_command::{Checked, Goal, Stage};
-use rml_report::Cause;
 use rml_wp::precondition;
 use std::alloc::{AllocError, Global};
 

@@ -1,6 +1,6 @@
 // Conjectures are dropped one by one. Each drop leaves fewer, so the rounds end.
 ghost use Rattle.std.specs.Prelude.{◌≡◌, IfOk};
-ghost use Rattle.ea_decide.specs.Passing.{ceilings};
+ghost use Rattle.limits.specs.Ceilings.{ceilings};
 ghost use Rattle.rml_houdini.specs.Greatest.{IsFound};
 ghost use Rattle.rml_houdini.specs.Progress.{IsConjecture};
 
@@ -11,7 +11,7 @@ use crate::round::{Round, decide_round};
 use crate::sets::{all_conjectures, without};
 use base::{Mem, Row};
 use lean_decide::Counted;
-use lrat_log::Limits;
+use limits::Limits;
 use progress::{Progress, Work};
 use rml_command::{About, Checked};
 use std::alloc::Global;

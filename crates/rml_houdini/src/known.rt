@@ -5,7 +5,7 @@ ghost use Rattle.std.specs.List.{AllByRecursion};
 ghost use Rattle.base.specs.Lists.{SomeOf};
 ghost use Rattle.rml_command.specs.Models.{ModelTree};
 ghost use Rattle.rml_command.specs.Goals.{group_goals};
-ghost use Rattle.ea_decide.specs.Passing.{Ceilings};
+ghost use Rattle.limits.specs.Ceilings.{Ceilings};
 ghost use Rattle.lean_decide.specs.declared.settling.Counted.{Counted};
 ghost use Rattle.lean_decide.specs.declared.settling.Counted.TheVariants.{Whole};
 ghost use Rattle.rml_houdini.specs.Subsets.{IsWithin};

@@ -11,7 +11,7 @@ use Rattle.rml_command.specs.declared.goal.Head.{Head}
 use Rattle.rml_command.specs.declared.goal.Stage.{Stage}
 use Rattle.rml_command.specs.declared.goal.Stage.TheVariants as stage
 use Rattle.rml_command.specs.declared.goal.About.TheVariants as about
-use Rattle.ea_decide.specs.Passing.{Ceilings}
+use Rattle.limits.specs.Ceilings.{Ceilings}
 use Rattle.rml_reasons.specs.Reasons.{AreConjectures, IsLack, IsMinimalReason, IsReason, needed_conjectures, without}
 use Rattle.rml_reasons.specs.Shrinking.{Carry, IsJudged}
 use Rattle.rml_reasons.specs.declared.reason.Need.{Need}

@@ -5,7 +5,7 @@ use Rattle.base.specs.Lists.{count_from}
 use Rattle.rml_command.specs.Models.{ModelTree}
 use Rattle.rml_command.specs.Goals.{group_goals}
 use Rattle.rml_command.specs.declared.goal.Head.{Head}
-use Rattle.ea_decide.specs.Passing.{Ceilings}
+use Rattle.limits.specs.Ceilings.{Ceilings}
 use Rattle.lean_decide.specs.declared.settling.Counted.TheVariants.{Whole}
 use Rattle.rml_houdini.specs.Rounds.{IsSafe, IsFirstFailing, IsFirstOpen}
 use Rattle.rml_reasons.specs.declared.reason.Lack.{Lack}

@@ -1,14 +1,14 @@
 // What a group lacks where some conjectures are held, and without each one of them.
 ghost use Rattle.std.specs.Prelude.{◌≡◌, ◌<◌, length, true, All, IfOk};
 ghost use Rattle.rml_command.specs.Goals.{HasAbout};
-ghost use Rattle.ea_decide.specs.Passing.{ceilings};
+ghost use Rattle.limits.specs.Ceilings.{ceilings};
 ghost use Rattle.rml_reasons.specs.Reasons.{IsReason};
 ghost use Rattle.rml_reasons.specs.Shrinking.{HasLack, IsJudged};
 
 use crate::reason::{Lack, Need};
 use base::{Mem, Row};
 use lean_decide::Counted;
-use lrat_log::Limits;
+use limits::Limits;
 use rml_command::{About, Checked, Stage};
 use rml_houdini::{Round, decide_group, without};
 use std::alloc::Global;

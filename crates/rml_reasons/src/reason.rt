@@ -1,8 +1,8 @@
 // What carries a group, and what it lacks.
 use base::Row;
+use limits::Cause;
 use rml_command::Goal;
 use rml_exec::Counterexample;
-use rml_report::Cause;
 
 /// What a group lacks where some conjectures are held.
 #[derive(Drop)]

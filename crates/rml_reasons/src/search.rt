@@ -2,14 +2,14 @@
 // out is decided at the end.
 ghost use Rattle.std.specs.Prelude.{IfOk, IfSome};
 ghost use Rattle.rml_command.specs.Goals.{HasAbout};
-ghost use Rattle.ea_decide.specs.Passing.{ceilings};
+ghost use Rattle.limits.specs.Ceilings.{ceilings};
 ghost use Rattle.rml_reasons.specs.Reasons.{IsCarried};
 ghost use Rattle.rml_reasons.specs.Shrinking.{Carry};
 
 use crate::needs::{Judged, carries, judge, lack_of};
 use crate::reason::Carried;
 use base::Mem;
-use lrat_log::Limits;
+use limits::Limits;
 use rml_command::{About, Checked, Stage};
 use rml_houdini::{all_conjectures, without};
 use std::alloc::Global;

@@ -15,11 +15,11 @@ use Rattle.rml_exec.specs.declared.trace.Counterexample.{Counterexample}
 use Rattle.rml_report.specs.Words.{name_at, labelled, cause_text, numbers_line}
 use Rattle.rml_report.specs.TableText.{tables_text, sorts_text}
 use Rattle.rml_report.specs.HavocText.{havoc_line}
-use Rattle.rml_report.specs.declared.cause.Bound.{Bound}
-use Rattle.rml_report.specs.declared.cause.Bound.TheVariants as at
-use Rattle.rml_report.specs.declared.cause.Cause.{Cause}
-use Rattle.rml_report.specs.declared.cause.Least.{Least}
-use Rattle.rml_report.specs.declared.cause.Least.TheVariants as least
+use Rattle.rml_report.specs.declared.least.Bound.{Bound}
+use Rattle.rml_report.specs.declared.least.Bound.TheVariants as at
+use Rattle.limits.specs.declared.cause.Cause.{Cause}
+use Rattle.rml_report.specs.declared.least.Least.{Least}
+use Rattle.rml_report.specs.declared.least.Least.TheVariants as least
 use Rattle.rml_report.specs.declared.report.Axioms.{Axioms}
 use Rattle.rml_report.specs.declared.report.Axioms.TheVariants as axioms
 use Rattle.rml_report.specs.declared.report.Verdict.{Verdict}

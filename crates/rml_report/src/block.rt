@@ -5,11 +5,12 @@ ghost use Rattle.rml_report.specs.ReportText.{path_line, bound_text, stopped_tex
 ghost use Rattle.rml_report.specs.ReportText.{least_line, outcome_of, end_tables};
 ghost use Rattle.rml_report.specs.ReportText.{end_text, outcome_text, execution_text, block_text};
 
-use crate::cause::{Bound, Cause, Least};
 use crate::havocs::push_havoc_line;
+use crate::least::{Bound, Least};
 use crate::structures::{push_sorts, push_tables};
 use crate::words::{push_cause, push_labelled, push_name, push_numbers_line};
 use base::{Mem, push_number, push_text};
+use limits::Cause;
 use rml_command::{About, Checked, Names};
 use rml_exec::{Counterexample, Followed, follow};
 use std::alloc::Global;

@@ -6,10 +6,10 @@ ghost use Rattle.rml_report.specs.ReportText.{stage_text, about_text, head_text,
 ghost use Rattle.rml_report.specs.ReportText.{group_text, open_text, axioms_text, verdict_text, report_text};
 
 use crate::block::push_block;
-use crate::cause::Cause;
 use crate::report::{Answer, Axioms, Group, Report, Verdict};
 use crate::words::{push_cause, push_name};
 use base::{Mem, push_number, push_text};
+use limits::Cause;
 use rml_command::{About, Checked, Names, Stage};
 use std::alloc::Global;
 

@@ -1,6 +1,7 @@
 // What is reported of a model.
-use crate::cause::{Cause, Least};
+use crate::least::Least;
 use base::Row;
+use limits::Cause;
 use rml_command::{About, Stage};
 use rml_exec::Counterexample;
 

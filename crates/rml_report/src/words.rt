@@ -2,8 +2,8 @@
 ghost use Rattle.std.specs.Prelude.{◌≡◌, ◌++◌, OnOk, decimal};
 ghost use Rattle.rml_report.specs.Words.{name_at, labelled, truth_text, numbers_text, numbers_line, cause_text};
 
-use crate::cause::Cause;
 use base::{Mem, push_number, push_text};
+use limits::Cause;
 use rml_command::Name;
 
 /// Adds the name of this number; nothing where there is none.

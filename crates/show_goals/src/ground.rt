@@ -10,7 +10,7 @@ use fol_formula::{Ea, Normal};
 use fol_nnf::normal;
 use fol_sig::{Signature, Strata};
 use ground_size::{count, ground_size};
-use lrat_log::Limits;
+use limits::Limits;
 use skolem::constants;
 use std::alloc::Global;
 

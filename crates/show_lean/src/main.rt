@@ -13,7 +13,7 @@ use base::Mem;
 use call_files::status_of;
 use call_models::{ModelCall, limits_with, tell};
 use lean_decide::Counted;
-use lrat_log::Limits;
+use limits::Limits;
 use progress::Silent;
 use rml_command::Checked;
 use std::alloc::Global;

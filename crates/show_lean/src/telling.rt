@@ -1,6 +1,7 @@
 // A report in short: the verdict, how many groups hold, and what is said of the others.
 use base::Mem;
-use rml_report::{Answer, Cause, Report, Verdict};
+use limits::Cause;
+use rml_report::{Answer, Report, Verdict};
 use std::alloc::Global;
 
 fn word_of(verdict: Verdict) -> &'static str {

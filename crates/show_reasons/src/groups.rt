@@ -4,7 +4,7 @@ ghost use Rattle.rml_command.specs.Goals.{HasAbout};
 
 use crate::telling::push_carried;
 use base::{Mem, push_text};
-use lrat_log::Limits;
+use limits::Limits;
 use rml_command::{About, Checked, Stage};
 use rml_reasons::carried_by;
 use rml_report::push_head;

@@ -11,7 +11,7 @@ use base::Mem;
 use fol_eval::{Env, holds, satisfies};
 use fol_sig::Structure;
 use lean_decide::Counted;
-use lrat_log::Limits;
+use limits::Limits;
 use progress::Silent;
 use rml_bmc::{Bounded, Length, Part, Run, bounded};
 use rml_command::{About, Checked, Path, Stage, goal_law};

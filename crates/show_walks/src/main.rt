@@ -10,7 +10,7 @@ mod making;
 
 use base::{Mem, Refused};
 use following::follow_runs;
-use lrat_log::Limits;
+use limits::Limits;
 use making::{Chance, model_text};
 use rml_front::read_model;
 use std::alloc::{AllocError, Global};

@@ -8,7 +8,7 @@ use Rattle.rml_command.specs.declared.names.Names.{Names}
 use Rattle.rml_command.specs.declared.goal.Goal.{Goal}
 use Rattle.rml_report.specs.Words.{name_at, labelled}
 use Rattle.rml_report.specs.ReportText.{stage_text}
-use Rattle.rml_report.specs.declared.cause.Cause.{Cause}
+use Rattle.limits.specs.declared.cause.Cause.{Cause}
 use Rattle.rml_houdini.specs.declared.houdini.Dropped.{Dropped}
 use Rattle.rml_houdini.specs.declared.houdini.Houdini.{Houdini}
 use Rattle.told_report.specs.NumberText.{two_numbered}

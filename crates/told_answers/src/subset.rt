@@ -8,9 +8,9 @@ ghost use Rattle.told_answers.specs.SubsetText.{verdict_line, keep_line, open_li
 
 use crate::drops::push_drops;
 use base::Mem;
+use limits::Cause;
 use rml_command::{Checked, Goal, Names};
 use rml_houdini::Houdini;
-use rml_report::Cause;
 use std::alloc::Global;
 use told_report::{InText, push_two_numbered, push_undecided};
 use told_states::push_labelled;

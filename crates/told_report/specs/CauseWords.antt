@@ -1,7 +1,7 @@
 -- Why something is left open.
 use Rattle.std.specs.Prelude.{ℕ, List, ◌++◌, codes}
-use Rattle.rml_report.specs.declared.cause.Cause.{Cause}
-use Rattle.rml_report.specs.declared.cause.Cause.TheVariants as cause
+use Rattle.limits.specs.declared.cause.Cause.{Cause}
+use Rattle.limits.specs.declared.cause.Cause.TheVariants as cause
 use Rattle.told_report.specs.NumberText.{numbered, two_numbered}
 
 -- the most that each option can be

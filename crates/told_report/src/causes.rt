@@ -3,7 +3,7 @@ ghost use Rattle.told_text.specs.Written.{Wrote};
 ghost use Rattle.told_report.specs.CauseWords.{cause_words, cause_line, open_at};
 
 use crate::numbers::{push_numbered, push_two_numbered};
-use rml_report::Cause;
+use limits::Cause;
 use told_text::Text;
 
 // The most that each option can be.

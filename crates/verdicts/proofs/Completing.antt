@@ -4,9 +4,9 @@ use Rattle.std.proofs.lemmas.List.{drop_all, drop_more}
 use Rattle.std.specs.List.{AllByRecursion}
 use Rattle.rml_command.specs.Models.{ModelTree}
 use Rattle.rml_command.specs.declared.goal.Goal.{Goal}
-use Rattle.rml_report.specs.declared.cause.Cause.{Cause}
+use Rattle.limits.specs.declared.cause.Cause.{Cause}
 use Rattle.rml_report.specs.declared.report.Answer.TheVariants as answer
-use Rattle.ea_decide.specs.Passing.{Ceilings}
+use Rattle.limits.specs.Ceilings.{Ceilings}
 use Rattle.lean_decide.specs.declared.settling.Counted.{Counted}
 use Rattle.lean_decide.specs.Settled.{IsOpen}
 use Rattle.verdicts.specs.Answers.{

@@ -7,14 +7,14 @@ use Rattle.rml_command.specs.Goals.{stage_paths, groups_of, group_goals, HasNone
 use Rattle.rml_command.specs.declared.goal.Head.{Head}
 use Rattle.rml_command.specs.declared.goal.Goal.{Goal}
 use Rattle.rml_exec.specs.declared.trace.Counterexample.{Counterexample}
-use Rattle.rml_report.specs.declared.cause.Cause.{Cause}
-use Rattle.rml_report.specs.declared.cause.Least.{Least}
+use Rattle.limits.specs.declared.cause.Cause.{Cause}
+use Rattle.rml_report.specs.declared.least.Least.{Least}
 use Rattle.rml_report.specs.declared.report.Answer.{Answer}
 use Rattle.rml_report.specs.declared.report.Answer.TheVariants as answer
 use Rattle.rml_report.specs.declared.report.Group.{Group}
 use Rattle.rml_report.specs.declared.report.Report.{Report}
 use Rattle.rml_report.specs.Reports.{head_of, verdict_of}
-use Rattle.ea_decide.specs.Passing.{Ceilings}
+use Rattle.limits.specs.Ceilings.{Ceilings}
 use Rattle.obligation_decide.specs.GoalDecisions.{IsFailing, AreAxiomsDecided}
 use Rattle.lean_decide.specs.declared.settling.Counted.{Counted}
 use Rattle.lean_decide.specs.declared.settling.Counted.TheVariants.{Whole}

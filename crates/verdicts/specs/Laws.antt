@@ -5,7 +5,7 @@ use Rattle.rml_report.specs.Reports.{Reports}
 use Rattle.rml_report.specs.declared.report.Answer.{Answer}
 use Rattle.rml_report.specs.declared.report.Answer.TheVariants as answer
 use Rattle.rml_report.specs.declared.report.Report.{Report}
-use Rattle.ea_decide.specs.Passing.{Ceilings}
+use Rattle.limits.specs.Ceilings.{Ceilings}
 use Rattle.cti_minimise.specs.Minimal.{IsLeast}
 use Rattle.lean_decide.specs.declared.settling.Counted.{Counted}
 use Rattle.verdicts.specs.Answers.{IsReportBy}

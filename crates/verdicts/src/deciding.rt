@@ -4,7 +4,7 @@ ghost use Rattle.std.specs.List.{AllByRecursion};
 ghost use Rattle.rml_command.specs.Goals.{HasAbout, IsGoal, stage_paths};
 ghost use Rattle.rml_report.specs.Reports.{head_of};
 ghost use Rattle.pool_wp.specs.Sharing.{IsPoolOf};
-ghost use Rattle.ea_decide.specs.Passing.{ceilings};
+ghost use Rattle.limits.specs.Ceilings.{ceilings};
 ghost use Rattle.verdicts.specs.Answers.{IsAnswerTo, IsGroupNow};
 ghost use Rattle.verdicts.specs.Earliest.{earlier_of, answer_of};
 
@@ -12,10 +12,10 @@ use crate::listing::group_goals;
 use base::Mem;
 use cti_minimise::least;
 use lean_decide::{Counted, Settled, settle};
-use lrat_log::Limits;
+use limits::{Cause, Limits};
 use pool_wp::ModelPool;
 use rml_command::{Checked, Goal, Head};
-use rml_report::{Answer, Cause, Group};
+use rml_report::{Answer, Group};
 use std::alloc::Global;
 
 // A goal that was left open, by its path.

@@ -4,13 +4,13 @@ ghost use Rattle.std.specs.List.{AllByRecursion, list_all, list_any};
 ghost use Rattle.rml_command.specs.Goals.{HasAbout, groups_of};
 ghost use Rattle.rml_report.specs.Reports.{head_of, says_holds, says_fails, verdict_of};
 ghost use Rattle.pool_wp.specs.Sharing.{IsPoolOf};
-ghost use Rattle.ea_decide.specs.Passing.{ceilings};
+ghost use Rattle.limits.specs.Ceilings.{ceilings};
 ghost use Rattle.verdicts.specs.Answers.{IsGroupNow, IsReportBy};
 
 use crate::deciding::decide_group;
 use base::{Mem, Row};
 use lean_decide::{Counted, settle_axioms};
-use lrat_log::Limits;
+use limits::Limits;
 use pool_wp::ModelPool;
 use progress::{Progress, Work};
 use rml_command::{Checked, Head, goal_law, heads};

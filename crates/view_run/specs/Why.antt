@@ -2,7 +2,7 @@
 use Rattle.std.specs.Prelude.{ℕ, Bool, true, false, if◌then◌else◌, List, codes}
 use Rattle.std.specs.List.{list_any}
 use Rattle.rml_command.specs.Models.{ModelTree}
-use Rattle.ea_decide.specs.Passing.{Ceilings}
+use Rattle.limits.specs.Ceilings.{Ceilings}
 use Rattle.rml_reasons.specs.declared.reason.Lack.TheVariants.{Fails, Open}
 use Rattle.rml_reasons.specs.declared.reason.Carried.{Carried}
 use Rattle.rml_reasons.specs.declared.reason.Carried.TheVariants.{By, Not}

@@ -8,8 +8,8 @@ use Rattle.fol_formula.specs.Fits.{FitsForm}
 use Rattle.rml_command.specs.Models.{ModelTree}
 use Rattle.rml_wp.specs.declared.premises.Premises.TheVariants.{All}
 use Rattle.rml_wp.specs.Preconditions.{answered}
-use Rattle.rml_report.specs.declared.cause.Cause.TheVariants as cause
-use Rattle.ea_decide.specs.Passing.{ceilings}
+use Rattle.limits.specs.declared.cause.Cause.TheVariants as cause
+use Rattle.limits.specs.Ceilings.{ceilings}
 use Rattle.ea_decide.specs.Decisions.{AreClauses}
 use Rattle.ea_decide.specs.declared.decided.Clauses.TheVariants.{Written}
 use Rattle.obligation_decide.specs.GoalPassing.{refuting_sentence, SentencePassesBy}

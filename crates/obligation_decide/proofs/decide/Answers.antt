@@ -1,4 +1,4 @@
-use Rattle.ea_decide.specs.Passing.{ceilings}
+use Rattle.limits.specs.Ceilings.{ceilings}
 use Rattle.obligation_decide.proofs.Restricting.{unrestricted}
 use Rattle.obligation_decide.proofs.decide.Goals as goal
 

@@ -5,7 +5,7 @@ use Rattle.fol_formula.specs.Fits.{FitsForm}
 use Rattle.fol_nnf.specs.Normal.{normal}
 use Rattle.rml_wp.specs.declared.premises.Premises.TheVariants.{All}
 use Rattle.rml_wp.specs.Preconditions.{answered}
-use Rattle.ea_decide.specs.Passing.{ceilings}
+use Rattle.limits.specs.Ceilings.{ceilings}
 use Rattle.obligation_decide.specs.WithConstants.{constant_sorts}
 use Rattle.obligation_decide.proofs.SameAnswer.{strata_of, same_answer}
 use Rattle.obligation_decide.proofs.Shown.{normal-fits, given_fits}

@@ -1,4 +1,4 @@
-use Rattle.ea_decide.specs.Passing.{ceilings}
+use Rattle.limits.specs.Ceilings.{ceilings}
 use Rattle.obligation_decide.proofs.Restricting.{AreExact, restricted_by}
 use Rattle.obligation_decide.proofs.decide_where.Goals as goal
 

@@ -1,4 +1,4 @@
-use Rattle.ea_decide.specs.Passing.{ceilings}
+use Rattle.limits.specs.Ceilings.{ceilings}
 use Rattle.ea_decide.proofs.deciding.prepare.Goals as goal
 
 pub returns-clause-room : goal.returns-clause-room

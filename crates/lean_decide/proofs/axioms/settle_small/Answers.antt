@@ -1,4 +1,4 @@
-use Rattle.ea_decide.specs.Passing.{ceilings}
+use Rattle.limits.specs.Ceilings.{ceilings}
 use Rattle.lean_decide.proofs.Answered.{signature_of}
 use Rattle.lean_decide.proofs.AxiomsSettled.{and_fits, refuted_by, satisfied_by}
 use Rattle.lean_decide.proofs.axioms.settle_small.Goals as goal

@@ -1,4 +1,4 @@
-use Rattle.ea_decide.specs.Passing.{ceilings}
+use Rattle.limits.specs.Ceilings.{ceilings}
 use Rattle.lean_decide.proofs.LeanSettled.{by_formula}
 use Rattle.lean_decide.proofs.counting.lean_passed.Goals as goal
 

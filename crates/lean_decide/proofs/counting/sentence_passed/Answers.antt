@@ -1,7 +1,7 @@
 use Rattle.std.proofs.Common.{[], sym, ◌∙◌}
 use Rattle.rml_wp.specs.declared.premises.Premises.TheVariants.{Affected}
 use Rattle.rml_wp.specs.Preconditions.{answered}
-use Rattle.ea_decide.specs.Passing.{ceilings}
+use Rattle.limits.specs.Ceilings.{ceilings}
 use Rattle.lean_decide.proofs.NoCounterexample.{lean_fits}
 use Rattle.lean_decide.proofs.Answered.{strata_of, same_fits, same_measured}
 use Rattle.lean_decide.proofs.LeanSettled.{lean_within, lean_over}

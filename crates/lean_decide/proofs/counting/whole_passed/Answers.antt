@@ -1,4 +1,4 @@
-use Rattle.ea_decide.specs.Passing.{ceilings}
+use Rattle.limits.specs.Ceilings.{ceilings}
 use Rattle.lean_decide.proofs.SameLimits.{over_by, within_by}
 use Rattle.lean_decide.proofs.counting.whole_passed.Goals as goal
 

@@ -1,4 +1,4 @@
-use Rattle.ea_decide.specs.Passing.{ceilings}
+use Rattle.limits.specs.Ceilings.{ceilings}
 use Rattle.lean_decide.proofs.NoCounterexample.{AreExact, nowhere_by, found_by, open_by}
 use Rattle.lean_decide.proofs.seeking.seek_by.Goals as goal
 

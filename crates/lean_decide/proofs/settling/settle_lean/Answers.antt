@@ -1,4 +1,4 @@
-use Rattle.ea_decide.specs.Passing.{ceilings}
+use Rattle.limits.specs.Ceilings.{ceilings}
 use Rattle.lean_decide.proofs.LeanSettled.{lean_holds, lean_fails, lean_open}
 use Rattle.lean_decide.proofs.settling.settle_lean.Goals as goal
 

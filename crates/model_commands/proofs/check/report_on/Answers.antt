@@ -1,7 +1,7 @@
 -- The report is made under the limits that were asked for.
 use Rattle.std.proofs.Common.{subst}
 use Rattle.rml_report.specs.Reports.{Reports}
-use Rattle.ea_decide.specs.Passing.{Ceilings}
+use Rattle.limits.specs.Ceilings.{Ceilings}
 use Rattle.verdicts.specs.Answers.{IsReportBy}
 use Rattle.command_parts.specs.Limits.{ceilings_of}
 use Rattle.model_commands.proofs.check.report_on.Goals as goal

@@ -2,7 +2,7 @@ use Rattle.rml_command.specs.Goals.{HasAbout}
 use Rattle.rml_command.specs.declared.goal.About.TheVariants as about
 use Rattle.rml_command.specs.declared.goal.Head.{Head}
 use Rattle.rml_command.specs.declared.goal.Stage.TheVariants as stage
-use Rattle.ea_decide.specs.Passing.{ceilings}
+use Rattle.limits.specs.Ceilings.{ceilings}
 use Rattle.model_reasons.specs.Reasons.{head_of, IsCarriedSo}
 use Rattle.model_reasons.proofs.Pieces.{pushed_all, next_head, left_all}
 use Rattle.model_reasons.proofs.listing.all_reasons.Goals as goal

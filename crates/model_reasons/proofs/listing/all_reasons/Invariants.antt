@@ -1,7 +1,7 @@
 use Rattle.std.proofs.Common.{◌≡◌, ◌++◌, drop, map}
 use Rattle.std.specs.List.{AllByRecursion}
 use Rattle.rml_command.specs.Goals.{HasAbout}
-use Rattle.ea_decide.specs.Passing.{ceilings}
+use Rattle.limits.specs.Ceilings.{ceilings}
 use Rattle.model_reasons.specs.Reasons.{head_of, IsCarriedSo}
 use Rattle.model_reasons.proofs.listing.all_reasons.Given as goal
 

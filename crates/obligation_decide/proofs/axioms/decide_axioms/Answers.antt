@@ -5,7 +5,7 @@ use Rattle.fol_sig.specs.Constants.{reduct}
 use Rattle.fol_formula.specs.Syntax.{FormTree}
 use Rattle.fol_formula.specs.Fits.{FitsForm}
 use Rattle.fol_formula.specs.Sentences.{all_of}
-use Rattle.ea_decide.specs.Passing.{ceilings}
+use Rattle.limits.specs.Ceilings.{ceilings}
 use Rattle.obligation_decide.proofs.SameAnswer.{signature_of, same_answer}
 use Rattle.obligation_decide.proofs.Conjoined.{axioms-fit, satisfied}
 use Rattle.obligation_decide.proofs.axioms.decide_axioms.Goals as goal

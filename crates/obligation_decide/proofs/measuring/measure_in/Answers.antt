@@ -1,7 +1,7 @@
 use Rattle.std.proofs.Common.{[], refl, subst}
 use Rattle.fol_sig.specs.Tables.{Declared}
 use Rattle.rml_wp.specs.Added.{refuting_all}
-use Rattle.ea_decide.specs.Passing.{ceilings}
+use Rattle.limits.specs.Ceilings.{ceilings}
 use Rattle.obligation_decide.specs.Costs.{IsSentenceMeasured}
 use Rattle.obligation_decide.proofs.Restricting.{measured_by}
 use Rattle.obligation_decide.proofs.measuring.measure_in.Goals as goal

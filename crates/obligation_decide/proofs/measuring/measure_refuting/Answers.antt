@@ -1,5 +1,5 @@
 use Rattle.rml_wp.specs.declared.premises.Premises.TheVariants.{All}
-use Rattle.ea_decide.specs.Passing.{ceilings}
+use Rattle.limits.specs.Ceilings.{ceilings}
 use Rattle.obligation_decide.proofs.SameAnswer.{strata_of}
 use Rattle.obligation_decide.proofs.Counted.{lent, in_fragment, fits_given, measured_as}
 use Rattle.obligation_decide.proofs.measuring.measure_refuting.Goals as goal

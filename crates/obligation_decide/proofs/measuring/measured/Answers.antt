@@ -1,5 +1,5 @@
 use Rattle.std.proofs.Common.{subst}
-use Rattle.ea_decide.specs.Passing.{ceilings}
+use Rattle.limits.specs.Ceilings.{ceilings}
 use Rattle.ea_decide.specs.Measuring.{IsMeasured}
 use Rattle.obligation_decide.proofs.measuring.measured.Goals as goal
 

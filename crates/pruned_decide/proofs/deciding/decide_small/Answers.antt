@@ -1,4 +1,4 @@
-use Rattle.ea_decide.specs.Passing.{ceilings}
+use Rattle.limits.specs.Ceilings.{ceilings}
 use Rattle.pruned_decide.proofs.Carried.{satisfied, reduct_ready}
 use Rattle.pruned_decide.proofs.deciding.decide_small.Goals as goal
 

@@ -1,6 +1,6 @@
 use Rattle.std.proofs.Common.{sym, ap, ◌∙◌, subst}
 use Rattle.pruning.specs.Pruned.{Flags, AreFlags, pruned_signature}
-use Rattle.ea_decide.specs.Passing.{ceilings}
+use Rattle.limits.specs.Ceilings.{ceilings}
 use Rattle.pruned_decide.proofs.Carried.{by_occurring}
 use Rattle.pruned_decide.proofs.Ready.{small_strata, small_ready}
 use Rattle.pruned_decide.proofs.deciding.decide_whole.Goals as goal

@@ -1,4 +1,4 @@
-use Rattle.ea_decide.specs.Passing.{ceilings}
+use Rattle.limits.specs.Ceilings.{ceilings}
 use Rattle.pruned_decide.proofs.BothWays.{Keeps}
 use Rattle.pruned_decide.proofs.Carried.{whole_ready, strata_ready}
 use Rattle.pruned_decide.proofs.Counted.{counted_small}

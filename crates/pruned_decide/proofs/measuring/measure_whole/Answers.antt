@@ -1,4 +1,4 @@
-use Rattle.ea_decide.specs.Passing.{ceilings}
+use Rattle.limits.specs.Ceilings.{ceilings}
 use Rattle.pruned_decide.proofs.Ready.{small_strata, small_ready}
 use Rattle.pruned_decide.proofs.Counted.{counted_pruned}
 use Rattle.pruned_decide.proofs.measuring.measure_whole.Goals as goal

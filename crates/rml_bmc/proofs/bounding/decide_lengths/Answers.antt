@@ -1,5 +1,5 @@
 use Rattle.std.proofs.Common.{◌+◌, sym, ◌∙◌, subst}
-use Rattle.ea_decide.specs.Passing.{ceilings}
+use Rattle.limits.specs.Ceilings.{ceilings}
 use Rattle.rml_bmc.specs.Infeasible.{AreInfeasible}
 use Rattle.rml_bmc.proofs.InOrder.{Completes, at_first, next, broken, at_last}
 use Rattle.rml_bmc.proofs.bounding.decide_lengths.Goals as goal

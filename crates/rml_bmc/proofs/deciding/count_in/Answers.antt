@@ -1,6 +1,6 @@
 use Rattle.std.proofs.Common.{None, subst}
 use Rattle.rml_command.specs.Models.{ModelTree}
-use Rattle.ea_decide.specs.Passing.{ceilings}
+use Rattle.limits.specs.Ceilings.{ceilings}
 use Rattle.lean_decide.specs.Settled.{IsPassing}
 use Rattle.walk_model.specs.WalkModels.{walk_goal}
 use Rattle.rml_bmc.proofs.Transfers.{passes, left_open}

@@ -1,7 +1,7 @@
 use Rattle.std.proofs.Common.{◌≡◌, ◌-◌, length, map}
 use Rattle.base.specs.Lists.{count_from}
 use Rattle.rml_command.specs.declared.goal.About.TheVariants as about
-use Rattle.ea_decide.specs.Passing.{ceilings}
+use Rattle.limits.specs.Ceilings.{ceilings}
 use Rattle.walks.specs.Walks.{goal_along}
 use Rattle.walks.specs.Laws.{IsWalk}
 use Rattle.rml_bmc.proofs.Walking.{Left}

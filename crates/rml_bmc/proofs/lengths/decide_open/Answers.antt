@@ -5,7 +5,7 @@ use Rattle.base.specs.Lists.{count_from}
 use Rattle.rml_command.specs.Paths.{has_abort}
 use Rattle.rml_command.specs.declared.goal.Stage.TheVariants as stage
 use Rattle.rml_command.specs.declared.goal.About.TheVariants as about
-use Rattle.ea_decide.specs.Passing.{ceilings}
+use Rattle.limits.specs.Ceilings.{ceilings}
 use Rattle.walks.specs.declared.leg.Leg.{Leg}
 use Rattle.walks.specs.Walks.{goal_along, stage_legs}
 use Rattle.walks.specs.Laws.{IsWalk}

@@ -1,7 +1,7 @@
 use Rattle.std.proofs.Common.{[], ◌∙◌}
 use Rattle.rml_wp.specs.declared.premises.Premises.TheVariants.{All}
 use Rattle.rml_wp.specs.Preconditions.{conjectures_of}
-use Rattle.ea_decide.specs.Passing.{ceilings}
+use Rattle.limits.specs.Ceilings.{ceilings}
 use Rattle.rml_houdini.proofs.Assuming.{strata_of}
 use Rattle.rml_houdini.proofs.Counted.{lent, in_fragment, fits_given, within_by, over_by}
 use Rattle.rml_houdini.proofs.counting.limit_of.Goals as goal

@@ -1,4 +1,4 @@
-use Rattle.ea_decide.specs.Passing.{ceilings}
+use Rattle.limits.specs.Ceilings.{ceilings}
 use Rattle.rml_houdini.proofs.Sufficing.{grows_by, fails_held}
 use Rattle.rml_houdini.proofs.keeping.judge.Goals as goal
 

@@ -1,6 +1,6 @@
 use Rattle.std.proofs.Common.{None, ap, ◌∙◌, subst}
 use Rattle.rml_command.specs.Goals.{group_goals}
-use Rattle.ea_decide.specs.Passing.{ceilings}
+use Rattle.limits.specs.Ceilings.{ceilings}
 use Rattle.lean_decide.specs.declared.settling.Counted.TheVariants.{Whole}
 use Rattle.rml_houdini.specs.Rounds.{group_at}
 use Rattle.rml_houdini.specs.Progress.{IsRound}

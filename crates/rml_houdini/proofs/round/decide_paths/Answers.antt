@@ -1,8 +1,8 @@
 use Rattle.std.proofs.Common.{◌≤◌, ◌+◌, length, sym, ◌∙◌, subst, Option, None, arith}
 use Rattle.rml_command.specs.declared.goal.Head.{Head}
 use Rattle.rml_command.specs.declared.goal.Goal.{Goal}
-use Rattle.rml_report.specs.declared.cause.Cause.{Cause}
-use Rattle.ea_decide.specs.Passing.{ceilings}
+use Rattle.limits.specs.declared.cause.Cause.{Cause}
+use Rattle.limits.specs.Ceilings.{ceilings}
 use Rattle.rml_houdini.proofs.Paths.{is_goal}
 use Rattle.rml_houdini.proofs.Turns.{ThroughPaths, first_path, path_passed, path_safe, path_open, path_fails, paths_end}
 use Rattle.rml_houdini.proofs.Sufficing.{

@@ -1,6 +1,6 @@
 use Rattle.std.proofs.Common.{◌≡◌, ◌≤◌, length, None}
 use Rattle.rml_command.specs.Goals.{stage_paths}
-use Rattle.ea_decide.specs.Passing.{ceilings}
+use Rattle.limits.specs.Ceilings.{ceilings}
 use Rattle.rml_houdini.specs.Subsets.{IsWithin}
 use Rattle.rml_houdini.proofs.Turns.{ThroughPaths}
 use Rattle.rml_houdini.proofs.Sufficing.{SufficesThrough}

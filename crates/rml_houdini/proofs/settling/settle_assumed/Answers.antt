@@ -1,4 +1,4 @@
-use Rattle.ea_decide.specs.Passing.{ceilings}
+use Rattle.limits.specs.Ceilings.{ceilings}
 use Rattle.rml_houdini.proofs.LeanCounts.{lean_holds, lean_fails, lean_open}
 use Rattle.rml_houdini.proofs.settling.settle_assumed.Goals as goal
 

@@ -1,5 +1,5 @@
 use Rattle.std.proofs.Common.{ℕ, List, subst}
-use Rattle.ea_decide.specs.Passing.{ceilings}
+use Rattle.limits.specs.Ceilings.{ceilings}
 use Rattle.lean_decide.specs.declared.settling.Counted.TheVariants.{Lean}
 use Rattle.rml_houdini.specs.Keeping.{IsSettledBy}
 use Rattle.rml_houdini.proofs.Sufficing.{grows_to_all}

@@ -5,7 +5,8 @@ use Rattle.fol_sig.specs.Constants.{reduct}
 use Rattle.fol_formula.specs.Syntax.{FormTree}
 use Rattle.fol_formula.specs.Fits.{FitsForm}
 use Rattle.rml_wp.specs.Preconditions.{answered, conjectures_of}
-use Rattle.ea_decide.specs.Passing.{Passes, ceilings}
+use Rattle.limits.specs.Ceilings.{ceilings}
+use Rattle.ea_decide.specs.Passing.{Passes}
 use Rattle.ea_decide.specs.declared.decided.Decided.TheVariants.{Satisfied}
 use Rattle.pruned_decide.specs.Decisions.{lean_signature, lean_sentence}
 use Rattle.rml_houdini.proofs.Assuming.{signature_of, same_answer, assumed_fits, is_refuting, met_fits}

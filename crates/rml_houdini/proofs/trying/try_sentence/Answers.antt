@@ -4,7 +4,8 @@ use Rattle.fol_sig.specs.Symbols.{symbols}
 use Rattle.fol_formula.specs.Syntax.{FormTree}
 use Rattle.fol_formula.specs.Fits.{FitsForm}
 use Rattle.rml_wp.specs.Preconditions.{answered}
-use Rattle.ea_decide.specs.Passing.{Passes, ceilings}
+use Rattle.limits.specs.Ceilings.{ceilings}
+use Rattle.ea_decide.specs.Passing.{Passes}
 use Rattle.ea_decide.specs.Decisions.{IsOver}
 use Rattle.pruned_decide.specs.Decisions.{lean_signature, lean_sentence}
 use Rattle.rml_houdini.proofs.Assuming.{strata_of, same_answer, assumed_fits, none_assumed}

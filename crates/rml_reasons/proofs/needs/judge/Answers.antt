@@ -1,6 +1,6 @@
 use Rattle.std.proofs.Common.{◌≡◌, ◌<◌, ℕ, List, length, sym, ◌∙◌, subst}
 use Rattle.std.specs.Prelude.{All}
-use Rattle.ea_decide.specs.Passing.{ceilings}
+use Rattle.limits.specs.Ceilings.{ceilings}
 use Rattle.rml_reasons.specs.Reasons.{IsReason}
 use Rattle.rml_reasons.proofs.Sets.{fewer_below, has_at}
 use Rattle.rml_reasons.proofs.needs.judge.Goals as goal

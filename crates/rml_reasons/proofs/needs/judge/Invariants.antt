@@ -1,4 +1,4 @@
-use Rattle.ea_decide.specs.Passing.{ceilings}
+use Rattle.limits.specs.Ceilings.{ceilings}
 use Rattle.rml_reasons.proofs.Judging.{AreNeedsSoFar}
 use Rattle.rml_reasons.proofs.needs.judge.Given as goal
 

@@ -1,7 +1,7 @@
 use Rattle.std.proofs.Common.{◌≡◌, ◌==◌, ◌<◌, ℕ, not, List, length, sym, ap, ◌∙◌, subst}
 use Rattle.std.specs.List.{filter}
 use Rattle.rml_command.specs.declared.goal.Head.{Head}
-use Rattle.ea_decide.specs.Passing.{ceilings}
+use Rattle.limits.specs.Ceilings.{ceilings}
 use Rattle.rml_reasons.specs.Reasons.{IsReason}
 use Rattle.rml_reasons.specs.Shrinking.{IsJudged}
 use Rattle.rml_reasons.specs.declared.needs.Judged.TheVariants.{Superfluous}

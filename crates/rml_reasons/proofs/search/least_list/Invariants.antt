@@ -1,5 +1,5 @@
 use Rattle.std.proofs.Common.{length}
-use Rattle.ea_decide.specs.Passing.{ceilings}
+use Rattle.limits.specs.Ceilings.{ceilings}
 use Rattle.rml_reasons.specs.Shrinking.{Carry}
 use Rattle.rml_reasons.proofs.search.least_list.Given as goal
 

@@ -1,4 +1,4 @@
-use Rattle.ea_decide.specs.Passing.{ceilings}
+use Rattle.limits.specs.Ceilings.{ceilings}
 use Rattle.rml_reasons.specs.Shrinking.{Carry}
 use Rattle.rml_reasons.proofs.search.shrink.Given as goal
 

@@ -4,7 +4,7 @@ use Rattle.rml_command.specs.declared.goal.Stage.TheVariants as stage
 use Rattle.rml_command.specs.declared.goal.About.TheVariants as about
 use Rattle.rml_command.specs.declared.goal.Goal.{Goal}
 use Rattle.rml_report.specs.declared.report.Answer.{Answer}
-use Rattle.ea_decide.specs.Passing.{ceilings}
+use Rattle.limits.specs.Ceilings.{ceilings}
 use Rattle.verdicts.specs.Answers.{Failure, IsAnswerTo}
 use Rattle.verdicts.specs.declared.deciding.OpenGoal.{OpenGoal}
 use Rattle.verdicts.proofs.Completing.{Completes, next, next_each, behind_safe, behind_open, at_failing, at_last}

@@ -2,7 +2,7 @@ use Rattle.std.proofs.Common.{drop}
 use Rattle.std.specs.List.{AllByRecursion}
 use Rattle.rml_command.specs.Goals.{IsGoal}
 use Rattle.pool_wp.specs.Sharing.{IsPoolOf}
-use Rattle.ea_decide.specs.Passing.{ceilings}
+use Rattle.limits.specs.Ceilings.{ceilings}
 use Rattle.verdicts.proofs.Completing.{Completes}
 use Rattle.verdicts.proofs.deciding.decide_goals.Given as goal
 

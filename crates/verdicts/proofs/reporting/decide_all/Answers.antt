@@ -3,7 +3,7 @@ use Rattle.rml_command.specs.declared.goal.About.TheVariants as about
 use Rattle.rml_command.specs.declared.goal.Head.{Head}
 use Rattle.rml_command.specs.declared.goal.Stage.TheVariants as stage
 use Rattle.rml_report.specs.Reports.{head_of}
-use Rattle.ea_decide.specs.Passing.{ceilings}
+use Rattle.limits.specs.Ceilings.{ceilings}
 use Rattle.verdicts.specs.Answers.{IsGroupNow}
 use Rattle.verdicts.proofs.Groups.{pushed_all, next_head, left_all}
 use Rattle.verdicts.proofs.reporting.decide_all.Goals as goal

@@ -3,7 +3,7 @@ use Rattle.std.specs.List.{AllByRecursion}
 use Rattle.rml_command.specs.Goals.{HasAbout}
 use Rattle.rml_report.specs.Reports.{head_of}
 use Rattle.pool_wp.specs.Sharing.{IsPoolOf}
-use Rattle.ea_decide.specs.Passing.{ceilings}
+use Rattle.limits.specs.Ceilings.{ceilings}
 use Rattle.verdicts.specs.Answers.{IsGroupNow}
 use Rattle.verdicts.proofs.reporting.decide_all.Given as goal
 

@@ -1,7 +1,7 @@
 use Rattle.cti_minimise.specs.Saying.{said_by}
 use Rattle.cti_minimise.specs.Steps.{limits_of}
 use Rattle.cti_minimise.specs.Within.{numbers_within}
-use Rattle.ea_decide.specs.Passing.{ceilings}
+use Rattle.limits.specs.Ceilings.{ceilings}
 use Rattle.cti_minimise.proofs.Attempts.{none-otherwise, still-failing, few-within}
 use Rattle.cti_minimise.proofs.trials.Trials.attempt_by.Goals as goal
 

@@ -1,4 +1,4 @@
-use Rattle.ea_decide.specs.Passing.{ceilings}
+use Rattle.limits.specs.Ceilings.{ceilings}
 use Rattle.lean_decide.proofs.SameLimits.{too_large}
 use Rattle.lean_decide.proofs.prepared.Prepared.measure.Goals as goal
 

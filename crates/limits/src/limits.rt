@@ -1,8 +1,8 @@
 // The limits that the layers that decide share.
 ghost use Rattle.std.specs.Prelude.{◌≤◌, ◌<◌};
 
-/// The limits of a decision: the number of ground terms, the size of the ground formula, and the
-/// number of clauses that the solver may learn.
+/// The limits of a decision: the number of ground terms, the size of the ground formula, and the number of clauses that
+/// the solver may learn.
 #[derive(Clone, Copy)]
 pub struct Limits {
     pub terms: u64,
