@@ -12,8 +12,7 @@ use Rattle.fol_formula.specs.Syntax.{FormTree, forms_of}
 use Rattle.fol_formula.specs.Truth.{all_true}
 use Rattle.rml_command.specs.Trees.{PrimitiveTree, CommandTree}
 use Rattle.fol_formula.specs.Sentences.{is_true, satisfies}
-use Rattle.rml_command.specs.Outcomes.{Outcome, ended, aborted, HasOutcome, PathHasOutcome}
-use Rattle.rml_command.specs.Outcomes.{follow_path}
+use Rattle.rml_command.specs.Outcomes.{Outcome, ended, aborted, HasOutcome, PathHasOutcome, follow_path}
 use Rattle.base.specs.Lists.{count_from}
 use Rattle.rml_command.specs.Paths.{paths_of}
 use Rattle.rml_command.specs.Models.{ModelTree, FitsCommand, FitsModel}
@@ -81,15 +80,16 @@ module _ (tables : TablesAreTuples) (keep : UpdatesKeepSymbols) (m : ModelTree) 
   -- what an outcome of a block and a refuted group lead to
   no_such_end : (st : Stage) (a : About) (c : CommandTree) (s : Tables) (o : Outcome) (values : List ℕ)
       → block_of m st ≡ Some c → Holds m (the_group st a) → FitsStructure (symbols m.signature) s
-      → is_allowed m st s ≡ true → HasOutcome m.axioms c s o
+      → is_allowed m m.conjectures st s ≡ true → HasOutcome m.axioms c s o
       → ((p : List PrimitiveTree) → PathHasOutcome m.axioms p s o → is_for a p ≡ true)
       → ((f : Option Outcome) → f ≡ Some o → FailsGoal m a values f) → ⊥
   no_such_end st a c s o values block holds fits allowed h kind fails =
       let w = some_at (λ p. PathHasOutcome m.axioms p s o) (paths_of c) (by_path m.axioms c s o h) in
       let g = followed tables m.axioms w.1 s o w.3 in
-      let none = goal_among (HasNone m) (the_group st a) (paths_of c) w.0 1 (suc w.0) w.1 (omega arith) w.2
-      (kind w.1 w.3)
-      (subst (λ b. AllByRecursion (HasNone m) (goals_among (the_group st a) 1 (paths_of_block b))) block holds) in
+      let none = goal_among (HasNone m m.conjectures) (the_group st a) (paths_of c) w.0 1 (suc w.0) w.1 (omega arith)
+      w.2 (kind w.1 w.3)
+      (subst (λ b. AllByRecursion (HasNone m m.conjectures) (goals_among (the_group st a) 1 (paths_of_block b))) block
+      holds) in
       none s g.havocs values (record {
         path = w.1;
         is_path = ap (λ b. slice_get (paths_of_block b) w.0) block ∙ w.2;
@@ -100,14 +100,16 @@ module _ (tables : TablesAreTuples) (keep : UpdatesKeepSymbols) (m : ModelTree) 
       })
 
   no_abort : (st : Stage) (c : CommandTree) (s : Tables) → block_of m st ≡ Some c → Holds m (the_group st about.Abort)
-      → FitsStructure (symbols m.signature) s → is_allowed m st s ≡ true → HasOutcome m.axioms c s aborted → ⊥
+      → FitsStructure (symbols m.signature) s → is_allowed m m.conjectures st s ≡ true
+      → HasOutcome m.axioms c s aborted → ⊥
   no_abort st c s block holds fits allowed h =
       no_such_end st about.Abort c s aborted [] block holds fits allowed h (λ p e. path_aborts m.axioms p s e)
       (λ f e. (e, refl))
 
   keeps_conjecture : (st : Stage) (c : CommandTree) (s new : Tables) (k : ℕ) (q : FormTree) → block_of m st ≡ Some c
-      → Holds m (the_group st (about.Conjecture k)) → FitsStructure (symbols m.signature) s → is_allowed m st s ≡ true
-      → slice_get m.conjectures k ≡ Some q → HasOutcome m.axioms c s (ended new) → is_true new q ≡ true
+      → Holds m (the_group st (about.Conjecture k)) → FitsStructure (symbols m.signature) s
+      → is_allowed m m.conjectures st s ≡ true → slice_get m.conjectures k ≡ Some q
+      → HasOutcome m.axioms c s (ended new) → is_true new q ≡ true
   keeps_conjecture st c s new k q block holds fits allowed at h =
       true_from_ne_false (is_true new q) (λ broken.
       let v = falsified new q [] broken in
@@ -154,7 +156,7 @@ module _ (tables : TablesAreTuples) (keep : UpdatesKeepSymbols) (m : ModelTree) 
   -- from what induction allows, a stage leads to a good end
   ends_well : (st : Stage) (c : CommandTree) (s new : Tables) → block_of m st ≡ Some c
       → FitsCommand (symbols m.signature) c → Clear st → IsLawful m.axioms (symbols m.signature) s
-      → is_allowed m st s ≡ true → HasOutcome m.axioms c s (ended new) → IsGood new
+      → is_allowed m m.conjectures st s ≡ true → HasOutcome m.axioms c s (ended new) → IsGood new
   ends_well st c s new block fits clear law allowed h = record {
     lawful = kept m.axioms (symbols m.signature) (IsLawful m.axioms (symbols m.signature))
         (step_lawful keep m.axioms (symbols m.signature)) c s new fits law h;

@@ -6,6 +6,9 @@ pub mod Structures
 pub mod Updates
 pub mod Values
 pub mod Induction
+pub mod InvariantRuns
+pub mod EachGoal
+pub mod InductiveRuns
 pub mod GoalList
 pub mod Pieces
 pub mod EachPath

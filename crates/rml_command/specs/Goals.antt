@@ -107,11 +107,11 @@ pub record IsGoal (m : ModelTree) (goal : Goal) : Type 0 where
   pub kind : is_for goal.about path ≡ true
   pub about : HasAbout m goal.stage goal.about
 
--- what induction allows before a stage: the axioms and, unless it is init, all conjectures
-abbrev pub is_allowed : ModelTree → Stage → Tables → Bool
-is_allowed m stage.Init s = satisfies s m.axioms
-is_allowed m (stage.Action a) s = satisfies s m.axioms && satisfies s m.conjectures
-is_allowed m stage.Final s = satisfies s m.axioms && satisfies s m.conjectures
+-- what induction allows before a stage where these sentences are held: the axioms and, unless it is init, the sentences
+abbrev pub is_allowed : ModelTree → List FormTree → Stage → Tables → Bool
+is_allowed m held stage.Init s = satisfies s m.axioms
+is_allowed m held (stage.Action a) s = satisfies s m.axioms && satisfies s held
+is_allowed m held stage.Final s = satisfies s m.axioms && satisfies s held
 
 -- the sorts of the leading run of `forall` of a sentence, and what stands behind it
 abbrev pub leading_sorts : FormTree → List ℕ
@@ -135,22 +135,23 @@ FailsGoal m (about.Conjecture k) values outcome =
     (c : FormTree) × (s : Tables) × (slice_get m.conjectures k ≡ Some c) × (outcome ≡ Some (ended s))
     × FalseUnder s c values
 
--- A counterexample of a goal: a structure that induction allows, for each havoc of the goal's path an element or, where
--- a relation is havocked, the tuples of which it is true, and values. Followed with these, no step of the path is
--- blocked, and it ends as the goal forbids.
-pub record IsCounterexample (m : ModelTree) (goal : Goal) (s : Tables) (havocs : List Havoc) (values : List ℕ)
-    : Type 0 where
+-- A counterexample of a goal, where these sentences are held: a structure that induction allows, for each havoc of the
+-- goal's path an element or, where a relation is havocked, the tuples of which it is true, and values. Followed with
+-- these, no step of the path is blocked, and it ends as the goal forbids.
+pub record IsCounterexample (m : ModelTree) (held : List FormTree) (goal : Goal) (s : Tables)
+    (havocs : List Havoc) (values : List ℕ) : Type 0 where
   pub path : List PrimitiveTree
   pub is_path : goal_path m goal ≡ Some path
   pub structure : FitsStructure (symbols m.signature) s
-  pub allowed : is_allowed m goal.stage s ≡ true
+  pub allowed : is_allowed m held goal.stage s ≡ true
   pub count : length havocs ≡ havoc_count path
   pub fails : FailsGoal m goal.about values (follow_path m.axioms path havocs s)
 
--- the goal has no counterexample: no structure, havocs and values are one
-abbrev pub HasNone : ModelTree → Goal → Type 0
-HasNone m goal = (s : Tables) (havocs : List Havoc) (values : List ℕ) → IsCounterexample m goal s havocs values → ⊥
+-- where these sentences are held, the goal has no counterexample: no structure, havocs and values are one
+abbrev pub HasNone : ModelTree → List FormTree → Goal → Type 0
+HasNone m held goal =
+    (s : Tables) (havocs : List Havoc) (values : List ℕ) → IsCounterexample m held goal s havocs values → ⊥
 
--- A group holds where no goal of it has a counterexample.
+-- A group holds where, with all conjectures held, no goal of it has a counterexample.
 abbrev pub Holds : ModelTree → Head → Type 0
-Holds m group = AllByRecursion (HasNone m) (group_goals m group)
+Holds m group = AllByRecursion (HasNone m m.conjectures) (group_goals m group)

@@ -30,12 +30,14 @@ use Rattle.rml_command.specs.Outcomes.{
   set_variable,
   range_of,
 }
-use Rattle.base.specs.Lists.{SomeOf}
+use Rattle.base.specs.Lists.{SomeOf, numbered}
 use Rattle.rml_command.specs.Paths.{has_abort, EndsAtAbort, paths_of, havoc_count}
 use Rattle.rml_command.specs.Models.{ModelTree, FitsPrimitive, FitsPath, FitsModel}
 use Rattle.rml_command.specs.Fragment.{IsInFragment, IsChecked}
-use Rattle.rml_command.specs.Runs.{Safe}
-use Rattle.rml_command.specs.Goals.{HasAbout, groups_of, goals_of, goal_path, IsGoal, FalseUnder, Holds}
+use Rattle.rml_command.specs.Runs.{Run, IsRun, Safe}
+use Rattle.rml_command.specs.Invariants.{IsInductiveInvariant, AreTrueIn}
+use Rattle.rml_command.specs.InductiveSets.{conjectures_of, IsInductive}
+use Rattle.rml_command.specs.Goals.{HasAbout, groups_of, goals_of, goal_path, IsGoal, FalseUnder, Holds, HasNone}
 use Rattle.rml_command.specs.declared.goal.Goal.{Goal}
 use Rattle.rml_command.specs.declared.havoc.Havoc.{Havoc}
 
@@ -116,3 +118,19 @@ pub record GoalPathsFit : Type 0 where
 -- Where no goal of any group has a counterexample, no run aborts or breaks a conjecture.
 abbrev pub InductionIsSound : Type 0
 InductionIsSound = (m : ModelTree) → FitsModel m → AllByRecursion (Holds m) (groups_of m) → Safe m
+
+-- The same for goals that are decided one by one: where the goal of each number has no counterexample, no run aborts or
+-- breaks a conjecture.
+abbrev pub SafeByGoals : Type 0
+SafeByGoals = (m : ModelTree) → FitsModel m
+    → ((n : ℕ) (goal : Goal) → numbered (goals_of m) n ≡ Some goal → HasNone m m.conjectures goal) → Safe m
+
+-- An inductive invariant is true at each end of init and of an action of every run, whether or not something aborts.
+abbrev pub InductiveInvariantsHold : Type 0
+InductiveInvariantsHold = (m : ModelTree) (sentences : List FormTree) (run : Run) → FitsModel m
+    → IsInductiveInvariant m sentences → IsRun m run → AreTrueIn sentences run
+
+-- So are the conjectures of an inductive set.
+abbrev pub InductiveSetsHold : Type 0
+InductiveSetsHold = (m : ModelTree) (ks : List ℕ) (run : Run) → FitsModel m → IsInductive m ks → IsRun m run
+    → AreTrueIn (conjectures_of m ks) run

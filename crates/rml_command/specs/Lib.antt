@@ -14,4 +14,6 @@ pub mod Goals
 pub mod Code
 pub mod ModelCode
 pub mod Parts
+pub mod Invariants
+pub mod InductiveSets
 pub mod Laws

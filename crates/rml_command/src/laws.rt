@@ -11,6 +11,9 @@ ghost use Rattle.rml_command.specs.Laws.{
   GroupsAreKnown,
   GoalPathsFit,
   InductionIsSound,
+  SafeByGoals,
+  InductiveInvariantsHold,
+  InductiveSetsHold,
 };
 ghost use Rattle.rml_command.specs.Elements.{TracesAreElements};
 ghost use Rattle.rml_command.specs.Fresh.{FreshTablesAreFollowed, WrittenPathsFit, FreshSignaturesGrow};
@@ -80,4 +83,26 @@ pub fn run_law()
 {
     update_law();
     fol_sig::tuple_set_laws();
+}
+
+/// Goals may be decided one by one: where the goal of each number has no counterexample, no run aborts or breaks a
+/// conjecture.
+pub fn each_goal_law()
+    ensures { SafeByGoals }
+{
+    run_law();
+}
+
+/// An inductive invariant is true at each end of init and of an action of every run, whether or not something aborts.
+pub fn invariant_law()
+    ensures { InductiveInvariantsHold }
+{
+    update_law();
+}
+
+/// The conjectures of an inductive set are true at each end of init and of an action of every run.
+pub fn inductive_law()
+    ensures { InductiveSetsHold }
+{
+    invariant_law();
 }

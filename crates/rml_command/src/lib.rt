@@ -25,7 +25,8 @@ pub use goal::{About, Goal, Head, Stage};
 pub use groups::{heads, is_for};
 pub use havoc::{Havoc, copy_havocs, havocs_of};
 pub use laws::{
-    block_law, fresh_law, goal_law, list_law, path_law, run_law, update_law, value_law,
+    block_law, each_goal_law, fresh_law, goal_law, inductive_law, invariant_law, list_law,
+    path_law, run_law, update_law, value_law,
 };
 pub use listing::{MAX_PATHS, TooManyPaths, few_paths, has_few_paths, paths};
 pub use model::{Model, Parts};
