@@ -11,8 +11,8 @@ use Rattle.rml_command.specs.declared.goal.Goal.{Goal}
 use Rattle.rml_command.specs.Fresh.{written}
 use Rattle.rml_wp.specs.declared.premises.Premises.{Premises}
 use Rattle.rml_wp.specs.Preconditions.{back_of, where_lawful, precondition_of, passes_limit, premises_of, target_of}
-use Rattle.rml_wp.specs.Preconditions.{path_or_none, answered, written_path, goal_precondition_by}
-use Rattle.rml_wp.specs.Preconditions.{goal_passes_limit_by}
+use Rattle.rml_wp.specs.Preconditions.{path_or_none, answered, written_path, goal_precondition}
+use Rattle.rml_wp.specs.Preconditions.{goal_passes_limit}
 
 -- a signature that differs in its relations alone gives the same preconditions
 module _ (sig more : Symbols) (same : (v : ℕ) → more.into_of v ≡ sig.into_of v) where
@@ -46,7 +46,7 @@ module _ (premises : Premises) (given m : ModelTree) (goal : Goal) (p : List Pri
     (is : p ≡ path_or_none (goal_path m goal)) where
   pub goal_tree : precondition_of (symbols given.signature) (premises_of premises given.axioms)
       (target_of given goal.about) (written (symbols given.signature) (length given.signature.relations) p)
-      ≡ goal_precondition_by premises m goal
+      ≡ goal_precondition premises m goal
   goal_tree =
       ap (λ (z : ModelTree). precondition_of (symbols z.signature) (premises_of premises z.axioms)
       (target_of z goal.about) (written (symbols z.signature) (length z.signature.relations) p)) same
@@ -57,7 +57,7 @@ module _ (premises : Premises) (given m : ModelTree) (goal : Goal) (p : List Pri
 
   pub goal_limit : passes_limit (symbols given.signature) (premises_of premises given.axioms)
       (target_of given goal.about) (written (symbols given.signature) (length given.signature.relations) p)
-      ≡ goal_passes_limit_by premises m goal
+      ≡ goal_passes_limit premises m goal
   goal_limit =
       ap (λ (z : ModelTree). passes_limit (symbols z.signature) (premises_of premises z.axioms)
       (target_of z goal.about) (written (symbols z.signature) (length z.signature.relations) p)) same

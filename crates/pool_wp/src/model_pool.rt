@@ -9,9 +9,10 @@ ghost use Rattle.fol_pool.specs.Trees.{IsAt, HasForm, a_form, form_at};
 ghost use Rattle.rml_command.specs.Models.{ModelTree};
 ghost use Rattle.rml_command.specs.Goals.{IsGoal};
 ghost use Rattle.rml_wp.specs.Preconditions.{answered, goal_passes_limit};
-ghost use Rattle.rml_wp.specs.Added.{refuting_all};
+ghost use Rattle.rml_wp.specs.Added.{refuting_where};
 ghost use Rattle.ground_size.specs.Found.{IsGroundSize};
 ghost use Rattle.pool_wp.specs.Sharing.{IsPoolOf};
+ghost use Rattle.rml_wp.specs.declared.premises.Premises.TheVariants.{All};
 
 use crate::model_nodes::ModelNodes;
 use crate::refuted::refuting;
@@ -73,9 +74,9 @@ impl ModelPool {
         ensures signature { IfOk result (λ r. r.0 ≡ answered checked.now goal.now) }
         ensures node { IfOk result
             (λ r. IsAt self.new.pool r.1.0
-            (a_form (refuting_all checked.now checked.now.conjectures [] goal.now))) }
-        ensures within { OnOk result (goal_passes_limit checked.now goal.now ≡ false) }
-        ensures limit { IfErr result (Because (λ _. IsTrue (goal_passes_limit checked.now goal.now))) }
+            (a_form (refuting_where All checked.now checked.now.conjectures [] goal.now))) }
+        ensures within { OnOk result (goal_passes_limit All checked.now goal.now ≡ false) }
+        ensures limit { IfErr result (Because (λ _. IsTrue (goal_passes_limit All checked.now goal.now))) }
         ensures shared { IsPoolOf checked.now self.new }
     {
         refuting(alloc, &mut self.pool, &self.nodes, checked, goal)

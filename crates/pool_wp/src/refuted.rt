@@ -5,8 +5,9 @@ ghost use Rattle.fol_formula.specs.Syntax.{negation, conjunction, form_then, no_
 ghost use Rattle.fol_pool.specs.Trees.{IsAt, Grows, HasForm, HasForms, a_form, some_forms, form_at, forms_at};
 ghost use Rattle.rml_command.specs.Goals.{IsGoal};
 ghost use Rattle.rml_wp.specs.Preconditions.{answered, goal_passes_limit};
-ghost use Rattle.rml_wp.specs.Added.{refuting_all};
+ghost use Rattle.rml_wp.specs.Added.{refuting_where};
 ghost use Rattle.pool_wp.specs.Standing.{AreNodesOf, held_row};
+ghost use Rattle.rml_wp.specs.declared.premises.Premises.TheVariants.{All};
 
 use crate::goal::precondition;
 use crate::model_nodes::ModelNodes;
@@ -30,9 +31,9 @@ pub fn refuting(
     requires goal { IsGoal checked.now goal.now }
     ensures signature { IfOk result (λ r. r.0 ≡ answered checked.now goal.now) }
     ensures node { IfOk result
-        (λ r. IsAt pool.new r.1.0 (a_form (refuting_all checked.now checked.now.conjectures [] goal.now))) }
-    ensures within { OnOk result (goal_passes_limit checked.now goal.now ≡ false) }
-    ensures limit { IfErr result (Because (λ _. IsTrue (goal_passes_limit checked.now goal.now))) }
+        (λ r. IsAt pool.new r.1.0 (a_form (refuting_where All checked.now checked.now.conjectures [] goal.now))) }
+    ensures within { OnOk result (goal_passes_limit All checked.now goal.now ≡ false) }
+    ensures limit { IfErr result (Because (λ _. IsTrue (goal_passes_limit All checked.now goal.now))) }
     ensures grows { Grows pool.old pool.new }
 {
     let (answered, precondition) = precondition(alloc, pool, nodes, checked, goal)?;

@@ -13,10 +13,10 @@ use Rattle.rml_command.specs.Goals.{goal_path}
 use Rattle.rml_command.specs.Laws.{GoalPathsFit}
 use Rattle.rml_command.specs.declared.goal.Stage.{Stage}
 use Rattle.rml_command.specs.declared.goal.Stage.TheVariants as stage
-use Rattle.rml_wp.specs.Preconditions.{refuting_parts_by, target_of, path_or_none, goal_precondition_by, parts_before}
+use Rattle.rml_wp.specs.Preconditions.{refuting_parts, target_of, path_or_none, goal_precondition, parts_before}
 use Rattle.rml_wp.specs.Preconditions.{premises_of, answered, written_path}
 use Rattle.rml_wp.specs.Laws.{PreconditionStaysInFragment}
-use Rattle.rml_wp.specs.Added.{refuting_all_by, RefutingSentencesFit, NoPartsAreAdded, ConjecturesAreAdded}
+use Rattle.rml_wp.specs.Added.{refuting_where, RefutingSentencesFit, NoPartsAreAdded, ConjecturesAreAdded}
 use Rattle.rml_wp.proofs.StepTruth.{Replaces, all_fit, precondition-fits}
 use Rattle.rml_wp.proofs.Exactly.{Follows, has_target}
 use Rattle.rml_wp.proofs.OverFresh.{is_path, path, grows, axioms-wide, target-wide, wide}
@@ -54,7 +54,7 @@ sentences_fit laws premises m held more goal checked ok g added =
     let t = target-wide laws.follows m goal f ok g in
     let axioms = axioms-wide laws.follows m goal f ok g in
     let wider = wide laws.follows m goal f ok g in
-    let pre = goal_precondition_by premises m goal in
+    let pre = goal_precondition premises m goal in
     let behind = premises_of premises m.axioms in
     let fit_behind = each_of (FitsForm sig []) premises m.axioms axioms in
     let ae : IsAe pre =
@@ -63,7 +63,7 @@ sentences_fit laws premises m held more goal checked ok g added =
     (target-ae laws.universal_ae m goal.about checked.fragment.conjectures has)
     (written.fragment (laws.goals.in_fragment m goal q checked (is_path laws.follows m goal f ok g))) in
     let fit : FitsForm sig [] pre = precondition-fits laws.replaces sig behind target p fit_behind t written.fits in
-    let whole = refuting_all_by premises m held more goal in
+    let whole = refuting_where premises m held more goal in
     let ea : IsEa whole =
     all-ea _ (each_part IsEa goal.stage (all_of m.axioms) (all_of held) pre more
     (all-ea m.axioms checked.fragment.axioms) (universal-ea laws.universal held added.universal) ae
@@ -76,7 +76,7 @@ sentences_fit laws premises m held more goal checked ok g added =
     record { fragment = ea; fits = all }
 
 pub no_parts : NoPartsAreAdded
-no_parts premises m held goal = ap all_of (append-nil (refuting_parts_by premises m held goal))
+no_parts premises m held goal = ap all_of (append-nil (refuting_parts premises m held goal))
 
 pub conjectures_are_added : ConjecturesAreAdded
 conjectures_are_added m more checked e f =

@@ -12,7 +12,7 @@ use Rattle.rml_command.specs.Trees.{PrimitiveTree}
 use Rattle.fol_formula.specs.Sentences.{is_true}
 use Rattle.rml_command.specs.Outcomes.{Outcome, aborted, ended, follow_path}
 use Rattle.rml_command.specs.Models.{ModelTree, FitsModel}
-use Rattle.rml_command.specs.Goals.{goal_path, IsGoal, FailsGoal}
+use Rattle.rml_command.specs.Goals.{goal_path, IsGoal, FailsGoal, IsCounterexample}
 use Rattle.rml_command.specs.Fresh.{havocked}
 use Rattle.rml_command.specs.declared.havoc.Havoc.{Havoc}
 use Rattle.rml_command.specs.declared.goal.Goal.{Goal}
@@ -20,14 +20,14 @@ use Rattle.rml_command.specs.declared.goal.About.{About}
 use Rattle.rml_command.specs.declared.goal.About.TheVariants as about
 use Rattle.rml_wp.specs.declared.premises.Premises.{Premises}
 use Rattle.rml_wp.specs.declared.premises.Premises.TheVariants.{All, Affected}
-use Rattle.rml_wp.specs.Preconditions.{path_or_none, answered, refuting_of, refuting_by}
-use Rattle.rml_wp.specs.Laws.{IsCounterexampleBy, IsCounterexampleUnder, goal_havocs}
+use Rattle.rml_wp.specs.Preconditions.{path_or_none, answered, refuting}
+use Rattle.rml_wp.specs.Laws.{IsCounterexampleUnder, goal_havocs}
 use Rattle.rml_wp.specs.Answered.{SignaturesAreAnswered, IsCutOfSatisfying, CounterexamplesAreCuts}
 use Rattle.rml_wp.proofs.Affected.{Spares}
 use Rattle.rml_wp.proofs.Exactly.{Follows, same_path}
 use Rattle.rml_wp.proofs.Under.{under-count}
 use Rattle.rml_wp.proofs.TraceTables.{TablesAreTaken, IsTaken, taken}
-use Rattle.rml_wp.proofs.OverFresh.{is_path, path, grows, wide, same, refuting_by_exact, lean_same}
+use Rattle.rml_wp.proofs.OverFresh.{is_path, path, grows, wide, same, refuting_exact, lean_same}
 
 has-outcome : (m : ModelTree) (a : About) (values : List ℕ) (x : Option Outcome) → FailsGoal m a values x
     → (o : Outcome) × (x ≡ Some o)
@@ -37,7 +37,7 @@ has-outcome m (about.Conjecture k) values x h = (ended h.1, h.3)
 module _ (laws : Follows) (takes : TablesAreTaken) (extend : StructuresExtendByTables) (m : ModelTree) (goal : Goal)
     (f : FitsModel m) (ok : IsSignature m.signature) (g : IsGoal m goal) (held : List FormTree)
     (held_fit : AllByRecursion (FitsForm (symbols m.signature) []) held) (s : Tables) (havocs : List Havoc)
-    (values : List ℕ) (h : IsCounterexampleBy m held goal s havocs values) where
+    (values : List ℕ) (h : IsCounterexample m held goal s havocs values) where
   abbrev small : Symbols
   small = symbols m.signature
 
@@ -72,7 +72,7 @@ module _ (laws : Follows) (takes : TablesAreTaken) (extend : StructuresExtendByT
   under =
       let hs = goal_havocs m goal whole trace.elements in
       let fails = subst (FailsGoal m goal.about values) (there.1 ∙ sym (trace.same whole n refl grown.table)) h.fails in
-      let shown : IsCounterexampleBy m held goal s hs values = record {
+      let shown : IsCounterexample m held goal s hs values = record {
         path = q;
         is_path = is_path laws m goal f ok g;
         structure = h.structure;
@@ -82,23 +82,23 @@ module _ (laws : Follows) (takes : TablesAreTaken) (extend : StructuresExtendByT
       } in
       record {
         count = trace.count small n;
-        shown = subst (λ z. IsCounterexampleBy m held goal z hs values) (sym grown.without) shown;
+        shown = subst (λ z. IsCounterexample m held goal z hs values) (sym grown.without) shown;
       }
 
   pub cut-of : (spares : Spares) (premises : Premises)
-      → IsCutOfSatisfying m goal (refuting_by premises m held goal) s
+      → IsCutOfSatisfying m goal (refuting premises m held goal) s
   cut-of spares premises = record {
     whole = whole;
     fits = grown.fits;
     cut = sym grown.without;
     holds =
-        let full = (refuting_by_exact laws m held goal whole f ok held_fit g grown.fits).1
+        let full = (refuting_exact laws m held goal whole f ok held_fit g grown.fits).1
         (trace.elements, values, under) in
         holds-by premises full;
   }
     where
-      holds-by : (premises : Premises) → is_true whole (refuting_of m held goal) ≡ true
-          → is_true whole (refuting_by premises m held goal) ≡ true
+      holds-by : (premises : Premises) → is_true whole (refuting All m held goal) ≡ true
+          → is_true whole (refuting premises m held goal) ≡ true
       holds-by All full = full
       holds-by Affected full = lean_same laws spares m held goal whole f ok g grown.fits ∙ full
 

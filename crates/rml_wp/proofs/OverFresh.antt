@@ -15,8 +15,8 @@ use Rattle.rml_command.specs.Trees.{PrimitiveTree, assume, set_rel, set_fun, hav
 use Rattle.fol_formula.specs.Sentences.{is_true, satisfies, all_of}
 use Rattle.rml_command.specs.Outcomes.{Outcome, ended, aborted, follow_path}
 use Rattle.rml_command.specs.Paths.{has_abort, EndsAtAbort, havoc_count}
-use Rattle.rml_command.specs.Models.{ModelTree, FitsModel, FitsPath}
-use Rattle.rml_command.specs.Goals.{goal_path, IsGoal, is_for, FailsGoal}
+use Rattle.rml_command.specs.Models.{ModelTree, FitsModel, FitsPath, FitsSteps}
+use Rattle.rml_command.specs.Goals.{goal_path, IsGoal, is_for, FailsGoal, is_allowed}
 use Rattle.rml_command.specs.Fresh.{written, havocked, havocs_under, cut_outcome}
 use Rattle.rml_command.specs.declared.havoc.Havoc.TheVariants.{Element}
 use Rattle.rml_command.specs.declared.goal.Goal.{Goal}
@@ -24,18 +24,16 @@ use Rattle.rml_command.specs.declared.goal.Stage.{Stage}
 use Rattle.rml_command.specs.declared.goal.Stage.TheVariants as stage
 use Rattle.rml_command.specs.declared.goal.About.{About}
 use Rattle.rml_command.specs.declared.goal.About.TheVariants as about
-use Rattle.rml_command.specs.Models.{FitsSteps}
 use Rattle.rml_wp.specs.declared.premises.Premises.TheVariants.{All, Affected}
-use Rattle.rml_wp.specs.Preconditions.{target_of, path_or_none, answered, written_path, goal_precondition, refuting_of}
-use Rattle.rml_wp.specs.Preconditions.{goal_precondition_by}
-use Rattle.rml_wp.specs.Laws.{IsFine, is_allowed_by, IsCounterexampleUnder, GoalPreconditionIsExact}
-use Rattle.rml_wp.specs.Laws.{RefutingByIsExact, RefutingIsExact, AffectedRefutingIsSame}
+use Rattle.rml_wp.specs.Preconditions.{target_of, path_or_none, answered, written_path, goal_precondition, refuting}
+use Rattle.rml_wp.specs.Laws.{IsFine, IsCounterexampleUnder, GoalPreconditionIsExact}
+use Rattle.rml_wp.specs.Laws.{RefutingIsExact, AffectedRefutingIsSame}
 use Rattle.rml_wp.proofs.WithoutTables.{steps-fit}
 use Rattle.rml_wp.proofs.Affected.{Spares, affected_suffice, starts_same}
 use Rattle.rml_wp.proofs.StepTruth.{all_fit}
 use Rattle.rml_wp.proofs.Exact.{never_both, true_from, fine, some_is_bad}
 use Rattle.rml_wp.proofs.Exactly.{Follows, same_path, found, forbidden, parts, whole, negated, false_from, target-fits}
-use Rattle.rml_wp.proofs.Exactly.{has_target, all_held}
+use Rattle.rml_wp.proofs.Exactly.{has_target}
 use Rattle.rml_wp.proofs.Under.{steps-of, stops-of, under-count, elements-taken, end-fits, same-truth, fails-there}
 use Rattle.rml_wp.proofs.Under.{fails-here}
 
@@ -145,7 +143,7 @@ module _ (laws : Follows) (m : ModelTree) (goal : Goal) (f : FitsModel m) (ok : 
     has-cut (ended new) = (ended (reduct small new), refl)
     has-cut aborted = (aborted, refl)
 
-    pub precondition-says : is_true t (goal_precondition m goal) ≡ true → (xs : List ℕ) (o : Outcome)
+    pub precondition-says : is_true t (goal_precondition All m goal) ≡ true → (xs : List ℕ) (o : Outcome)
         → length xs ≡ havoc_count p → follow_path m.axioms q (havocs_under t n q xs) (reduct small t) ≡ Some o
         → IsFine target o
     precondition-says e xs o long h =
@@ -158,9 +156,9 @@ module _ (laws : Follows) (m : ModelTree) (goal : Goal) (f : FitsModel m) (ok : 
 
     pub precondition-holds : ((xs : List ℕ) (o : Outcome) → length xs ≡ havoc_count p
         → follow_path m.axioms q (havocs_under t n q xs) (reduct small t) ≡ Some o → IsFine target o)
-        → is_true t (goal_precondition m goal) ≡ true
+        → is_true t (goal_precondition All m goal) ≡ true
     precondition-holds each =
-        true_from (is_true t (goal_precondition m goal)) (λ e.
+        true_from (is_true t (goal_precondition All m goal)) (λ e.
         let b = some_is_bad laws.all_below laws.any_below laws.replaces laws.keep more m.axioms target axioms-wide
         target-wide p t steps fits e in
         let h = (laws.followed m.axioms p t b.outcome).0 b.has in
@@ -181,7 +179,7 @@ goal_precondition_exact laws m goal t f ok g fits = (
 
 allowed-same : (m : ModelTree) (held : List FormTree) (st : Stage) (a b : Tables)
     → satisfies a m.axioms ≡ satisfies b m.axioms → satisfies a held ≡ satisfies b held
-    → is_allowed_by m held st a ≡ is_allowed_by m held st b
+    → is_allowed m held st a ≡ is_allowed m held st b
 allowed-same m held stage.Init a b e h = e
 allowed-same m held (stage.Action k) a b e h = ap (λ x. x && satisfies a held) e ∙ ap (λ x. satisfies b m.axioms && x) h
 allowed-same m held stage.Final a b e h = ap (λ x. x && satisfies a held) e ∙ ap (λ x. satisfies b m.axioms && x) h
@@ -192,7 +190,7 @@ module _ (laws : Follows) (m : ModelTree) (held : List FormTree) (goal : Goal) (
   abbrev cut : Tables
   cut = reduct (symbols m.signature) t
 
-  pub allowed : is_allowed_by m held goal.stage t ≡ is_allowed_by m held goal.stage cut
+  pub allowed : is_allowed m held goal.stage t ≡ is_allowed m held goal.stage cut
   allowed =
       allowed-same m held goal.stage t cut
       (same laws m goal f ok g t fits t (all_of m.axioms) fits (all_fit (symbols m.signature) m.axioms f.axioms))
@@ -200,7 +198,7 @@ module _ (laws : Follows) (m : ModelTree) (held : List FormTree) (goal : Goal) (
 
   -- the goal fails along the path that is written out, with these elements
   pub is-under : (xs values : List ℕ) → length xs ≡ havoc_count (written_path m goal)
-      → is_allowed_by m held goal.stage t ≡ true
+      → is_allowed m held goal.stage t ≡ true
       → FailsGoal m goal.about values (follow_path m.axioms (written_path m goal) (map Element xs) t)
       → IsCounterexampleUnder m held goal t xs values
   is-under xs values long ok_there fails =
@@ -223,16 +221,16 @@ module _ (laws : Follows) (m : ModelTree) (held : List FormTree) (goal : Goal) (
         };
       }
 
-  refuting-shows : is_true t (refuting_of m held goal) ≡ true
+  refuting-shows : is_true t (refuting All m held goal) ≡ true
       → (elements : List ℕ) × (values : List ℕ) × IsCounterexampleUnder m held goal t elements values
   refuting-shows e =
       let more = symbols (answered m goal) in
       let p = written_path m goal in
       let target = target_of m goal.about in
-      let h = parts m held goal.stage t (negation (goal_precondition m goal)) e in
+      let h = parts m held goal.stage t (negation (goal_precondition All m goal)) e in
       let b = some_is_bad laws.all_below laws.any_below laws.replaces laws.keep more m.axioms target
       (axioms-wide laws m goal f ok g) (target-wide laws m goal f ok g) p t (steps laws m goal f ok g) fits
-      (negated (is_true t (goal_precondition m goal)) h.1) in
+      (negated (is_true t (goal_precondition All m goal)) h.1) in
       let w = found laws m p t goal.about (has_target m goal.stage goal.about g.about) (kind laws m goal f ok g)
       b.outcome b.has b.bad in
       let r = elements-taken laws.taken m.axioms more p w.havocs t w.outcome (steps laws m goal f ok g)
@@ -245,7 +243,7 @@ module _ (laws : Follows) (m : ModelTree) (held : List FormTree) (goal : Goal) (
       )
 
   refuting-holds : ((elements : List ℕ) × (values : List ℕ) × IsCounterexampleUnder m held goal t elements values)
-      → is_true t (refuting_of m held goal) ≡ true
+      → is_true t (refuting All m held goal) ≡ true
   refuting-holds w =
       let small = symbols m.signature in
       let more = symbols (answered m goal) in
@@ -260,32 +258,25 @@ module _ (laws : Follows) (m : ModelTree) (held : List FormTree) (goal : Goal) (
       ∙ followed-under laws m goal f ok g t fits w.0) h.fails in
       let here = fails-here laws.reduces laws.own small more (grows laws m goal f ok g).grows m f.conjectures w.1
       outcome (λ new e. ends laws m goal f ok g t fits w.0 new e) goal.about there in
-      whole m held goal.stage t (negation (goal_precondition m goal)) (allowed ∙ h.allowed)
-      (ap not (false_from (is_true t (goal_precondition m goal))
+      whole m held goal.stage t (negation (goal_precondition All m goal)) (allowed ∙ h.allowed)
+      (ap not (false_from (is_true t (goal_precondition All m goal))
       (λ e. forbidden laws m p t goal.about (map Element w.0) w.1 (length-map w.0 (λ x. Element x) ∙ w.2.count) here
       (λ o has. fine laws.all_below laws.any_below laws.replaces laws.keep more m.axioms target
       (axioms-wide laws m goal f ok g) (target-wide laws m goal f ok g) p t o (steps laws m goal f ok g) fits e has))))
 
-pub refuting_by_exact : Follows → RefutingByIsExact
-refuting_by_exact laws m held goal t f ok hf g fits = (
+pub refuting_exact : Follows → RefutingIsExact
+refuting_exact laws m held goal t f ok hf g fits = (
   λ e. refuting-shows laws m held goal t f ok hf g fits e,
   λ w. refuting-holds laws m held goal t f ok hf g fits w,
 )
-
-pub refuting_exact : Follows → RefutingIsExact
-refuting_exact laws m goal t f ok g fits =
-    let h = refuting_by_exact laws m m.conjectures goal t f ok f.conjectures g fits in (
-      λ e. let w = h.0 e in (w.0, w.1, w.2.count, (all_held m goal _ _ w.1).0 w.2.shown),
-      λ w. h.1 (w.0, w.1, record { count = w.2; shown = (all_held m goal _ _ w.1).1 w.3 }),
-    )
 
 -- with the premises about the changed symbol alone
 pub lean_same : Follows → Spares → AffectedRefutingIsSame
 lean_same laws spares m held goal t f ok g fits =
     let more = symbols (answered m goal) in
     let p = written_path m goal in
-    starts_same goal.stage t (all_of m.axioms) (all_of held) (goal_precondition_by Affected m goal)
-    (goal_precondition_by All m goal)
+    starts_same goal.stage t (all_of m.axioms) (all_of held) (goal_precondition Affected m goal)
+    (goal_precondition All m goal)
     (λ e. affected_suffice spares laws.replaces laws.keep more m.axioms (target_of m goal.about) p t
     (axioms-wide laws m goal f ok g) (target-wide laws m goal f ok g) (steps-fit more p (steps laws m goal f ok g)) fits
     e)

@@ -13,7 +13,8 @@ use Rattle.rml_command.specs.Goals.{IsGoal}
 use Rattle.rml_command.specs.declared.goal.Goal.{Goal}
 use Rattle.rml_wp.specs.declared.premises.Premises.{Premises}
 use Rattle.rml_wp.specs.declared.premises.Premises.TheVariants.{All}
-use Rattle.rml_wp.specs.Preconditions.{refuting_parts_by, refuting_by, conjectures_of, answered}
+use Rattle.rml_wp.specs.Preconditions.{refuting_parts, refuting, answered}
+use Rattle.rml_command.specs.InductiveSets.{conjectures_of}
 
 -- what is asked of sentences that hold before a stage in place of the conjectures, and of further parts of a refuting
 -- sentence
@@ -24,18 +25,14 @@ pub record AreAdded (m : ModelTree) (held more : List FormTree) : Type 0 where
   pub others_fit : AllByRecursion (FitsForm (symbols m.signature) []) more
 
 -- the refuting sentence with these further parts
-abbrev pub refuting_all_by : Premises → ModelTree → List FormTree → List FormTree → Goal → FormTree
-refuting_all_by premises m held more goal = all_of (refuting_parts_by premises m held goal ++ more)
-
--- with all axioms
-abbrev pub refuting_all : ModelTree → List FormTree → List FormTree → Goal → FormTree
-refuting_all m held more goal = refuting_all_by All m held more goal
+abbrev pub refuting_where : Premises → ModelTree → List FormTree → List FormTree → Goal → FormTree
+refuting_where premises m held more goal = all_of (refuting_parts premises m held goal ++ more)
 
 -- it is an exists-forall sentence over the answered signature
 pub record IsRefutingSentence (premises : Premises) (m : ModelTree) (held more : List FormTree)
     (goal : Goal) : Type 0 where
-  pub fragment : IsEa (refuting_all_by premises m held more goal)
-  pub fits : FitsForm (symbols (answered m goal)) [] (refuting_all_by premises m held more goal)
+  pub fragment : IsEa (refuting_where premises m held more goal)
+  pub fits : FitsForm (symbols (answered m goal)) [] (refuting_where premises m held more goal)
 
 -- So is the refuting sentence of each goal of a checked model, with all that may be added.
 abbrev pub RefutingSentencesFit : Type 0
@@ -46,7 +43,7 @@ RefutingSentencesFit = (premises : Premises) (m : ModelTree) (held more : List F
 abbrev pub NoPartsAreAdded : Type 0
 NoPartsAreAdded =
     (premises : Premises) (m : ModelTree) (held : List FormTree) (goal : Goal)
-    → refuting_all_by premises m held [] goal ≡ refuting_by premises m held goal
+    → refuting_where premises m held [] goal ≡ refuting premises m held goal
 
 -- Conjectures of a checked model may hold in place of all, beside exists-forall sentences of the model.
 pub record AddsConjectures (m : ModelTree) (more : List FormTree) : Type 0 where

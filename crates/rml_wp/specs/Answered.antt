@@ -10,12 +10,11 @@ use Rattle.fol_formula.specs.Syntax.{FormTree}
 use Rattle.fol_formula.specs.Fits.{FitsForm}
 use Rattle.fol_formula.specs.Sentences.{is_true}
 use Rattle.rml_command.specs.Models.{ModelTree, FitsModel}
-use Rattle.rml_command.specs.Goals.{IsGoal}
+use Rattle.rml_command.specs.Goals.{IsGoal, IsCounterexample}
 use Rattle.rml_command.specs.declared.goal.Goal.{Goal}
 use Rattle.rml_command.specs.declared.havoc.Havoc.{Havoc}
 use Rattle.rml_wp.specs.declared.premises.Premises.{Premises}
-use Rattle.rml_wp.specs.Preconditions.{answered, refuting_by}
-use Rattle.rml_wp.specs.Laws.{IsCounterexampleBy}
+use Rattle.rml_wp.specs.Preconditions.{answered, refuting}
 
 -- The answered signature has the model's symbols, and each order of the model's sorts is one of its own. The model's
 -- sentences are sentences over it, and true in a structure exactly where they are in the structure that is cut to the
@@ -48,5 +47,5 @@ abbrev pub CounterexamplesAreCuts : Type 0
 CounterexamplesAreCuts = (premises : Premises) (m : ModelTree) (held : List FormTree) (goal : Goal) (s : Tables)
     (havocs : List Havoc) (values : List ℕ) → FitsModel m → IsSignature m.signature
     → AllByRecursion (FitsForm (symbols m.signature) []) held → IsGoal m goal
-    → IsCounterexampleBy m held goal s havocs values
-    → IsCutOfSatisfying m goal (refuting_by premises m held goal) s
+    → IsCounterexample m held goal s havocs values
+    → IsCutOfSatisfying m goal (refuting premises m held goal) s

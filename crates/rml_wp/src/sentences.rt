@@ -9,9 +9,8 @@ ghost use Rattle.fol_formula.specs.Fits.{BoundForm};
 ghost use Rattle.fol_formula.specs.Fragments.{IsEa};
 ghost use Rattle.fol_formula.specs.Sentences.{all_of};
 ghost use Rattle.rml_command.specs.Goals.{IsGoal};
-ghost use Rattle.rml_wp.specs.Preconditions.{goal_precondition, goal_passes_limit, conjectures_of, parts_before};
-ghost use Rattle.rml_wp.specs.Preconditions.{goal_precondition_by, goal_passes_limit_by, refuting_of, refuting_by};
-ghost use Rattle.rml_wp.specs.Preconditions.{answered};
+ghost use Rattle.rml_wp.specs.Preconditions.{answered, goal_precondition, goal_passes_limit, refuting, parts_before};
+ghost use Rattle.rml_command.specs.InductiveSets.{conjectures_of};
 ghost use Rattle.fol_sig.specs.Symbols.{symbols};
 ghost use Rattle.rml_command.specs.Models.{FitsPath};
 ghost use Rattle.rml_command.specs.Fresh.{with_fresh};
@@ -30,27 +29,11 @@ use rml_command::{Checked, Goal, Model, Path, Primitive, Stage};
 use std::alloc::{AllocError, Global};
 
 /// The precondition of a goal's path, over the answered signature: that of the model, with a fresh relation for
-/// each havoc of a relation on the path. It is true exactly where, under the tables of the fresh relations, no
-/// outcome of the path aborts and, for a conjecture, each end satisfies it. It is refused where that of some rest of
-/// the path, the empty one too, has over 1,000,000 nodes or is over 1,000 deep.
+/// each havoc of a relation on the path. `premises` says which axioms are premises behind an update or a havoc. In a
+/// structure that satisfies the axioms it is true exactly where, under the tables of the fresh relations, no outcome of
+/// the path aborts and, for a conjecture, each end satisfies it. It is refused where that of some rest of the path, the
+/// empty one too, has over 1,000,000 nodes or is over 1,000 deep.
 pub fn precondition(
-    alloc: Global,
-    checked: &Checked,
-    goal: &Goal,
-) -> Result<(Signature, Ae), Refused<FormulaLimit>>
-    requires { IsGoal checked.now goal.now }
-    ensures signature { IfOk result (λ r. r.0 ≡ answered checked.now goal.now) }
-    ensures precondition { IfOk result (λ r. r.1 ≡ goal_precondition checked.now goal.now) }
-    ensures within { OnOk result (goal_passes_limit checked.now goal.now ≡ false) }
-    ensures limit { IfErr result (Because (λ _. IsTrue (goal_passes_limit checked.now goal.now))) }
-{
-    let answered = precondition_by(alloc, checked, Premises::All, goal)?;
-    Ok(answered)
-}
-
-/// The same, where these axioms are premises behind a step. In structures that satisfy the axioms it is true where the
-/// other is.
-pub fn precondition_by(
     alloc: Global,
     checked: &Checked,
     premises: Premises,
@@ -58,9 +41,9 @@ pub fn precondition_by(
 ) -> Result<(Signature, Ae), Refused<FormulaLimit>>
     requires { IsGoal checked.now goal.now }
     ensures signature { IfOk result (λ r. r.0 ≡ answered checked.now goal.now) }
-    ensures precondition { IfOk result (λ r. r.1 ≡ goal_precondition_by premises checked.now goal.now) }
-    ensures within { OnOk result (goal_passes_limit_by premises checked.now goal.now ≡ false) }
-    ensures limit { IfErr result (Because (λ _. IsTrue (goal_passes_limit_by premises checked.now goal.now))) }
+    ensures precondition { IfOk result (λ r. r.1 ≡ goal_precondition premises checked.now goal.now) }
+    ensures within { OnOk result (goal_passes_limit premises checked.now goal.now ≡ false) }
+    ensures limit { IfErr result (Because (λ _. IsTrue (goal_passes_limit premises checked.now goal.now))) }
 {
     fol_formula::inclusion();
     fol_formula::indices();
@@ -76,24 +59,9 @@ pub fn precondition_by(
     Ok((answered, Ae::new(Sentence::of(counted.formula))))
 }
 
-/// The sentence that a structure satisfies exactly where the goal has a counterexample from it.
+/// The sentence that a structure satisfies exactly where the goal has a counterexample from it, whichever axioms are
+/// premises behind an update or a havoc.
 pub fn refuting(
-    alloc: Global,
-    checked: &Checked,
-    goal: &Goal,
-) -> Result<(Signature, Ea), Refused<FormulaLimit>>
-    requires { IsGoal checked.now goal.now }
-    ensures signature { IfOk result (λ r. r.0 ≡ answered checked.now goal.now) }
-    ensures sentence { IfOk result (λ r. r.1 ≡ refuting_of checked.now checked.now.conjectures goal.now) }
-    ensures within { OnOk result (goal_passes_limit checked.now goal.now ≡ false) }
-    ensures limit { IfErr result (Because (λ _. IsTrue (goal_passes_limit checked.now goal.now))) }
-{
-    let sentence = refuting_by(alloc, checked, Premises::All, goal)?;
-    Ok(sentence)
-}
-
-/// The same, where these axioms are premises behind a step: another sentence, which the same structures satisfy.
-pub fn refuting_by(
     alloc: Global,
     checked: &Checked,
     premises: Premises,
@@ -101,36 +69,54 @@ pub fn refuting_by(
 ) -> Result<(Signature, Ea), Refused<FormulaLimit>>
     requires { IsGoal checked.now goal.now }
     ensures signature { IfOk result (λ r. r.0 ≡ answered checked.now goal.now) }
-    ensures sentence { IfOk result (λ r. r.1 ≡ refuting_by premises checked.now checked.now.conjectures goal.now) }
-    ensures within { OnOk result (goal_passes_limit_by premises checked.now goal.now ≡ false) }
-    ensures limit { IfErr result (Because (λ _. IsTrue (goal_passes_limit_by premises checked.now goal.now))) }
+    ensures sentence { IfOk result (λ r. r.1 ≡ refuting premises checked.now checked.now.conjectures goal.now) }
+    ensures within { OnOk result (goal_passes_limit premises checked.now goal.now ≡ false) }
+    ensures limit { IfErr result (Because (λ _. IsTrue (goal_passes_limit premises checked.now goal.now))) }
 {
-    fol_formula::indices();
-    fol_formula::inclusion();
-    let (answered, precondition) = precondition_by(alloc, checked, premises, goal)?;
-    let model = checked.model();
-    let held = held_before(alloc, model, goal.stage)?;
-    let sentence = with_allowed(alloc, model, held, goal.stage, precondition)?;
+    let (answered, precondition) = precondition(alloc, checked, premises, goal)?;
+    let sentence = refuting_from(alloc, checked, premises, goal, precondition)?;
     Ok((answered, sentence))
 }
 
-/// The same, where before the stage the conjectures of these numbers hold in place of all.
+/// The same, given the goal's precondition.
+pub fn refuting_from(
+    alloc: Global,
+    checked: &Checked,
+    premises: Premises,
+    goal: &Goal,
+    precondition: Ae,
+) -> Mem<Ea>
+    requires goal { IsGoal checked.now goal.now }
+    requires precondition { precondition ≡ goal_precondition premises checked.now goal.now }
+    ensures { IfOk result (λ s. s ≡ refuting premises checked.now checked.now.conjectures goal.now) }
+{
+    fol_formula::indices();
+    fol_formula::inclusion();
+    let model = checked.model();
+    let held = held_before(alloc, model, goal.stage)?;
+    let sentence = with_allowed(alloc, model, held, goal.stage, precondition)?;
+    Ok(sentence)
+}
+
+/// The refuting sentence where before the stage the conjectures of these numbers hold in place of all.
 pub fn refuting_with(
     alloc: Global,
     checked: &Checked,
+    premises: Premises,
     goal: &Goal,
     held: &[u32],
 ) -> Result<(Signature, Ea), Refused<FormulaLimit>>
     requires goal { IsGoal checked.now goal.now }
     requires held { All (λ k. k < length checked.now.conjectures) held.now }
     ensures signature { IfOk result (λ r. r.0 ≡ answered checked.now goal.now) }
-    ensures sentence { IfOk result (λ r. r.1 ≡ refuting_of checked.now (conjectures_of checked.now held.now) goal.now) }
-    ensures within { OnOk result (goal_passes_limit checked.now goal.now ≡ false) }
-    ensures limit { IfErr result (Because (λ _. IsTrue (goal_passes_limit checked.now goal.now))) }
+    ensures sentence { IfOk result
+        (λ r. r.1 ≡ refuting premises checked.now (conjectures_of checked.now held.now) goal.now) }
+    ensures within { OnOk result (goal_passes_limit premises checked.now goal.now ≡ false) }
+    ensures limit { IfErr result (Because (λ _. IsTrue (goal_passes_limit premises checked.now goal.now))) }
 {
     fol_formula::indices();
     fol_formula::inclusion();
-    let (answered, precondition) = precondition(alloc, checked, goal)?;
+    let (answered, precondition) = precondition(alloc, checked, premises, goal)?;
     let model = checked.model();
     let held = chosen_before(alloc, model, held, goal.stage)?;
     let sentence = with_allowed(alloc, model, held, goal.stage, precondition)?;

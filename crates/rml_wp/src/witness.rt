@@ -6,11 +6,10 @@ ghost use Rattle.fol_formula.specs.View.{form};
 ghost use Rattle.fol_formula.specs.Counts.{saturated};
 ghost use Rattle.rml_command.specs.View.{primitive as primitive_view};
 ghost use Rattle.rml_command.specs.Goals.{IsGoal};
-ghost use Rattle.rml_wp.specs.Preconditions.{target_of};
-ghost use Rattle.rml_wp.specs.Witnesses.{witness_places_by, values_at};
+ghost use Rattle.rml_wp.specs.Preconditions.{target_of, answered as answered_of};
+ghost use Rattle.rml_wp.specs.Witnesses.{witness_places, values_at};
 ghost use Rattle.rml_wp.specs.Consumed.{next_of, behind_of, counts_of, read_havocs, behind_path, read_values};
 ghost use Rattle.fol_sig.specs.Symbols.{FitsStructure, symbols};
-ghost use Rattle.rml_wp.specs.Preconditions.{answered as answered_of};
 ghost use Rattle.rml_wp.specs.Laws.{HasTarget, goal_havocs};
 ghost use Rattle.rml_wp.specs.WitnessLaws.{GivesCounterexamples};
 
@@ -42,9 +41,9 @@ pub fn read_witness(
 ) -> Mem<Witness>
     requires { IsGoal checked.now goal.now }
     ensures havoc { IfOk result
-        (λ w. w.havoc ≡ values_at witnesses.now (witness_places_by premises checked.now goal.now).havocs) }
+        (λ w. w.havoc ≡ values_at witnesses.now (witness_places premises checked.now goal.now).havocs) }
     ensures values { IfOk result
-        (λ w. w.values ≡ values_at witnesses.now (witness_places_by premises checked.now goal.now).values) }
+        (λ w. w.values ≡ values_at witnesses.now (witness_places premises checked.now goal.now).values) }
     ensures counterexamples { IfOk result
         (λ w. GivesCounterexamples premises checked.now goal.now witnesses.now w.havoc w.values) }
 {

@@ -5,7 +5,7 @@ use crate::ground::ground_of;
 use base::{Mem, Refused};
 use fol_subst::FormulaLimit;
 use rml_command::{Checked, Goal};
-use rml_wp::{precondition, refuting};
+use rml_wp::{Premises, precondition, refuting};
 use std::alloc::{AllocError, Global};
 
 fn precondition_nodes(
@@ -15,7 +15,7 @@ fn precondition_nodes(
 ) -> Result<u64, Refused<FormulaLimit>>
     requires { IsGoal checked.now goal.now }
 {
-    let (answered, precondition) = precondition(alloc, checked, goal)?;
+    let (answered, precondition) = precondition(alloc, checked, Premises::All, goal)?;
     let nodes = precondition.sentence().nodes();
     drop(precondition);
     drop(answered);
@@ -28,7 +28,7 @@ fn refuting_of(alloc: Global, checked: &Checked, goal: &Goal) -> Mem<String>
     rml_wp::sentence_law();
     rml_wp::answered_goal(checked, goal);
     let _checked = checked.model();
-    match refuting(alloc, checked, goal) {
+    match refuting(alloc, checked, Premises::All, goal) {
         Ok((answered, sentence)) => {
             let nodes = sentence.sentence().nodes();
             let ground = ground_of(alloc, &answered, checked.strata(), &sentence);

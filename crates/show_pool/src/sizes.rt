@@ -4,8 +4,9 @@ ghost use Rattle.fol_pool.specs.Trees.{HasForm, form_at};
 ghost use Rattle.rml_command.specs.Models.{ModelTree};
 ghost use Rattle.rml_command.specs.Goals.{IsGoal};
 ghost use Rattle.rml_wp.specs.Preconditions.{answered as answered_of};
-ghost use Rattle.rml_wp.specs.Added.{refuting_all};
+ghost use Rattle.rml_wp.specs.Added.{refuting_where};
 ghost use Rattle.pool_wp.specs.Sharing.{IsPoolOf};
+ghost use Rattle.rml_wp.specs.declared.premises.Premises.TheVariants.{All};
 
 use base::{Mem, Refused};
 use fol_pool::Node;
@@ -69,7 +70,7 @@ fn measured(
     requires answered { answered.now ≡ answered_of checked.now goal.now }
     requires there { HasForm shared.old.pool node.0 }
     requires sentence { form_at shared.old.pool node.0
-        ≡ refuting_all checked.now checked.now.conjectures [] goal.now }
+        ≡ refuting_where All checked.now checked.now.conjectures [] goal.now }
     ensures pool { shared.new.pool ≡ shared.old.pool }
     ensures shared { (m : ModelTree) → IsPoolOf m shared.old → IsPoolOf m shared.new }
 {

@@ -33,7 +33,7 @@ module _ (ends : PathsEndAtAbort) (followed : PathHasFollowedOutcomes) (kinds : 
   abbrev stopped : List PrimitiveTree
   stopped = joined m legs ++ abort ∷ []
 
-  none_by : HasNone (stopped_model m legs) (walk_goal about.Abort) → (s : Tables) (o : Outcome)
+  none_by : HasNone (stopped_model m legs) m.conjectures (walk_goal about.Abort) → (s : Tables) (o : Outcome)
       → FitsStructure (symbols m.signature) s → satisfies s m.axioms ≡ true
       → PathHasOutcome m.axioms (joined m legs) s o
       → ⊥
@@ -50,7 +50,7 @@ module _ (ends : PathsEndAtAbort) (followed : PathHasFollowedOutcomes) (kinds : 
         fails = (g.ends, refl);
       })
 
-  has_none : HasNone (stopped_model m legs) (walk_goal about.Abort) → HasNoOutcome m legs
+  has_none : HasNone (stopped_model m legs) m.conjectures (walk_goal about.Abort) → HasNoOutcome m legs
   has_none none s o fits lawful along = none_by none s o fits lawful (joined_outcome m legs s o along)
 
 pub stopped_models_tell : PathsEndAtAbort → PathHasFollowedOutcomes → PathsKeepKind → StoppedModelsTell

@@ -7,13 +7,14 @@ use Rattle.rml_wp.specs.Preconditions.{goal_precondition}
 use Rattle.pool_wp.specs.Standing.{AreNodesOf, held_row}
 use Rattle.pool_wp.specs.Staying.{nodes_stay}
 use Rattle.pool_wp.proofs.Allowed.{allowed_row}
+use Rattle.rml_wp.specs.declared.premises.Premises.TheVariants.{All}
 use Rattle.pool_wp.proofs.refuted.refuting.Goals as goal
 
 pub returns-clause-node : goal.returns-clause-node
 returns-clause-node c =
     let m = c.args.checked.now in
     let stage = c.args.goal.now.stage in
-    let p = goal_precondition m c.args.goal.now in
+    let p = goal_precondition All m c.args.goal.now in
     let nodes = c.args.nodes.now in
     let two = c.alone.new.pool in
     let three = c.with_held.new.pool in

@@ -5,7 +5,7 @@ use Rattle.fol_sig.specs.Strata.{IsStrata}
 use Rattle.fol_formula.specs.Syntax.{FormTree}
 use Rattle.fol_formula.specs.Fits.{FitsForm}
 use Rattle.rml_wp.specs.declared.premises.Premises.TheVariants.{All}
-use Rattle.rml_wp.specs.Preconditions.{answered, refuting_of}
+use Rattle.rml_wp.specs.Preconditions.{answered, refuting}
 use Rattle.show_goals.proofs.sentences.refuting_of.Goals as goal
 
 pub ground_of-ground-requires-clause-strata : goal.ground_of-ground-requires-clause-strata
@@ -24,5 +24,5 @@ ground_of-ground-requires-clause-fits c =
     let alone = c.sentence_law.ensures.alone All m m.conjectures of in
     let fits = subst (FitsForm (symbols (answered m of)) []) alone sentence.fits in
     subst (λ (p : FormTree). FitsForm (symbols c.in-Ok.answered) [] p) (sym c.in-Ok.ensures.sentence)
-    (subst (λ (d : Declared). FitsForm (symbols d) [] (refuting_of m m.conjectures of)) (sym c.in-Ok.ensures.signature)
+    (subst (λ (d : Declared). FitsForm (symbols d) [] (refuting All m m.conjectures of)) (sym c.in-Ok.ensures.signature)
     fits)

@@ -3,7 +3,7 @@ use Rattle.fol_sig.specs.Tables.{Declared}
 use Rattle.fol_sig.specs.Symbols.{symbols}
 use Rattle.fol_formula.specs.Fits.{FitsForm}
 use Rattle.fol_formula.specs.Fragments.{IsEa}
-use Rattle.rml_wp.specs.Added.{refuting_all}
+use Rattle.rml_wp.specs.Added.{refuting_where}
 use Rattle.rml_wp.specs.declared.premises.Premises.TheVariants.{All}
 use Rattle.show_pool.proofs.sizes.measured.Goals as goal
 
@@ -20,7 +20,7 @@ ground_size-requires-clause-fits c =
     let m = c.args.checked.now in
     let added = c.sentence_law.ensures.conjectures m [] c.model-model.ensures.checked tt tt in
     subst (FitsForm (symbols c.args.answered.now) []) (sym c.requires.sentence)
-    (subst (λ (d : Declared). FitsForm (symbols d) [] (refuting_all m m.conjectures [] c.args.goal.now))
+    (subst (λ (d : Declared). FitsForm (symbols d) [] (refuting_where All m m.conjectures [] c.args.goal.now))
     (sym c.requires.answered)
     (c.sentence_law.ensures.fit All m m.conjectures [] c.args.goal.now c.model-model.ensures.checked
     c.answered_goal.ensures.signature c.requires.goal added.all).fits)
