@@ -7,7 +7,6 @@ use Rattle.rml_command.specs.Models.{ModelTree}
 use Rattle.rml_command.specs.declared.goal.Goal.{Goal}
 use Rattle.rml_exec.specs.declared.trace.Counterexample.{Counterexample}
 use Rattle.limits.specs.Ceilings.{Ceilings}
-use Rattle.obligation_decide.specs.GoalDecisions.{IsFailing}
 use Rattle.obligation_decide.specs.Restricted.{HasNoneWhere, IsFailingWhere}
 use Rattle.cti_minimise.specs.Bounding.{bound_at, bounds_by, bounds_on}
 use Rattle.cti_minimise.specs.Extents.{extent, places}
@@ -19,10 +18,11 @@ use Rattle.cti_minimise.specs.declared.trials.Trials.{Trials}
 use Rattle.cti_minimise.proofs.Searching.{length-up-to}
 use Rattle.cti_minimise.proofs.BoundLaws.{implied-by}
 use Rattle.cti_minimise.proofs.Bounded.{bounded, within}
+use Rattle.obligation_decide.specs.GoalDecisions.{IsFailing}
 
 -- under other limits with the same most terms it is a counterexample too
 pub still-failing : (narrow limits : Ceilings) (m : ModelTree) (goal : Goal) (shown : Counterexample)
-    → narrow.terms ≡ limits.terms → IsFailing narrow m goal shown → IsFailing limits m goal shown
+    → narrow.terms ≡ limits.terms → IsFailing narrow m m.conjectures goal shown → IsFailing limits m m.conjectures goal shown
 still-failing narrow limits m goal shown same failing = record {
   same = failing.same;
   path = failing.path;
@@ -40,7 +40,7 @@ module _ (m : ModelTree) (goal : Goal) (numbers : List ℕ) (few : length number
       (bounded said m.signature t fits laws 0 numbers (omega (arith, few))
       (within (bound_at m.signature) m.signature t fits named 0 numbers (omega (arith, few)) lawful))
 
-  pub failing-within : (limits : Ceilings) (shown : Counterexample) → IsFailing limits m goal shown
+  pub failing-within : (limits : Ceilings) (shown : Counterexample) → IsFailing limits m m.conjectures goal shown
       → AreAtMost (extent shown.structure) numbers → IsFailingWhere limits m (bounds_on m.signature numbers) goal shown
   failing-within limits shown failing most = (
     failing,

@@ -68,7 +68,7 @@ module _ (m : ModelTree) (goal : Goal) where
     module _ (numbers : List ℕ) (n : ℕ) (few : length (numbers ++ n ∷ []) ≤ places m.signature) where
       -- what is within the bounds satisfies them
       not-within : HasNoneWhere m (bounds_on m.signature (numbers ++ n ∷ [])) goal
-          → (s : Tables) (havocs : List Havoc) (values : List ℕ) → IsCounterexample m goal s havocs values
+          → (s : Tables) (havocs : List Havoc) (values : List ℕ) → IsCounterexample m m.conjectures goal s havocs values
           → AreAtMost (extent s) (numbers ++ n ∷ []) → ⊥
       not-within none s havocs values counterexample most =
           none s havocs values counterexample
@@ -94,7 +94,7 @@ module _ (m : ModelTree) (goal : Goal) where
           (below-above (extent s) numbers n less)
 
       module _ (s : Tables) (havocs : List Havoc) (values : List ℕ)
-          (counterexample : IsCounterexample m goal s havocs values)
+          (counterexample : IsCounterexample m m.conjectures goal s havocs values)
           (lawful : satisfies s (bounds_on m.signature (numbers ++ n ∷ [])) ≡ true) where
         at-most : AreAtMost (extent s) (numbers ++ n ∷ [])
         at-most =
@@ -122,7 +122,7 @@ module _ (m : ModelTree) (goal : Goal) where
       few-numbers = let count = length-up-to (extent s) place n inside in omega (arith, count, known)
 
       module _ (t : Tables) (havocs : List Havoc) (values : List ℕ)
-          (counterexample : IsCounterexample m goal t havocs values)
+          (counterexample : IsCounterexample m m.conjectures goal t havocs values)
           (lawful : satisfies t (bounds_on m.signature (numbers_up_to s place n)) ≡ true) where
         -- the numbers up to the place are those that the bound left
         pub settled-by : HasNoSmaller m goal (numbers_up_to s place n)

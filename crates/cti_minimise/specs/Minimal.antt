@@ -22,7 +22,7 @@ IsSmaller (x ∷ xs) (y ∷ ys) = (x < y) ⊎ ((x ≡ y) × IsSmaller xs ys)
 -- No counterexample of the goal has a smaller list of sizes and then of numbers of true tuples.
 abbrev pub HasNoSmaller : ModelTree → Goal → List ℕ → Type 0
 HasNoSmaller m goal numbers =
-    (s : Tables) (havocs : List Havoc) (values : List ℕ) → IsCounterexample m goal s havocs values
+    (s : Tables) (havocs : List Havoc) (values : List ℕ) → IsCounterexample m m.conjectures goal s havocs values
     → IsSmaller (extent s) numbers → ⊥
 
 -- the structure's numbers before this place, and then this number

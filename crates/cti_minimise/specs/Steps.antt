@@ -3,7 +3,6 @@ use Rattle.std.specs.Prelude.{ℕ, suc, ◌<◌, ◌≤◌, ◌++◌, take, List
 use Rattle.rml_command.specs.Goals.{IsGoal}
 use Rattle.rml_exec.specs.declared.trace.Counterexample.{Counterexample}
 use Rattle.limits.specs.Ceilings.{Ceilings, ceilings}
-use Rattle.obligation_decide.specs.GoalDecisions.{IsFailing}
 use Rattle.obligation_decide.specs.Restricted.{RestrictedPassesFirst, HasNoneWhere, IsFailingWhere, IsLeftOpenWhere}
 use Rattle.lean_decide.specs.Sought.{IsPrepared}
 use Rattle.cti_minimise.specs.Bounding.{bounds_on}
@@ -20,6 +19,7 @@ use Rattle.cti_minimise.specs.declared.trials.Attempt.TheVariants as attempt
 use Rattle.cti_minimise.specs.declared.trials.Trial.{Trial}
 use Rattle.cti_minimise.specs.declared.trials.Trial.TheVariants.{Refuted, Found, Open}
 use Rattle.cti_minimise.specs.declared.trials.Trials.{Trials}
+use Rattle.obligation_decide.specs.GoalDecisions.{IsFailing}
 
 -- the goal is one of the model, and what is built is of it
 pub record AreTrials (t : Trials) : Type 0 where
@@ -31,7 +31,7 @@ limits_of t = ceilings t.limits.now
 
 -- this is a counterexample of the goal
 abbrev pub IsShown : Trials → Counterexample → Type 0
-IsShown t shown = IsFailing (limits_of t) t.checked.now t.goal.now shown
+IsShown t shown = IsFailing (limits_of t) t.checked.now t.checked.now.conjectures t.goal.now shown
 
 -- these numbers are least for the goal
 abbrev pub LeastAre : Trials → List ℕ → Type 0

@@ -2,10 +2,10 @@
 ghost use Rattle.std.specs.Prelude.{◌<◌, take, IfOk};
 ghost use Rattle.rml_command.specs.Goals.{IsGoal};
 ghost use Rattle.limits.specs.Ceilings.{ceilings};
-ghost use Rattle.obligation_decide.specs.GoalDecisions.{IsFailing};
 ghost use Rattle.cti_minimise.specs.Extents.{extent, places};
 ghost use Rattle.cti_minimise.specs.Minimal.{IsLeast};
 ghost use Rattle.cti_minimise.specs.Steps.{AreTrials, IsShown, LeastAre, IsStep, IsDescent, limits_of};
+ghost use Rattle.obligation_decide.specs.GoalDecisions.{IsFailing};
 
 use crate::bounds::Bounds;
 use crate::extents::{bound_of, extent, lowest, places};
@@ -52,8 +52,9 @@ pub fn least(
     limits: &Limits,
 ) -> Mem<(Counterexample, Least)>
     requires goal { IsGoal checked.now goal.now }
-    requires failing { IsFailing (ceilings limits.now) checked.now goal.now shown }
-    ensures failing { IfOk result (λ found. IsFailing (ceilings limits.now) checked.now goal.now found.0) }
+    requires failing { IsFailing (ceilings limits.now) checked.now checked.now.conjectures goal.now shown }
+    ensures failing { IfOk result
+        (λ found. IsFailing (ceilings limits.now) checked.now checked.now.conjectures goal.now found.0) }
     ensures least { IfOk result (λ found.
         IsLeast (ceilings limits.now) checked.now goal.now found.0.structure found.1) }
 {

@@ -18,12 +18,12 @@ use Rattle.obligation_decide.specs.GoalPassing.{refuting_sentence}
 abbrev pub GoalClausesRefute : Type 0
 GoalClausesRefute = (m : ModelTree) (goal : Goal) (order : List ℕ) (f : Formula) → IsChecked m
     → IsSignature m.signature → AreSorted (symbols m.signature) → IsStrata (symbols m.signature) order → IsGoal m goal
-    → IsClauseForm (answered m goal) (refuting_sentence m goal) f → IsUnsatisfiable f → HasNone m goal
+    → IsClauseForm (answered m goal) (refuting_sentence m goal) f → IsUnsatisfiable f → HasNone m m.conjectures goal
 
 -- some structure, trace and values are a counterexample of the goal
 abbrev pub HasCounterexample : ModelTree → Goal → Type 0
 HasCounterexample m goal =
-    (s : Tables) × (havocs : List Havoc) × (values : List ℕ) × IsCounterexample m goal s havocs values
+    (s : Tables) × (havocs : List Havoc) × (values : List ℕ) × IsCounterexample m m.conjectures goal s havocs values
 
 -- Truth values satisfy the clauses exactly where the goal has a counterexample.
 abbrev pub GoalClausesAreExact : Type 0

@@ -8,22 +8,23 @@ ghost use Rattle.std.specs.Prelude.{◌≡◌, false, IfOk};
 ghost use Rattle.rml_command.specs.Goals.{IsGoal};
 ghost use Rattle.limits.specs.Ceilings.{ceilings};
 ghost use Rattle.rml_wp.specs.Preconditions.{answered as answered_of, goal_passes_limit};
-ghost use Rattle.obligation_decide.specs.GoalPassing.{cause_of as named_cause, refuting_sentence};
-ghost use Rattle.obligation_decide.specs.GoalDecisions.{IsDecision};
+ghost use Rattle.obligation_decide.specs.GoalPassing.{refuting_sentence};
 ghost use Rattle.goal_clauses.specs.GoalClauses.{AreGoalClauses};
+ghost use Rattle.rml_wp.specs.declared.premises.Premises.TheVariants.{All};
+ghost use Rattle.obligation_decide.specs.GoalDecisions.{IsDecision};
 
 mod laws;
 
 use base::{Mem, Refused};
 use cnf_base::Cnf;
-use ea_decide::{Clauses, Passed};
+use ea_decide::Clauses;
 use fol_formula::Ea;
 use fol_sig::Signature;
 pub use laws::{counterexample_law, exactness_law};
 use limits::{Cause, Limits};
-use obligation_decide::Decision;
+use obligation_decide::{Decision, cause_of};
 use rml_command::{Checked, Goal};
-use rml_wp::refuting;
+use rml_wp::{Premises, refuting};
 use std::alloc::{AllocError, Global};
 
 /// The clauses of a goal.
@@ -32,17 +33,6 @@ pub enum GoalClauses {
     Written(Cnf),
     /// The first limit that is passed: formula, ground terms, ground size.
     Over(Cause),
-}
-
-// A limit, as a report names it.
-fn cause_of(passed: Passed) -> Cause
-    ensures { result ≡ named_cause passed }
-{
-    match passed {
-        Passed::Terms(count) => Cause::Terms(count),
-        Passed::GroundSize(count) => Cause::Ground(count),
-        Passed::Conflicts(budget) => Cause::Conflicts(budget),
-    }
 }
 
 /// The clauses of a goal of the model under the limits of formulas, ground terms and ground size, which are looked at
@@ -56,7 +46,7 @@ pub fn clauses_of_goal(
     requires { IsGoal checked.now goal.now }
     ensures { IfOk result (AreGoalClauses (ceilings limits.now) checked.now goal.now) }
 {
-    match refuting(alloc, checked, goal) {
+    match refuting(alloc, checked, Premises::All, goal) {
         Ok((answered, sentence)) => {
             let clauses = clauses_of_sentence(alloc, checked, goal, &answered, &sentence, limits);
             drop(sentence);
@@ -80,7 +70,7 @@ fn clauses_of_sentence(
     requires goal { IsGoal checked.now goal.now }
     requires answered { answered.now ≡ answered_of checked.now goal.now }
     requires sentence { sentence.now ≡ refuting_sentence checked.now goal.now }
-    requires within { goal_passes_limit checked.now goal.now ≡ false }
+    requires within { goal_passes_limit All checked.now goal.now ≡ false }
     ensures { IfOk result (AreGoalClauses (ceilings limits.now) checked.now goal.now) }
 {
     rml_wp::sentence_law();
@@ -102,7 +92,7 @@ fn clauses_of_sentence(
 /// Decides a single goal of the model.
 pub fn decide_goal(alloc: Global, checked: &Checked, goal: &Goal, limits: &Limits) -> Mem<Decision>
     requires { IsGoal checked.now goal.now }
-    ensures { IfOk result (IsDecision (ceilings limits.now) checked.now goal.now) }
+    ensures { IfOk result (IsDecision (ceilings limits.now) checked.now checked.now.conjectures goal.now) }
 {
     obligation_decide::decide(alloc, checked, goal, limits)
 }

@@ -20,9 +20,8 @@ use Rattle.rml_command.specs.declared.goal.About.{About}
 use Rattle.rml_command.specs.declared.goal.About.TheVariants.{Conjecture}
 use Rattle.rml_wp.specs.declared.premises.Premises.TheVariants.{Affected}
 use Rattle.rml_wp.specs.Added.{AreAdded, RefutingSentencesFit}
-use Rattle.rml_wp.specs.Laws.{AllConjecturesHeld}
 use Rattle.rml_wp.specs.Answered.{CounterexamplesAreCuts}
-use Rattle.rml_wp.specs.Preconditions.{answered, goal_precondition_by, parts_before, target_of}
+use Rattle.rml_wp.specs.Preconditions.{answered, goal_precondition, parts_before, target_of}
 use Rattle.ea_decide.specs.Decisions.{HasNoModel}
 use Rattle.lean_decide.specs.Alone.{breaks_alone}
 
@@ -44,14 +43,14 @@ kept-true s a lawful last held k h =
     and_from (truth r (slice_index_or held k top) []) (truth r last [] && true) (one-true r held k both.0) both.1
 
 -- what is known of refuting sentences
-module _ (cuts : CounterexamplesAreCuts) (same : AllConjecturesHeld) (m : ModelTree) (goal : Goal)
+module _ (cuts : CounterexamplesAreCuts) (m : ModelTree) (goal : Goal)
     (fits : FitsModel m) (ok : IsSignature m.signature) (g : IsGoal m goal) where
   pub kept_alone : (a k : ℕ) → goal.stage ≡ stage.Action a → goal.about ≡ Conjecture k
-      → HasNoModel (answered m goal) (breaks_alone m goal) → HasNone m goal
+      → HasNoModel (answered m goal) (breaks_alone m goal) → HasNone m m.conjectures goal
   kept_alone a k is_stage is_about none s havocs values counter =
-      let last = negation (goal_precondition_by Affected m goal) in
+      let last = negation (goal_precondition Affected m goal) in
       let w = cuts Affected m m.conjectures goal s havocs values fits ok fits.conjectures g
-      ((same m goal s havocs values).1 counter) in
+      counter in
       let parted = subst (λ (x : Stage). is_true w.whole
       (all_of (parts_before x (all_of m.axioms) (all_of m.conjectures) ++ last ∷ [])) ≡ true) is_stage w.holds in
       let alone = kept-true w.whole a (all_of m.axioms) last m.conjectures k parted in
@@ -83,7 +82,7 @@ last-fits sig stage.Final lawful held p h = h.1.1.0
 
 pub precondition_fits : RefutingSentencesFit → (m : ModelTree) (goal : Goal) → IsChecked m → IsSignature m.signature
     → IsGoal m goal → AreAdded m m.conjectures []
-    → FitsForm (symbols (answered m goal)) [] (goal_precondition_by Affected m goal)
+    → FitsForm (symbols (answered m goal)) [] (goal_precondition Affected m goal)
 precondition_fits fit m goal checked ok g added =
     last-fits (symbols (answered m goal)) goal.stage (all_of m.axioms) (all_of m.conjectures)
-    (goal_precondition_by Affected m goal) (fit Affected m m.conjectures [] goal checked ok g added).fits
+    (goal_precondition Affected m goal) (fit Affected m m.conjectures [] goal checked ok g added).fits

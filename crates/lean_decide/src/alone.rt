@@ -7,7 +7,7 @@ ghost use Rattle.fol_formula.specs.Fragments.{IsPlainUniversal};
 ghost use Rattle.rml_command.specs.Goals.{IsGoal, HasNone};
 ghost use Rattle.fol_formula.specs.Sentences.{all_of};
 ghost use Rattle.rml_command.specs.declared.goal.About.TheVariants.{Conjecture};
-ghost use Rattle.rml_wp.specs.Preconditions.{answered as answered_of, goal_precondition_by};
+ghost use Rattle.rml_wp.specs.Preconditions.{answered as answered_of, goal_precondition};
 ghost use Rattle.rml_wp.specs.declared.premises.Premises.TheVariants.{Affected};
 ghost use Rattle.ea_decide.specs.Decisions.{HasNoModel};
 ghost use Rattle.lean_decide.specs.Alone.{breaks_alone};
@@ -19,14 +19,14 @@ use fol_occurs::mentions;
 use fol_sig::{Signature, Symbol};
 use limits::Limits;
 use rml_command::{About, Checked, Goal, Path, Primitive, Stage};
-use rml_wp::{Premises, precondition_by};
+use rml_wp::{Premises, precondition};
 use std::alloc::{AllocError, Global};
 
 /// Whether a goal of an action holds by its own conjecture, which is tried where the path changes no symbol of it. What
 /// is not tried, or is left open by a limit, is not said to hold.
 pub fn holds_alone(alloc: Global, checked: &Checked, goal: &Goal, limits: &Limits) -> Mem<bool>
     requires goal { IsGoal checked.now goal.now }
-    ensures { IfOk result (λ holds. holds ≡ true → HasNone checked.now goal.now) }
+    ensures { IfOk result (λ holds. holds ≡ true → HasNone checked.now checked.now.conjectures goal.now) }
 {
     rml_wp::refuting_law();
     rml_wp::answered_law();
@@ -77,7 +77,7 @@ fn is_kept(alloc: Global, checked: &Checked, goal: &Goal, number: u32, limits: &
     ensures { IfOk result
         (λ kept. kept ≡ true → HasNoModel (answered_of checked.now goal.now) (breaks_alone checked.now goal.now)) }
 {
-    match precondition_by(alloc, checked, Premises::Affected, goal) {
+    match precondition(alloc, checked, Premises::Affected, goal) {
         Ok((answered, precondition)) => {
             let kept = is_refuted(
                 alloc,
@@ -110,7 +110,7 @@ fn is_refuted(
     requires about { goal.now.about ≡ Conjecture number }
     requires number { number < length checked.now.conjectures }
     requires answered { answered.now ≡ answered_of checked.now goal.now }
-    requires precondition { precondition ≡ goal_precondition_by Affected checked.now goal.now }
+    requires precondition { precondition ≡ goal_precondition Affected checked.now goal.now }
     ensures { IfOk result
         (λ kept. kept ≡ true → HasNoModel (answered_of checked.now goal.now) (breaks_alone checked.now goal.now)) }
 {

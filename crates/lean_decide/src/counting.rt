@@ -3,7 +3,7 @@
 ghost use Rattle.std.specs.Prelude.{◌≡◌, false, IfOk};
 ghost use Rattle.rml_command.specs.Goals.{IsGoal};
 ghost use Rattle.rml_wp.specs.declared.premises.Premises.TheVariants.{Affected};
-ghost use Rattle.rml_wp.specs.Preconditions.{answered as answered_of, goal_passes_limit_by};
+ghost use Rattle.rml_wp.specs.Preconditions.{answered as answered_of, goal_passes_limit};
 ghost use Rattle.pool_wp.specs.Sharing.{IsPoolOf};
 ghost use Rattle.limits.specs.Ceilings.{ceilings};
 ghost use Rattle.lean_decide.specs.Lean.{affected_refuting};
@@ -17,7 +17,7 @@ use limits::{Cause, Limits};
 use obligation_decide::{Measured, cause_of, measure};
 use pool_wp::ModelPool;
 use rml_command::{Checked, Goal};
-use rml_wp::{Premises, refuting_by};
+use rml_wp::{Premises, refuting};
 use std::alloc::{AllocError, Global};
 
 /// By the counts of its whole refuting sentence.
@@ -51,7 +51,7 @@ pub fn lean_passed(
     requires goal { IsGoal checked.now goal.now }
     ensures { IfOk result (IsPassing Lean (ceilings limits.now) checked.now goal.now) }
 {
-    match refuting_by(alloc, checked, Premises::Affected, goal) {
+    match refuting(alloc, checked, Premises::Affected, goal) {
         Ok((answered, sentence)) => {
             let passed = sentence_passed(alloc, checked, goal, &answered, &sentence, limits);
             drop(sentence);
@@ -75,7 +75,7 @@ fn sentence_passed(
     requires goal { IsGoal checked.now goal.now }
     requires answered { answered.now ≡ answered_of checked.now goal.now }
     requires sentence { sentence.now ≡ affected_refuting checked.now goal.now }
-    requires within { goal_passes_limit_by Affected checked.now goal.now ≡ false }
+    requires within { goal_passes_limit Affected checked.now goal.now ≡ false }
     ensures { IfOk result (IsPassing Lean (ceilings limits.now) checked.now goal.now) }
 {
     rml_wp::sentence_law();

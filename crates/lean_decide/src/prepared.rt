@@ -17,7 +17,7 @@ use fol_sig::Signature;
 use limits::{Cause, Limits};
 use obligation_decide::{Measured, measure_by};
 use rml_command::{Checked, Goal};
-use rml_wp::{Premises, precondition, refuting_by};
+use rml_wp::{Premises, precondition, refuting};
 use std::alloc::{AllocError, Global};
 
 /// A goal whose sentences are built, each with the signature that it is over.
@@ -54,7 +54,7 @@ fn affected_sentence(alloc: Global, checked: &Checked, goal: &Goal) -> Mem<Optio
     requires goal { IsGoal checked.now goal.now }
     ensures { IfOk result (IsAffected checked.now goal.now) }
 {
-    match refuting_by(alloc, checked, Premises::Affected, goal) {
+    match refuting(alloc, checked, Premises::Affected, goal) {
         Ok(sentence) => Ok(Some(sentence)),
         Err(Refused::NoMemory) => Err(AllocError),
         Err(Refused::For(_)) => Ok(None),
@@ -66,7 +66,7 @@ fn whole_precondition(alloc: Global, checked: &Checked, goal: &Goal) -> Mem<Opti
     requires goal { IsGoal checked.now goal.now }
     ensures { IfOk result (IsCounted checked.now goal.now) }
 {
-    match precondition(alloc, checked, goal) {
+    match precondition(alloc, checked, Premises::All, goal) {
         Ok(precondition) => Ok(Some(precondition)),
         Err(Refused::NoMemory) => Err(AllocError),
         Err(Refused::For(_)) => Ok(None),

@@ -7,7 +7,7 @@ ghost use Rattle.fol_formula.specs.Fragments.{IsEa};
 ghost use Rattle.rml_command.specs.Goals.{IsGoal};
 ghost use Rattle.rml_wp.specs.declared.premises.Premises.TheVariants.{Affected};
 ghost use Rattle.rml_wp.specs.Preconditions.{answered as answered_of};
-ghost use Rattle.rml_wp.specs.Added.{refuting_all_by};
+ghost use Rattle.rml_wp.specs.Added.{refuting_where};
 ghost use Rattle.limits.specs.Ceilings.{ceilings};
 ghost use Rattle.lean_decide.specs.Lean.{affected_refuting};
 ghost use Rattle.lean_decide.specs.Sought.{IsSought};
@@ -82,7 +82,7 @@ fn restricted(
     requires fragment { AllByRecursion IsEa more.now }
     requires fits { AllByRecursion (FitsForm (symbols checked.now.signature) []) more.now }
     ensures { IfOk result
-        (λ f. f ≡ refuting_all_by Affected checked.now checked.now.conjectures more.now goal.now) }
+        (λ f. f ≡ refuting_where Affected checked.now checked.now.conjectures more.now goal.now) }
 {
     rml_wp::sentence_law();
     rml_wp::answered_goal(checked, goal);

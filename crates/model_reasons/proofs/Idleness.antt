@@ -6,7 +6,7 @@ use Rattle.std.proofs.lemmas.Bool.Decides.{Decides-eqb}
 use Rattle.base.specs.Lists.{SomeOf, count_from}
 use Rattle.rml_command.specs.declared.goal.About.{About}
 use Rattle.rml_command.specs.declared.goal.About.TheVariants as about
-use Rattle.rml_houdini.specs.Subsets.{Has}
+use Rattle.rml_command.specs.InductiveSets.{Has}
 use Rattle.rml_reasons.specs.Reasons.{IsCarried, needed_conjectures}
 use Rattle.rml_reasons.specs.declared.reason.Need.{Need}
 use Rattle.rml_reasons.specs.declared.reason.Carried.{Carried}

@@ -6,7 +6,7 @@ use Rattle.rml_command.specs.Models.{ModelTree}
 use Rattle.rml_command.specs.declared.goal.About.TheVariants as about
 use Rattle.rml_report.specs.Reports.{IsExecution}
 use Rattle.limits.specs.Ceilings.{Ceilings}
-use Rattle.rml_houdini.specs.Subsets.{Has}
+use Rattle.rml_command.specs.InductiveSets.{Has}
 use Rattle.rml_reasons.specs.Reasons.{IsReason, needed_conjectures}
 use Rattle.rml_reasons.specs.declared.reason.Need.{Need}
 use Rattle.rml_reasons.specs.declared.reason.Lack.{Lack}

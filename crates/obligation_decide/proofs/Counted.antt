@@ -12,7 +12,7 @@ use Rattle.rml_command.specs.declared.goal.Stage.{Stage}
 use Rattle.rml_command.specs.declared.goal.Stage.TheVariants as stage
 use Rattle.rml_wp.specs.declared.premises.Premises.TheVariants.{All}
 use Rattle.rml_wp.specs.Preconditions.{answered, parts_before, goal_precondition}
-use Rattle.rml_wp.specs.Added.{refuting_all, IsRefutingSentence}
+use Rattle.rml_wp.specs.Added.{refuting_where, IsRefutingSentence}
 use Rattle.limits.specs.Ceilings.{Ceilings}
 use Rattle.ea_decide.specs.Measuring.{IsMeasured}
 use Rattle.ea_decide.specs.declared.decided.Measured.{Measured}
@@ -35,25 +35,25 @@ in_order stage.Final axioms held more p =
     ap (λ qs. all_of (all_of axioms ∷ (all_of held ∷ (negation p ∷ qs)))) (append-nil more)
 
 is_refuting : (m : ModelTree) (goal : Goal) (axioms held more : List FormTree) (p : FormTree) → axioms ≡ m.axioms
-    → held ≡ held_before goal.stage m.conjectures → p ≡ goal_precondition m goal
-    → counted_parts axioms held p more ≡ refuting_all m m.conjectures more goal
+    → held ≡ held_before goal.stage m.conjectures → p ≡ goal_precondition All m goal
+    → counted_parts axioms held p more ≡ refuting_where All m m.conjectures more goal
 is_refuting m goal axioms held more p same before is =
     ap (λ (ps : List FormTree). counted_parts ps held p more) same
     ∙ ap (λ (ps : List FormTree). counted_parts m.axioms ps p more) before
     ∙ ap (λ (q : FormTree). counted_parts m.axioms (held_before goal.stage m.conjectures) q more) is
-    ∙ in_order goal.stage m.axioms m.conjectures more (goal_precondition m goal)
+    ∙ in_order goal.stage m.axioms m.conjectures more (goal_precondition All m goal)
 
 -- the parts that a model lends
 pub lent : (m given : ModelTree) (goal : Goal) (axioms conjectures held more : List FormTree) (p q : FormTree)
     → given ≡ m → axioms ≡ given.axioms → conjectures ≡ given.conjectures → held ≡ held_before goal.stage conjectures
-    → p ≡ q → q ≡ goal_precondition m goal → counted_parts axioms held p more ≡ refuting_all m m.conjectures more goal
+    → p ≡ q → q ≡ goal_precondition All m goal → counted_parts axioms held p more ≡ refuting_where All m m.conjectures more goal
 lent m given goal axioms conjectures held more p q same by_axioms by_conjectures by_held is before =
     let of_model = by_conjectures ∙ ap (λ (z : ModelTree). z.conjectures) same in
     is_refuting m goal axioms held more p (axioms_of axioms given m by_axioms same)
     (by_held ∙ ap (λ (cs : List FormTree). held_before goal.stage cs) of_model) (is ∙ before)
 
 module _ (m : ModelTree) (goal : Goal) (more : List FormTree) (p : FormTree)
-    (is : p ≡ refuting_all m m.conjectures more goal) where
+    (is : p ≡ refuting_where All m m.conjectures more goal) where
   pub in_fragment : IsRefutingSentence All m m.conjectures more goal → IsEa p
   in_fragment h = subst (λ (q : FormTree). IsEa q) (sym is) h.fragment
 
@@ -64,7 +64,7 @@ module _ (m : ModelTree) (goal : Goal) (more : List FormTree) (p : FormTree)
       (subst (λ (q : FormTree). FitsForm (symbols (answered m goal)) [] q) (sym is) h.fits)
 
   pub measured_as : (limits : Ceilings) (given : Declared) (d e : Measured) → d ≡ e
-      → IsMeasured limits given p d → IsMeasured limits given (refuting_all m m.conjectures more goal) e
+      → IsMeasured limits given p d → IsMeasured limits given (refuting_where All m m.conjectures more goal) e
   measured_as limits given d e answer h =
       subst (λ (q : FormTree). IsMeasured limits given q e) is
       (subst (λ (a : Measured). IsMeasured limits given p a) answer h)

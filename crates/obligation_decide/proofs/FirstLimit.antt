@@ -39,7 +39,7 @@ cycle-there m goal f c = record {
 
 module _ (laws : AreRead) (skolem : EachIsSkolemised) (limits : Ceilings) (m : ModelTree) (goal : Goal)
     (checked : IsChecked m) (ok : IsSignature m.signature) (g : IsGoal m goal) where
-  sentence-one : (a b : Option Cause) → SentencePasses limits m goal a → SentencePasses limits m goal b → a ≡ b
+  sentence-one : (a b : Option Cause) → SentencePasses limits m m.conjectures goal a → SentencePasses limits m m.conjectures goal b → a ≡ b
   sentence-one a b pa pb =
       let p = refuting_sentence m goal in
       let sig = symbols (answered m goal) in
@@ -55,11 +55,11 @@ module _ (laws : AreRead) (skolem : EachIsSkolemised) (limits : Ceilings) (m : M
       pa.2 ∙ ap first_cause passed ∙ sym pb.2
 
   by-formula : (large : Bool) (a b : Option Cause)
-      → MatchBool large (a ≡ Some cause.Formula) (SentencePasses limits m goal a)
-      → MatchBool large (b ≡ Some cause.Formula) (SentencePasses limits m goal b) → a ≡ b
+      → MatchBool large (a ≡ Some cause.Formula) (SentencePasses limits m m.conjectures goal a)
+      → MatchBool large (b ≡ Some cause.Formula) (SentencePasses limits m m.conjectures goal b) → a ≡ b
   by-formula true a b pa pb = pa ∙ sym pb
   by-formula false a b pa pb = sentence-one a b pa pb
 
 pub first_limit_is_one : AreRead → EachIsSkolemised → FirstLimitIsOne
 first_limit_is_one laws skolem limits m goal a b checked ok g pa pb =
-    by-formula laws skolem limits m goal checked ok g (goal_passes_limit m goal) a b pa pb
+    by-formula laws skolem limits m goal checked ok g (goal_passes_limit All m goal) a b pa pb

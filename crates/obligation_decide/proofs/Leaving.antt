@@ -13,8 +13,9 @@ use Rattle.limits.specs.Ceilings.{Ceilings}
 use Rattle.ea_decide.specs.Decisions.{IsOver}
 use Rattle.obligation_decide.specs.GoalPassing.{cause_of, PassesAs, PassesFirstAs}
 use Rattle.obligation_decide.specs.GoalDecisions.{IsLeftOpenAs}
+use Rattle.rml_wp.specs.declared.premises.Premises.TheVariants.{All}
 
-module _ (limits : Ceilings) (m : ModelTree) (goal : Goal) (p : FormTree) (within : goal_passes_limit m goal ≡ false)
+module _ (limits : Ceilings) (m : ModelTree) (goal : Goal) (p : FormTree) (within : goal_passes_limit All m goal ≡ false)
   where
     pub passes_first : (first : Option Cause) → PassesAs limits (answered m goal) p first
         → PassesFirstAs limits m goal p first

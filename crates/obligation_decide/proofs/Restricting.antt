@@ -34,11 +34,9 @@ use Rattle.rml_command.specs.Goals.{IsGoal}
 use Rattle.rml_command.specs.declared.goal.Goal.{Goal}
 use Rattle.rml_wp.specs.declared.premises.Premises.TheVariants.{All}
 use Rattle.rml_wp.specs.declared.premises.Premises.{Premises}
-use Rattle.rml_wp.specs.Preconditions.{answered, goal_passes_limit, refuting_parts, refuting_of, refuting_parts_by}
-use Rattle.rml_wp.specs.Preconditions.{refuting_by}
+use Rattle.rml_wp.specs.Preconditions.{answered, goal_passes_limit, refuting_parts, refuting}
 use Rattle.rml_wp.specs.Answered.{IsAnswered, CounterexamplesAreCuts}
-use Rattle.rml_wp.specs.Added.{AreAdded, refuting_all, refuting_all_by, NoPartsAreAdded}
-use Rattle.rml_wp.specs.Laws.{AllConjecturesHeld}
+use Rattle.rml_wp.specs.Added.{AreAdded, refuting_where, NoPartsAreAdded}
 use Rattle.rml_exec.specs.declared.trace.Counterexample.{Counterexample}
 use Rattle.limits.specs.declared.cause.Cause.{Cause}
 use Rattle.limits.specs.declared.cause.Cause.TheVariants as cause
@@ -47,7 +45,6 @@ use Rattle.limits.specs.Ceilings.{Ceilings}
 use Rattle.ea_decide.specs.Passing.{Passes}
 use Rattle.ea_decide.specs.Decisions.{Refutes, SpendsBudget}
 use Rattle.obligation_decide.specs.GoalPassing.{first_cause}
-use Rattle.obligation_decide.specs.GoalDecisions.{IsFailing, IsDecision}
 use Rattle.obligation_decide.specs.Laws.{PartsAreTrue}
 use Rattle.obligation_decide.specs.WithConstants.{HoldsWithConstants}
 use Rattle.obligation_decide.specs.Restricted.{with_parts, IsSentenceFailing, IsSentenceDecision}
@@ -59,6 +56,7 @@ use Rattle.obligation_decide.specs.declared.decision.Decision.TheVariants.{Holds
 use Rattle.obligation_decide.specs.declared.decision.Measured.{Measured}
 use Rattle.obligation_decide.specs.declared.decision.Measured.TheVariants.{Within, Over}
 use Rattle.obligation_decide.proofs.Leaving.{passes_first, left_open}
+use Rattle.obligation_decide.specs.GoalDecisions.{IsFailing, IsDecision}
 
 same-list : (ps : List FormTree) → list_of_forms (forms_of ps) ≡ ps
 same-list [] = refl
@@ -66,9 +64,9 @@ same-list (p ∷ ps) = ap (λ qs. p ∷ qs) (same-list ps)
 
 -- the refuting sentence with further parts in its And
 pub restricted_is : (premises : Premises) (m : ModelTree) (more : List FormTree) (goal : Goal)
-    → with_parts (refuting_by premises m m.conjectures goal) more ≡ refuting_all_by premises m m.conjectures more goal
+    → with_parts (refuting premises m m.conjectures goal) more ≡ refuting_where premises m m.conjectures more goal
 restricted_is premises m more goal =
-    ap (λ (qs : List FormTree). all_of (qs ++ more)) (same-list (refuting_parts_by premises m m.conjectures goal))
+    ap (λ (qs : List FormTree). all_of (qs ++ more)) (same-list (refuting_parts premises m m.conjectures goal))
 
 -- sentences are all true where the first of them are, and the others
 both-true : (s : Reading) (ps qs : List FormTree) → all_true s (forms_of ps) [] ≡ true
@@ -94,7 +92,7 @@ first-true s (p ∷ ps) qs h =
 
 pub parts_are_true : PartsAreTrue
 parts_are_true premises m held more goal s =
-    let parts = refuting_parts_by premises m held goal in (
+    let parts = refuting_parts premises m held goal in (
       (λ h. (first-true (reading s) parts more h, others-true (reading s) parts more h)),
       (λ h. both-true (reading s) parts more h.0 h.1),
     )
@@ -114,7 +112,6 @@ holds-without kept skolem sig p t fits model =
 -- what is known of refuting sentences
 pub record AreExact : Type 0 where
   pub cuts : CounterexamplesAreCuts
-  pub same : AllConjecturesHeld
 
 -- sentences of the model are all true in a structure exactly where they are in its cut
 all-fit : (sig : Symbols) (ps : List FormTree) → AllByRecursion (FitsForm sig []) ps → FitsForms sig [] (forms_of ps)
@@ -127,18 +124,18 @@ pub all-same : (m : ModelTree) (goal : Goal) → IsAnswered m goal → (ps : Lis
 all-same m goal is ps h t fits = is.truths t (all_of ps) fits (all-fit (symbols m.signature) ps h)
 
 module _ (limits : Ceilings) (m : ModelTree) (goal : Goal) where
-  module _ (more : List FormTree) (within : goal_passes_limit m goal ≡ false) where
+  module _ (more : List FormTree) (within : goal_passes_limit All m goal ≡ false) where
     passes : (first : Option Cause) → RestrictedSentencePasses limits m more goal first
         → RestrictedPassesFirst limits m more goal first
-    passes first h = passes_first limits m goal (refuting_all m m.conjectures more goal) within first h
+    passes first h = passes_first limits m goal (refuting_where All m m.conjectures more goal) within first h
 
-    by_measure : (d : Measured) → IsSentenceMeasured limits (answered m goal) (refuting_all m m.conjectures more goal) d
+    by_measure : (d : Measured) → IsSentenceMeasured limits (answered m goal) (refuting_where All m m.conjectures more goal) d
         → IsRestrictedMeasured limits m more goal d
     by_measure (Within size) h = (passes None (None, h.0, refl), h.1, h.2)
     by_measure (Over c) h = passes (Some c) (Some h.0, h.2, ap (λ (x : Cause). Some x) h.1)
 
     -- what the sentence would cost is what the goal would
-    pub measured_by : (p : FormTree) (d : Measured) → p ≡ refuting_all m m.conjectures more goal
+    pub measured_by : (p : FormTree) (d : Measured) → p ≡ refuting_where All m m.conjectures more goal
         → IsSentenceMeasured limits (answered m goal) p d → IsRestrictedMeasured limits m more goal d
     measured_by p d is h =
         by_measure d (subst (λ (q : FormTree). IsSentenceMeasured limits (answered m goal) q d) is h)
@@ -146,28 +143,27 @@ module _ (limits : Ceilings) (m : ModelTree) (goal : Goal) where
     module _ (laws : AreExact) (fits : FitsModel m) (ok : IsSignature m.signature) (is_answered : IsAnswered m goal)
         (g : IsGoal m goal) (added : AreAdded m m.conjectures more) where
       failing : (shown : Counterexample)
-          → IsSentenceFailing limits All m (refuting_all m m.conjectures more goal) goal shown
-          → IsFailing limits m goal shown
+          → IsSentenceFailing limits All m (refuting_where All m m.conjectures more goal) goal shown
+          → IsFailing limits m m.conjectures goal shown
       failing shown h = record {
         same = h.same;
         path = h.path;
-        refutes = (laws.same m goal shown.structure shown.trace.havoc shown.values).0
-            (h.refutes m.conjectures more added refl);
+        refutes = h.refutes m.conjectures more added refl;
         few = h.few;
       }
 
-      by_sentence : (d : Decision) → IsSentenceDecision limits m (refuting_all m m.conjectures more goal) goal d
+      by_sentence : (d : Decision) → IsSentenceDecision limits m (refuting_where All m m.conjectures more goal) goal d
           → IsRestrictedDecision limits m more goal d
       by_sentence (Holds proof) h = (
         passes None (None, h.0, refl),
         (λ s havocs values counterexample lawful.
             let w = laws.cuts All m m.conjectures goal s havocs values fits ok added.universal_fit g
-            ((laws.same m goal s havocs values).1 counterexample) in
+            counterexample in
             let there : satisfies w.whole more ≡ true =
             all-same m goal is_answered more added.others_fit w.whole w.fits
             ∙ ap (λ (z : Tables). satisfies z more) (sym w.cut) ∙ lawful in
             h.1 w.whole w.fits
-            (both-true (reading w.whole) (refuting_parts m m.conjectures goal) more w.holds there)),
+            (both-true (reading w.whole) (refuting_parts All m m.conjectures goal) more w.holds there)),
         h.2,
       )
       by_sentence (Fails shown) h = (
@@ -177,15 +173,15 @@ module _ (limits : Ceilings) (m : ModelTree) (goal : Goal) where
           (let w = h.1.holds in
               ap (λ (z : Tables). satisfies z more) w.cut
               ∙ sym (all-same m goal is_answered more added.others_fit w.whole w.fits)
-              ∙ others-true (reading w.whole) (refuting_parts m m.conjectures goal) more w.holds),
+              ∙ others-true (reading w.whole) (refuting_parts All m m.conjectures goal) more w.holds),
         ),
       )
       by_sentence (Undecided c) h =
           subst (IsLeftOpenWhere limits m more goal) (sym h.1)
-          (left_open limits m goal (refuting_all m m.conjectures more goal) within h.0 h.2)
+          (left_open limits m goal (refuting_where All m m.conjectures more goal) within h.0 h.2)
 
       -- what is answered of the sentence is answered of the goal
-      pub restricted_by : (p : FormTree) (d : Decision) → p ≡ refuting_all m m.conjectures more goal
+      pub restricted_by : (p : FormTree) (d : Decision) → p ≡ refuting_where All m m.conjectures more goal
           → IsSentenceDecision limits m p goal d → IsRestrictedDecision limits m more goal d
       restricted_by p d is h =
           by_sentence d (subst (λ (q : FormTree). IsSentenceDecision limits m q goal d) is h)
@@ -193,16 +189,16 @@ module _ (limits : Ceilings) (m : ModelTree) (goal : Goal) where
   -- where there are no further sentences it is the goal itself
   module _ (alone : NoPartsAreAdded) where
     first-alone : (first : Option Cause) → RestrictedPassesFirst limits m [] goal first
-        → MatchBool (goal_passes_limit m goal) (first ≡ Some cause.Formula)
-        ((p : Option Passed) × Passes limits (answered m goal) (refuting_of m m.conjectures goal) p
+        → MatchBool (goal_passes_limit All m goal) (first ≡ Some cause.Formula)
+        ((p : Option Passed) × Passes limits (answered m goal) (refuting All m m.conjectures goal) p
         × (first ≡ first_cause p))
     first-alone first h =
         subst
-        (λ (q : FormTree). MatchBool (goal_passes_limit m goal) (first ≡ Some cause.Formula)
+        (λ (q : FormTree). MatchBool (goal_passes_limit All m goal) (first ≡ Some cause.Formula)
         ((p : Option Passed) × Passes limits (answered m goal) q p × (first ≡ first_cause p)))
         (alone All m m.conjectures goal) h
 
-    pub unrestricted : (d : Decision) → IsRestrictedDecision limits m [] goal d → IsDecision limits m goal d
+    pub unrestricted : (d : Decision) → IsRestrictedDecision limits m [] goal d → IsDecision limits m m.conjectures goal d
     unrestricted (Holds proof) h = (
       first-alone None h.0,
       (λ s havocs values counterexample. h.1 s havocs values counterexample refl),

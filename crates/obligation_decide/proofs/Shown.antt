@@ -17,8 +17,8 @@ use Rattle.rml_wp.specs.declared.premises.Premises.{Premises}
 use Rattle.rml_wp.specs.declared.premises.Premises.TheVariants.{All}
 use Rattle.rml_wp.specs.Preconditions.{answered}
 use Rattle.rml_wp.specs.Laws.{goal_havocs}
-use Rattle.rml_wp.specs.Added.{refuting_all_by, RefutingSentencesFit, NoPartsAreAdded, ConjecturesAreAdded}
-use Rattle.rml_wp.specs.Witnesses.{witness_places_by, values_at}
+use Rattle.rml_wp.specs.Added.{refuting_where, RefutingSentencesFit, NoPartsAreAdded, ConjecturesAreAdded}
+use Rattle.rml_wp.specs.Witnesses.{witness_places, values_at}
 use Rattle.witness.specs.Laws.{IsRefutingNormal, RefutingNormalsFit, ModelsGiveCounterexamples}
 use Rattle.obligation_decide.specs.GoalPassing.{refuting_sentence}
 use Rattle.obligation_decide.specs.Restricted.{IsRefutingWith, RefutesAs}
@@ -57,7 +57,7 @@ module _ (normals : RefutingNormalsFit) (premises : Premises) (m : ModelTree) (g
     (ok : IsSignature m.signature) (g : IsGoal m goal)
     (p : FormTree) (with : IsRefutingWith premises m goal p) where
   -- the refuting sentence with these parts
-  whole : p ≡ refuting_all_by premises m with.held with.more goal
+  whole : p ≡ refuting_where premises m with.held with.more goal
   whole = with.is
 
   normal_fits : IsRefutingNormal premises m with.held with.more goal
@@ -90,8 +90,8 @@ module _ (normals : RefutingNormalsFit) (premises : Premises) (m : ModelTree) (g
         → RefutesAs premises m goal p
         (reduct (symbols m.signature) (reduct (symbols (answered m goal)) t))
         (goal_havocs m goal (reduct (symbols (answered m goal)) t)
-        (values_at xs (witness_places_by premises m goal).havocs))
-        (values_at xs (witness_places_by premises m goal).values)
+        (values_at xs (witness_places premises m goal).havocs))
+        (values_at xs (witness_places premises m goal).values)
     is-shown models xs values held more added is =
         let each = λ (q : FormTree).
         (i : ℕ) → i < length (constant_sorts q)

@@ -8,7 +8,7 @@ use Rattle.rml_command.specs.declared.goal.Goal.{Goal}
 use Rattle.rml_command.specs.declared.goal.Stage.{Stage}
 use Rattle.rml_command.specs.declared.goal.Stage.TheVariants as stage
 use Rattle.rml_wp.specs.Preconditions.{answered}
-use Rattle.rml_wp.specs.Added.{refuting_all}
+use Rattle.rml_wp.specs.Added.{refuting_where}
 use Rattle.ea_decide.specs.declared.decided.Passed.{Passed}
 use Rattle.limits.specs.Ceilings.{Ceilings}
 use Rattle.ea_decide.specs.Passing.{Passes}
@@ -17,6 +17,7 @@ use Rattle.obligation_decide.specs.GoalPassing.{cause_of}
 use Rattle.obligation_decide.specs.Restricted.{RestrictedPassesFirst}
 use Rattle.obligation_decide.specs.declared.decision.Measured.{Measured}
 use Rattle.obligation_decide.specs.declared.decision.Measured.TheVariants.{Within, Over}
+use Rattle.rml_wp.specs.declared.premises.Premises.TheVariants.{All}
 
 -- The part of a refuting sentence that stands for these conjectures. Private contracts alone cite this.
 abbrev pub held_before : Stage → List FormTree → List FormTree
@@ -36,5 +37,5 @@ IsSentenceMeasured limits sig p (Over c) =
 abbrev pub IsRestrictedMeasured : Ceilings → ModelTree → List FormTree → Goal → Measured → Type 0
 IsRestrictedMeasured limits m more goal (Within size) =
     RestrictedPassesFirst limits m more goal None
-    × HasSize (answered m goal) (refuting_all m m.conjectures more goal) size × (size ≤ limits.size)
+    × HasSize (answered m goal) (refuting_where All m m.conjectures more goal) size × (size ≤ limits.size)
 IsRestrictedMeasured limits m more goal (Over c) = RestrictedPassesFirst limits m more goal (Some c)

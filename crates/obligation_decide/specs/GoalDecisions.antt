@@ -8,10 +8,9 @@ use Rattle.rml_command.specs.Goals.{IsCounterexample, HasNone}
 use Rattle.rml_command.specs.declared.goal.Goal.{Goal}
 use Rattle.rml_command.specs.declared.havoc.Havoc.{Havoc}
 use Rattle.rml_exec.specs.declared.trace.Counterexample.{Counterexample}
-use Rattle.rml_wp.specs.Preconditions.{answered, refuting_of}
-use Rattle.rml_wp.specs.Laws.{IsCounterexampleBy}
-use Rattle.limits.specs.declared.cause.Cause.{Cause}
 use Rattle.limits.specs.declared.cause.Cause.TheVariants as cause
+use Rattle.rml_wp.specs.Preconditions.{answered, refuting}
+use Rattle.limits.specs.declared.cause.Cause.{Cause}
 use Rattle.rml_report.specs.declared.report.Axioms.{Axioms}
 use Rattle.rml_report.specs.declared.report.Axioms.TheVariants as axioms
 use Rattle.rml_report.specs.Reports.{AxiomsAre}
@@ -19,15 +18,18 @@ use Rattle.ea_decide.specs.declared.decided.Passed.{Passed}
 use Rattle.limits.specs.Ceilings.{Ceilings}
 use Rattle.ea_decide.specs.Passing.{Passes}
 use Rattle.ea_decide.specs.Decisions.{Refutes, SpendsBudget, IsOver}
-use Rattle.obligation_decide.specs.GoalPassing.{cause_of, refuting_sentence, PassesFirstAs}
+use Rattle.obligation_decide.specs.GoalPassing.{cause_of, PassesFirstAs}
 use Rattle.obligation_decide.specs.declared.decision.Decision.{Decision}
 use Rattle.obligation_decide.specs.declared.decision.Decision.TheVariants.{Holds, Fails, Undecided}
+use Rattle.rml_wp.specs.declared.premises.Premises.TheVariants.{All}
 
--- The execution is a counterexample of the goal, whose structure has at most so many elements as terms are allowed.
-pub record IsFailing (limits : Ceilings) (m : ModelTree) (goal : Goal) (shown : Counterexample) : Type 0 where
+-- The execution is a counterexample of the goal, where these sentences hold before the stage in place of the
+-- conjectures. Its structure has at most so many elements as terms are allowed.
+pub record IsFailing (limits : Ceilings) (m : ModelTree) (held : List FormTree) (goal : Goal) (shown : Counterexample)
+    : Type 0 where
   pub same : shown.goal ≡ goal
   pub path : shown.trace.path ≡ goal.path
-  pub refutes : IsCounterexample m goal shown.structure shown.trace.havoc shown.values
+  pub refutes : IsCounterexample m held goal shown.structure shown.trace.havoc shown.values
   pub few : sum shown.structure.sizes ≤ limits.terms
 
 -- A goal is left open that is decided by this refuting sentence: it passes no limit by its size, and the budget of
@@ -45,38 +47,14 @@ IsDecisionAs limits m goal p holds fails (Holds proof) =
 IsDecisionAs limits m goal p holds fails (Fails shown) = PassesFirstAs limits m goal p None × fails shown
 IsDecisionAs limits m goal p holds fails (Undecided c) = IsLeftOpenAs limits m goal p c
 
-module _ (limits : Ceilings) (m : ModelTree) where
-  -- where these sentences hold before the stage in place of the conjectures
-  abbrev pub IsLeftOpenBy : List FormTree → Goal → Cause → Type 0
-  IsLeftOpenBy held goal c = IsLeftOpenAs limits m goal (refuting_of m held goal) c
-
-  -- where all conjectures hold
-  abbrev pub IsLeftOpen : Goal → Cause → Type 0
-  IsLeftOpen goal c = IsLeftOpenBy m.conjectures goal c
-
--- The answer to a goal under limits.
-abbrev pub IsDecision : Ceilings → ModelTree → Goal → Decision → Type 0
-IsDecision limits m goal d =
-    IsDecisionAs limits m goal (refuting_sentence m goal) (HasNone m goal) (IsFailing limits m goal) d
-
--- The execution is a counterexample of the goal, where these sentences hold before the stage in place of the
--- conjectures. Its structure has at most so many elements as terms are allowed.
-pub record IsFailingBy (limits : Ceilings) (m : ModelTree) (held : List FormTree) (goal : Goal) (shown : Counterexample)
-    : Type 0 where
-  pub same : shown.goal ≡ goal
-  pub path : shown.trace.path ≡ goal.path
-  pub refutes : IsCounterexampleBy m held goal shown.structure shown.trace.havoc shown.values
-  pub few : sum shown.structure.sizes ≤ limits.terms
-
--- the goal has no counterexample where these sentences hold before the stage
-abbrev pub HasNoneBy : ModelTree → List FormTree → Goal → Type 0
-HasNoneBy m held goal =
-    (s : Tables) (havocs : List Havoc) (values : List ℕ) → IsCounterexampleBy m held goal s havocs values → ⊥
+-- where these sentences hold before the stage
+abbrev pub IsLeftOpen : Ceilings → ModelTree → List FormTree → Goal → Cause → Type 0
+IsLeftOpen limits m held goal c = IsLeftOpenAs limits m goal (refuting All m held goal) c
 
 -- The answer to a goal under limits, where these sentences hold before the stage in place of the conjectures.
-abbrev pub IsDecisionBy : Ceilings → ModelTree → List FormTree → Goal → Decision → Type 0
-IsDecisionBy limits m held goal d =
-    IsDecisionAs limits m goal (refuting_of m held goal) (HasNoneBy m held goal) (IsFailingBy limits m held goal) d
+abbrev pub IsDecision : Ceilings → ModelTree → List FormTree → Goal → Decision → Type 0
+IsDecision limits m held goal d =
+    IsDecisionAs limits m goal (refuting All m held goal) (HasNone m held goal) (IsFailing limits m held goal) d
 
 -- whether some structure satisfies the axioms, decided as a sentence: their conjunction
 abbrev pub AreAxiomsDecided : Ceilings → ModelTree → Axioms → Type 0

@@ -4,13 +4,14 @@ use Rattle.fol_sig.specs.Tables.{Declared}
 use Rattle.fol_formula.specs.Syntax.{FormTree}
 use Rattle.rml_command.specs.Models.{ModelTree}
 use Rattle.rml_command.specs.declared.goal.Goal.{Goal}
-use Rattle.rml_wp.specs.Preconditions.{answered, goal_passes_limit, refuting_of}
-use Rattle.limits.specs.declared.cause.Cause.{Cause}
 use Rattle.limits.specs.declared.cause.Cause.TheVariants as cause
+use Rattle.rml_wp.specs.Preconditions.{answered, goal_passes_limit, refuting}
+use Rattle.limits.specs.declared.cause.Cause.{Cause}
 use Rattle.ea_decide.specs.declared.decided.Passed.{Passed}
 use Rattle.ea_decide.specs.declared.decided.Passed.TheVariants as passed
-use Rattle.limits.specs.Ceilings.{Ceilings}
 use Rattle.ea_decide.specs.Passing.{Passes}
+use Rattle.rml_wp.specs.declared.premises.Premises.TheVariants.{All}
+use Rattle.limits.specs.Ceilings.{Ceilings}
 
 -- a limit that a sentence passed, as a report names it
 abbrev pub cause_of : Passed → Cause
@@ -25,7 +26,7 @@ first_cause (Some p) = Some (cause_of p)
 
 -- the sentence that is true in the structures from which the goal has a counterexample
 abbrev pub refuting_sentence : ModelTree → Goal → FormTree
-refuting_sentence m goal = refuting_of m m.conjectures goal
+refuting_sentence m goal = refuting All m m.conjectures goal
 
 -- The sentence passes this limit first, or none, over the signature. Here and in what follows a refuting sentence of
 -- the goal decides, over the answered signature, with whatever sentences hold before the stage, and whatever further
@@ -37,21 +38,12 @@ PassesAs limits sig p first = (q : Option Passed) × Passes limits sig p q × (f
 -- the sentence passes.
 abbrev pub PassesFirstAs : Ceilings → ModelTree → Goal → FormTree → Option Cause → Type 0
 PassesFirstAs limits m goal p first =
-    MatchBool (goal_passes_limit m goal) (first ≡ Some cause.Formula) (PassesAs limits (answered m goal) p first)
+    MatchBool (goal_passes_limit All m goal) (first ≡ Some cause.Formula) (PassesAs limits (answered m goal) p first)
 
-module _ (limits : Ceilings) (m : ModelTree) where
-  -- where these sentences hold before the stage in place of the conjectures
-  abbrev pub SentencePassesBy : List FormTree → Goal → Option Cause → Type 0
-  SentencePassesBy held goal first = PassesAs limits (answered m goal) (refuting_of m held goal) first
+-- the refuting sentence passes this limit first, or none, where these sentences hold before the stage
+abbrev pub SentencePasses : Ceilings → ModelTree → List FormTree → Goal → Option Cause → Type 0
+SentencePasses limits m held goal first = PassesAs limits (answered m goal) (refuting All m held goal) first
 
-  -- the goal itself passes this limit first, or none, where these sentences hold
-  abbrev pub PassesFirstBy : List FormTree → Goal → Option Cause → Type 0
-  PassesFirstBy held goal first = PassesFirstAs limits m goal (refuting_of m held goal) first
-
-  -- where all conjectures hold
-  abbrev pub SentencePasses : Goal → Option Cause → Type 0
-  SentencePasses goal first = SentencePassesBy m.conjectures goal first
-
-  -- the goal itself passes this limit first, or none, where all conjectures hold
-  abbrev pub PassesFirst : Goal → Option Cause → Type 0
-  PassesFirst goal first = PassesFirstBy m.conjectures goal first
+-- and so does the goal itself
+abbrev pub PassesFirst : Ceilings → ModelTree → List FormTree → Goal → Option Cause → Type 0
+PassesFirst limits m held goal first = PassesFirstAs limits m goal (refuting All m held goal) first

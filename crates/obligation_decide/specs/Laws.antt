@@ -11,33 +11,33 @@ use Rattle.rml_command.specs.Fragment.{IsChecked}
 use Rattle.rml_command.specs.Goals.{IsGoal}
 use Rattle.rml_command.specs.declared.goal.Goal.{Goal}
 use Rattle.rml_wp.specs.declared.premises.Premises.{Premises}
-use Rattle.rml_wp.specs.Preconditions.{refuting_by}
-use Rattle.rml_wp.specs.Added.{refuting_all_by}
+use Rattle.rml_wp.specs.Preconditions.{refuting}
+use Rattle.rml_wp.specs.Added.{refuting_where}
 use Rattle.rml_report.specs.Reports.{AxiomsAre}
 use Rattle.limits.specs.declared.cause.Cause.{Cause}
 use Rattle.rml_report.specs.declared.report.Axioms.TheVariants.{Consistent, Inconsistent}
 use Rattle.limits.specs.Ceilings.{Ceilings}
 use Rattle.ea_decide.specs.Decisions.{HasNoModel}
-use Rattle.obligation_decide.specs.GoalPassing.{PassesFirst}
 use Rattle.obligation_decide.specs.Restricted.{with_parts}
 use Rattle.obligation_decide.specs.WithConstants.{HoldsWithConstants}
+use Rattle.obligation_decide.specs.GoalPassing.{PassesFirst}
 
 -- Two answers to which limit a goal passes first, if it passes one, are equal.
 abbrev pub FirstLimitIsOne : Type 0
 FirstLimitIsOne = (limits : Ceilings) (m : ModelTree) (goal : Goal) (a b : Option Cause) → IsChecked m
     → IsSignature m.signature → IsGoal m goal
-    → PassesFirst limits m goal a → PassesFirst limits m goal b → a ≡ b
+    → PassesFirst limits m m.conjectures goal a → PassesFirst limits m m.conjectures goal b → a ≡ b
 
 -- A refuting sentence with further parts is the sentence with these in its And.
 abbrev pub PartsAreAdded : Type 0
 PartsAreAdded = (premises : Premises) (m : ModelTree) (more : List FormTree) (goal : Goal)
-    → with_parts (refuting_by premises m m.conjectures goal) more ≡ refuting_all_by premises m m.conjectures more goal
+    → with_parts (refuting premises m m.conjectures goal) more ≡ refuting_where premises m m.conjectures more goal
 
 -- A refuting sentence with further parts is true exactly where it is true without them and they are true.
 abbrev pub PartsAreTrue : Type 0
 PartsAreTrue = (premises : Premises) (m : ModelTree) (held more : List FormTree) (goal : Goal) (s : Tables)
-    → (is_true s (refuting_all_by premises m held more goal) ≡ true)
-    ↔ ((is_true s (refuting_by premises m held goal) ≡ true) × (satisfies s more ≡ true))
+    → (is_true s (refuting_where premises m held more goal) ≡ true)
+    ↔ ((is_true s (refuting premises m held goal) ≡ true) × (satisfies s more ≡ true))
 
 -- The And of a model's axioms is a sentence of the model. Where it has no model the axioms are inconsistent; where it
 -- has one with constants in the place of its existentials, they are consistent.

@@ -13,15 +13,14 @@ use Rattle.rml_wp.specs.declared.premises.Premises.{Premises}
 use Rattle.rml_wp.specs.declared.premises.Premises.TheVariants.{All}
 use Rattle.rml_wp.specs.Preconditions.{answered}
 use Rattle.rml_wp.specs.Answered.{IsCutOfSatisfying}
-use Rattle.rml_wp.specs.Added.{AreAdded, refuting_all, refuting_all_by}
-use Rattle.rml_wp.specs.Laws.{IsCounterexampleBy}
+use Rattle.rml_wp.specs.Added.{AreAdded, refuting_where}
 use Rattle.limits.specs.declared.cause.Cause.{Cause}
 use Rattle.ea_decide.specs.declared.decided.Passed.{Passed}
 use Rattle.limits.specs.Ceilings.{Ceilings}
 use Rattle.ea_decide.specs.Passing.{Passes}
 use Rattle.ea_decide.specs.Decisions.{HasNoModel, Refutes, IsOver}
 use Rattle.obligation_decide.specs.GoalPassing.{cause_of, PassesAs, PassesFirstAs}
-use Rattle.obligation_decide.specs.GoalDecisions.{IsFailing, IsLeftOpenAs, IsDecisionAs}
+use Rattle.obligation_decide.specs.GoalDecisions.{IsLeftOpenAs, IsDecisionAs, IsFailing}
 use Rattle.obligation_decide.specs.declared.decision.Decision.{Decision}
 use Rattle.obligation_decide.specs.declared.decision.Decision.TheVariants.{Holds, Fails, Undecided}
 
@@ -36,14 +35,14 @@ pub record IsRefutingWith (premises : Premises) (m : ModelTree) (goal : Goal) (p
   pub held : List FormTree
   pub more : List FormTree
   pub added : AreAdded m held more
-  pub is : p ≡ refuting_all_by premises m held more goal
+  pub is : p ≡ refuting_where premises m held more goal
 
 -- Whatever holds before the stage where the sentence is such a refuting sentence of the goal, with this trace and these
 -- values the structure is a counterexample.
 abbrev pub RefutesAs : Premises → ModelTree → Goal → FormTree → Tables → List Havoc → List ℕ → Type 0
 RefutesAs premises m goal p s havocs values =
-    (held more : List FormTree) → AreAdded m held more → p ≡ refuting_all_by premises m held more goal
-    → IsCounterexampleBy m held goal s havocs values
+    (held more : List FormTree) → AreAdded m held more → p ≡ refuting_where premises m held more goal
+    → IsCounterexample m held goal s havocs values
 
 -- The execution is one, of the cut of a structure that satisfies the sentence. Private contracts alone cite this.
 pub record IsSentenceFailing (limits : Ceilings) (premises : Premises) (m : ModelTree) (p : FormTree) (goal : Goal)
@@ -66,27 +65,29 @@ IsSentenceDecision limits m p goal (Undecided c) =
 -- no counterexample of the goal is in a structure that satisfies these sentences
 abbrev pub HasNoneWhere : ModelTree → List FormTree → Goal → Type 0
 HasNoneWhere m more goal =
-    (s : Tables) (havocs : List Havoc) (values : List ℕ) → IsCounterexample m goal s havocs values
+    (s : Tables) (havocs : List Havoc) (values : List ℕ) → IsCounterexample m m.conjectures goal s havocs values
     → satisfies s more ≡ true → ⊥
 
 module _ (limits : Ceilings) (m : ModelTree) (more : List FormTree) (goal : Goal) where
   -- the refuting sentence with these parts
   abbrev pub RestrictedSentencePasses : Option Cause → Type 0
-  RestrictedSentencePasses first = PassesAs limits (answered m goal) (refuting_all m m.conjectures more goal) first
+  RestrictedSentencePasses first =
+      PassesAs limits (answered m goal) (refuting_where All m m.conjectures more goal) first
 
   -- the goal with these parts passes this limit first, or none
   abbrev pub RestrictedPassesFirst : Option Cause → Type 0
-  RestrictedPassesFirst first = PassesFirstAs limits m goal (refuting_all m m.conjectures more goal) first
+  RestrictedPassesFirst first = PassesFirstAs limits m goal (refuting_where All m m.conjectures more goal) first
 
   -- the goal with these parts is left open for this cause
   abbrev pub IsLeftOpenWhere : Cause → Type 0
-  IsLeftOpenWhere c = IsLeftOpenAs limits m goal (refuting_all m m.conjectures more goal) c
+  IsLeftOpenWhere c = IsLeftOpenAs limits m goal (refuting_where All m m.conjectures more goal) c
 
   -- this is a counterexample in such a structure
   abbrev pub IsFailingWhere : Counterexample → Type 0
-  IsFailingWhere shown = IsFailing limits m goal shown × (satisfies shown.structure more ≡ true)
+  IsFailingWhere shown = IsFailing limits m m.conjectures goal shown × (satisfies shown.structure more ≡ true)
 
   -- The answer whether the goal has a counterexample in such a structure.
   abbrev pub IsRestrictedDecision : Decision → Type 0
   IsRestrictedDecision d =
-      IsDecisionAs limits m goal (refuting_all m m.conjectures more goal) (HasNoneWhere m more goal) IsFailingWhere d
+      IsDecisionAs limits m goal (refuting_where All m m.conjectures more goal) (HasNoneWhere m more goal)
+      IsFailingWhere d

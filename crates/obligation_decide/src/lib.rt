@@ -19,11 +19,12 @@ ghost use Rattle.fol_formula.specs.Fits.{FitsForm};
 ghost use Rattle.fol_formula.specs.Fragments.{IsEa};
 ghost use Rattle.rml_command.specs.Goals.{IsGoal};
 ghost use Rattle.rml_wp.specs.declared.premises.Premises.TheVariants.{All as AllAxioms};
-ghost use Rattle.rml_wp.specs.Preconditions.{conjectures_of, answered as answered_of};
+ghost use Rattle.rml_wp.specs.Preconditions.{answered as answered_of};
+ghost use Rattle.rml_command.specs.InductiveSets.{conjectures_of};
 ghost use Rattle.limits.specs.Ceilings.{ceilings};
 ghost use Rattle.obligation_decide.specs.GoalPassing.{cause_of as named_cause};
-ghost use Rattle.obligation_decide.specs.GoalDecisions.{IsDecision, IsDecisionBy};
 ghost use Rattle.obligation_decide.specs.Restricted.{IsRefutingWith, IsSentenceDecision, IsRestrictedDecision};
+ghost use Rattle.obligation_decide.specs.GoalDecisions.{IsDecision};
 
 pub use axioms::{all_axioms, decide_axioms};
 use base::{Mem, Refused};
@@ -45,7 +46,7 @@ pub use walk::read_counterexample;
 /// conflicts.
 pub fn decide(alloc: Global, checked: &Checked, goal: &Goal, limits: &Limits) -> Mem<Decision>
     requires goal { IsGoal checked.now goal.now }
-    ensures { IfOk result (IsDecision (ceilings limits.now) checked.now goal.now) }
+    ensures { IfOk result (IsDecision (ceilings limits.now) checked.now checked.now.conjectures goal.now) }
 {
     rml_wp::sentence_law();
     let decision = decide_where(alloc, checked, goal, &[], limits)?;
@@ -64,13 +65,13 @@ pub fn decide_with(
     requires goal { IsGoal checked.now goal.now }
     requires held { All (λ k. k < length checked.now.conjectures) held.now }
     ensures { IfOk result
-        (IsDecisionBy (ceilings limits.now) checked.now (conjectures_of checked.now held.now) goal.now) }
+        (IsDecision (ceilings limits.now) checked.now (conjectures_of checked.now held.now) goal.now) }
 {
     rml_wp::sentence_law();
     rml_wp::answered_law();
     rml_wp::answered_goal(checked, goal);
     let _checked = checked.model();
-    match refuting_with(alloc, checked, goal, held) {
+    match refuting_with(alloc, checked, Premises::All, goal, held) {
         Ok((answered, sentence)) => {
             let decided = decide_sentence(alloc, checked, goal, &answered, &sentence, limits);
             drop(sentence);

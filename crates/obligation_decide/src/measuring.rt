@@ -10,12 +10,13 @@ ghost use Rattle.fol_formula.specs.Fragments.{IsEa};
 ghost use Rattle.fol_pool.specs.Trees.{IsAt, a_form};
 ghost use Rattle.rml_command.specs.Goals.{IsGoal};
 ghost use Rattle.rml_wp.specs.Preconditions.{answered as answered_of, goal_precondition, goal_passes_limit};
-ghost use Rattle.rml_wp.specs.Added.{refuting_all};
+ghost use Rattle.rml_wp.specs.Added.{refuting_where};
 ghost use Rattle.ground_size.specs.Found.{IsGroundSize};
 ghost use Rattle.pool_wp.specs.Sharing.{IsPoolOf};
 ghost use Rattle.ground_size.specs.Conjoined.{forms_at};
 ghost use Rattle.limits.specs.Ceilings.{ceilings};
 ghost use Rattle.obligation_decide.specs.Costs.{IsSentenceMeasured, IsRestrictedMeasured, held_before};
+ghost use Rattle.rml_wp.specs.declared.premises.Premises.TheVariants.{All};
 
 use crate::cause_of;
 use crate::decision::Measured;
@@ -90,9 +91,9 @@ fn counted(
     requires goal { IsGoal checked.now goal.now }
     requires answered { answered.now ≡ answered_of checked.now goal.now }
     requires sentence { IsAt shared.old.pool sentence.0
-        (a_form (refuting_all checked.now checked.now.conjectures [] goal.now)) }
+        (a_form (refuting_where All checked.now checked.now.conjectures [] goal.now)) }
     ensures size { IfOk result
-        (IsGroundSize answered.now (refuting_all checked.now checked.now.conjectures [] goal.now)) }
+        (IsGroundSize answered.now (refuting_where All checked.now checked.now.conjectures [] goal.now)) }
     ensures shared { IsPoolOf checked.now shared.new }
 {
     rml_wp::sentence_law();
@@ -126,8 +127,8 @@ pub fn measure_by(
 ) -> Mem<Measured>
     requires goal { IsGoal checked.now goal.now }
     requires answered { answered.now ≡ answered_of checked.now goal.now }
-    requires precondition { precondition.now ≡ goal_precondition checked.now goal.now }
-    requires within { goal_passes_limit checked.now goal.now ≡ false }
+    requires precondition { precondition.now ≡ goal_precondition All checked.now goal.now }
+    requires within { goal_passes_limit All checked.now goal.now ≡ false }
     requires fragment { AllByRecursion IsEa more.now }
     requires fits { AllByRecursion (FitsForm (symbols checked.now.signature) []) more.now }
     ensures { IfOk result (IsRestrictedMeasured (ceilings limits.now) checked.now more.now goal.now) }
@@ -148,11 +149,11 @@ fn measure_refuting(
 ) -> Mem<Measured>
     requires goal { IsGoal checked.now goal.now }
     requires answered { answered.now ≡ answered_of checked.now goal.now }
-    requires precondition { precondition.now ≡ goal_precondition checked.now goal.now }
+    requires precondition { precondition.now ≡ goal_precondition All checked.now goal.now }
     requires fragment { AllByRecursion IsEa more.now }
     requires fits { AllByRecursion (FitsForm (symbols checked.now.signature) []) more.now }
     ensures { IfOk result (IsSentenceMeasured (ceilings limits.now) answered.now
-        (refuting_all checked.now checked.now.conjectures more.now goal.now)) }
+        (refuting_where All checked.now checked.now.conjectures more.now goal.now)) }
 {
     rml_wp::sentence_law();
     rml_wp::answered_goal(checked, goal);

@@ -8,15 +8,16 @@ ghost use Rattle.fol_formula.specs.Fits.{FitsForm};
 ghost use Rattle.fol_formula.specs.Fragments.{IsEa};
 ghost use Rattle.rml_command.specs.Goals.{IsGoal};
 ghost use Rattle.rml_wp.specs.Preconditions.{answered, goal_passes_limit};
-ghost use Rattle.rml_wp.specs.Added.{refuting_all};
+ghost use Rattle.rml_wp.specs.Added.{refuting_where};
 ghost use Rattle.obligation_decide.specs.Restricted.{with_parts};
+ghost use Rattle.rml_wp.specs.declared.premises.Premises.TheVariants.{All};
 
 use base::{Mem, Refused};
 use fol_formula::{Ea, Formula, Sentence};
 use fol_sig::Signature;
 use fol_subst::FormulaLimit;
 use rml_command::{Checked, Goal};
-use rml_wp::refuting;
+use rml_wp::{Premises, refuting};
 use std::alloc::Global;
 
 /// The sentence that a structure satisfies exactly where the goal has a counterexample from it and it satisfies these
@@ -31,15 +32,16 @@ pub fn restricted(
     requires fragment { AllByRecursion IsEa more.now }
     requires fits { AllByRecursion (FitsForm (symbols checked.now.signature) []) more.now }
     ensures signature { IfOk result (λ r. r.0 ≡ answered checked.now goal.now) }
-    ensures sentence { IfOk result (λ r. r.1 ≡ refuting_all checked.now checked.now.conjectures more.now goal.now) }
-    ensures within { OnOk result (goal_passes_limit checked.now goal.now ≡ false) }
-    ensures limit { IfErr result (Because (λ _. IsTrue (goal_passes_limit checked.now goal.now))) }
+    ensures sentence { IfOk result
+        (λ r. r.1 ≡ refuting_where All checked.now checked.now.conjectures more.now goal.now) }
+    ensures within { OnOk result (goal_passes_limit All checked.now goal.now ≡ false) }
+    ensures limit { IfErr result (Because (λ _. IsTrue (goal_passes_limit All checked.now goal.now))) }
 {
     rml_wp::sentence_law();
     rml_wp::answered_goal(checked, goal);
     fol_formula::indices();
     let _checked = checked.model();
-    let (answered, sentence) = refuting(alloc, checked, goal)?;
+    let (answered, sentence) = refuting(alloc, checked, Premises::All, goal)?;
     let formula = sentence.into_sentence().into_formula();
     let all = with_parts(alloc, formula, more)?;
     Ok((answered, Ea::new(Sentence::of(all))))

@@ -10,8 +10,7 @@ use Rattle.fol_formula.specs.Sentences.{is_true, satisfies}
 use Rattle.rml_command.specs.Goals.{group_goals, is_allowed, HasNone}
 use Rattle.rml_command.specs.declared.goal.Stage.{Stage}
 use Rattle.rml_command.specs.declared.goal.Stage.TheVariants as stage
-use Rattle.rml_wp.specs.Preconditions.{conjectures_of}
-use Rattle.rml_wp.specs.Laws.{is_allowed_by}
+use Rattle.rml_command.specs.InductiveSets.{conjectures_of}
 use Rattle.lean_decide.specs.declared.settling.Counted.TheVariants.{Whole}
 use Rattle.rml_houdini.specs.Rounds.{IsSafe}
 use Rattle.rml_reasons.specs.Laws.{CarriedGroupsHold}
@@ -28,15 +27,15 @@ module _ (s : Tables) where
   some-true m [] h = refl
   some-true m (k ∷ ks) h = and_from _ _ (one-true m.conjectures k h) (some-true m ks h)
 
-  allowed : (m : ModelTree) (ks : List ℕ) (st : Stage) → is_allowed m st s ≡ true
-      → is_allowed_by m (conjectures_of m ks) st s ≡ true
+  allowed : (m : ModelTree) (ks : List ℕ) (st : Stage) → is_allowed m m.conjectures st s ≡ true
+      → is_allowed m (conjectures_of m ks) st s ≡ true
   allowed m ks stage.Init h = h
   allowed m ks (stage.Action a) h = let both = and_parts _ _ h in and_from _ _ both.0 (some-true m ks both.1)
   allowed m ks stage.Final h = let both = and_parts _ _ h in and_from _ _ both.0 (some-true m ks both.1)
 
 pub carried_groups_hold : CarriedGroupsHold
 carried_groups_hold limits m group ks reason =
-    all_more (IsSafe Whole limits m ks) (HasNone m) (λ goal safe s havocs values h. safe.1 s havocs values (record {
+    all_more (IsSafe Whole limits m ks) (HasNone m m.conjectures) (λ goal safe s havocs values h. safe.1 s havocs values (record {
       path = h.path;
       is_path = h.is_path;
       structure = h.structure;

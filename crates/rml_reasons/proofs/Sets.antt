@@ -6,7 +6,7 @@ use Rattle.std.specs.List.{AllByRecursion, filter}
 use Rattle.std.proofs.lemmas.Bool.Decides.{Decides-eqb}
 use Rattle.base.specs.Lists.{count_from}
 use Rattle.rml_command.specs.Models.{ModelTree}
-use Rattle.rml_houdini.specs.Subsets.{Has}
+use Rattle.rml_command.specs.InductiveSets.{Has}
 use Rattle.rml_reasons.specs.Reasons.{IsAscending, AreConjectures, without}
 
 each : (P : ℕ → Type 0) (ks : List ℕ) → All P ks → AllByRecursion P ks

@@ -4,7 +4,7 @@ use Rattle.std.specs.List.{AllByRecursion}
 use Rattle.rml_command.specs.Models.{ModelTree}
 use Rattle.rml_command.specs.declared.goal.Head.{Head}
 use Rattle.limits.specs.Ceilings.{Ceilings}
-use Rattle.rml_houdini.specs.Subsets.{Has}
+use Rattle.rml_command.specs.InductiveSets.{Has}
 use Rattle.rml_reasons.specs.Reasons.{AreConjectures, IsLack, IsReason, needed_conjectures, without}
 use Rattle.rml_reasons.specs.declared.reason.Lack.{Lack}
 use Rattle.rml_reasons.specs.declared.needs.Judged.{Judged}

@@ -12,7 +12,7 @@ use Rattle.limits.specs.declared.cause.Cause.TheVariants as cause
 use Rattle.limits.specs.Ceilings.{ceilings}
 use Rattle.ea_decide.specs.Decisions.{AreClauses}
 use Rattle.ea_decide.specs.declared.decided.Clauses.TheVariants.{Written}
-use Rattle.obligation_decide.specs.GoalPassing.{refuting_sentence, SentencePassesBy}
+use Rattle.obligation_decide.specs.GoalPassing.{refuting_sentence, SentencePasses}
 use Rattle.goal_clauses.proofs.FirstValues.{none_satisfies}
 use Rattle.goal_clauses.proofs.clauses_of_sentence.Goals as goal
 
@@ -54,7 +54,7 @@ returns-in-Written c =
     let exact = c.exactness_law.ensures m of order f checked ok sorted strata c.requires.goal written.1 in
     let refute = c.counterexample_law.ensures m of order f checked ok sorted strata c.requires.goal written.1 in (
       subst
-          (λ (b : Bool). MatchBool b (None ≡ Some cause.Formula) (SentencePassesBy limits m m.conjectures of None))
+          (λ (b : Bool). MatchBool b (None ≡ Some cause.Formula) (SentencePasses limits m m.conjectures of None))
           (sym c.requires.within) (None, written.0, refl),
       record {
         form = written.1;

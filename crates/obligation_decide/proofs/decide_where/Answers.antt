@@ -17,7 +17,7 @@ pub returns-in_ok-decision-in-Ok : goal.returns-in_ok-decision-in-Ok
 returns-in_ok-decision-in-Ok c =
     let m = c.args.checked.now in
     let checked = c.model-checked.ensures.checked in
-    let exact : AreExact = record { cuts = c.answered_law.ensures.cuts; same = c.refuting_law.ensures.same } in
+    let exact : AreExact = record { cuts = c.answered_law.ensures.cuts } in
     let added = (c.sentence_law.ensures.conjectures m c.args.more.now checked c.requires.fragment c.requires.fits).all
     in
     restricted_by (ceilings c.args.limits.now) m c.args.goal.now c.args.more.now

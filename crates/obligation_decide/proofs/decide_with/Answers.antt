@@ -1,6 +1,6 @@
 use Rattle.std.proofs.Common.{[], ◌∙◌, sym}
 use Rattle.rml_wp.specs.declared.premises.Premises.TheVariants.{All}
-use Rattle.rml_wp.specs.Preconditions.{conjectures_of}
+use Rattle.rml_command.specs.InductiveSets.{conjectures_of}
 use Rattle.limits.specs.Ceilings.{ceilings}
 use Rattle.obligation_decide.proofs.Holding.{held_by}
 use Rattle.obligation_decide.proofs.decide_with.Goals as goal

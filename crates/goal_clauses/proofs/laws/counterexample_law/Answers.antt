@@ -14,7 +14,7 @@ returns c = λ m goal order f checked ok sorted strata is_goal form none s havoc
     let alone = c.sentence_law.ensures.alone All m m.conjectures goal in
     let is = c.answered_law.ensures.answered m goal checked.model.fits ok is_goal in
     let w = c.answered_law.ensures.cuts All m m.conjectures goal s havocs values checked.model.fits ok
-    checked.model.fits.conjectures is_goal ((c.refuting_law.ensures.same m goal s havocs values).1 shown) in
+    checked.model.fits.conjectures is_goal shown in
     c.clauses_law.ensures.refutes (answered m goal) (refuting_sentence m goal) order f (is.sorted sorted)
     (is.strata order strata) (subst IsEa alone sentence.fragment)
     (subst (FitsForm (symbols (answered m goal)) []) alone sentence.fits) form none w.whole w.fits w.holds

@@ -20,15 +20,15 @@ returns c = λ m goal order f checked ok sorted strata is_goal form.
     (subst (FitsForm (symbols (answered m goal)) []) alone sentence.fits) form in (
       λ satisfied.
           let model = exact.0 satisfied in
-          let shown = (c.refuting_law.ensures.all m goal model.0 checked.model.fits ok is_goal model.1).0 model.2 in (
+          let shown = (c.refuting_law.ensures.exact m m.conjectures goal model.0 checked.model.fits ok
+          checked.model.fits.conjectures is_goal model.1).0 model.2 in (
             reduct (symbols m.signature) model.0,
             goal_havocs m goal model.0 shown.0,
             shown.1,
-            shown.3,
+            shown.2.shown,
           ),
       λ shown.
           let w = c.answered_law.ensures.cuts All m m.conjectures goal shown.0 shown.1 shown.2 checked.model.fits ok
-          checked.model.fits.conjectures is_goal
-          ((c.refuting_law.ensures.same m goal shown.0 shown.1 shown.2).1 shown.3) in
+          checked.model.fits.conjectures is_goal shown.3 in
           exact.1 (w.whole, w.fits, w.holds),
     )

@@ -6,7 +6,7 @@ use Rattle.fol_formula.specs.Fits.{BoundForm}
 use Rattle.fol_formula.specs.Fragments.{IsEa}
 use Rattle.rml_wp.specs.declared.premises.Premises.TheVariants.{Affected}
 use Rattle.rml_wp.specs.Preconditions.{answered}
-use Rattle.rml_wp.specs.Added.{refuting_all_by}
+use Rattle.rml_wp.specs.Added.{refuting_where}
 use Rattle.obligation_decide.specs.Restricted.{with_parts}
 use Rattle.lean_decide.proofs.seeking.restricted.Goals as goal
 
@@ -21,11 +21,11 @@ of-requires c =
     c.answered_goal.ensures.signature c.requires.goal added).fits in
     let before = c.into_formula-formula.ensures.value ∙ c.into_sentence.ensures.value ∙ c.in_ok-copied.ensures
     ∙ c.requires.affected in
-    let is : form c.in_ok-all.all ≡ refuting_all_by Affected m m.conjectures more g =
+    let is : form c.in_ok-all.all ≡ refuting_where Affected m m.conjectures more g =
     c.in_ok-all.ensures ∙ ap (λ (q : FormTree). with_parts q more) before
     ∙ c.parts_law.ensures.added Affected m more g in
     subst (BoundForm 0) (sym is)
-    (c.indices.ensures.bound (symbols (answered m g)) [] (refuting_all_by Affected m m.conjectures more g) fit)
+    (c.indices.ensures.bound (symbols (answered m g)) [] (refuting_where Affected m m.conjectures more g) fit)
 
 pub new-requires : goal.new-requires
 new-requires c =
@@ -39,7 +39,7 @@ new-requires c =
     c.answered_goal.ensures.signature c.requires.goal added).fragment in
     let before = c.into_formula-formula.ensures.value ∙ c.into_sentence.ensures.value ∙ c.in_ok-copied.ensures
     ∙ c.requires.affected in
-    let is : c.of.result ≡ refuting_all_by Affected m m.conjectures more g =
+    let is : c.of.result ≡ refuting_where Affected m m.conjectures more g =
     c.of.ensures ∙ c.in_ok-all.ensures ∙ ap (λ (q : FormTree). with_parts q more) before
     ∙ c.parts_law.ensures.added Affected m more g in
     subst (λ (q : FormTree). IsEa q) (sym is) fragment

@@ -20,7 +20,6 @@ returns-in-Ok-Holds c =
     let checked = c.model-checked.ensures.checked in
     let exact : AreExact = record {
       cuts = c.answered_law.ensures.cuts;
-      same = c.refuting_law.ensures.same;
       parts = c.parts_law.ensures.truth;
     } in
     let added = (c.sentence_law.ensures.conjectures m more checked c.requires.fragment c.requires.fits).all in
@@ -35,7 +34,6 @@ returns-in-Ok-Fails c =
     let checked = c.model-checked.ensures.checked in
     let exact : AreExact = record {
       cuts = c.answered_law.ensures.cuts;
-      same = c.refuting_law.ensures.same;
       parts = c.parts_law.ensures.truth;
     } in
     let added = (c.sentence_law.ensures.conjectures m more checked c.requires.fragment c.requires.fits).all in

@@ -6,7 +6,7 @@ use Rattle.fol_formula.specs.Fits.{BoundForm}
 use Rattle.fol_formula.specs.Fragments.{IsEa}
 use Rattle.rml_wp.specs.declared.premises.Premises.TheVariants.{All}
 use Rattle.rml_wp.specs.Preconditions.{answered}
-use Rattle.rml_wp.specs.Added.{refuting_all}
+use Rattle.rml_wp.specs.Added.{refuting_where}
 use Rattle.obligation_decide.specs.Restricted.{with_parts}
 use Rattle.obligation_decide.proofs.Restricting.{restricted_is}
 use Rattle.obligation_decide.proofs.parts.restricted.Goals as goal
@@ -22,10 +22,10 @@ of-requires c =
     c.answered_goal.ensures.signature c.requires.goal added).fits in
     let before = c.into_formula-formula.ensures.value ∙ c.into_sentence.ensures.value
     ∙ c.in_ok-answered.ensures.sentence in
-    let is : form c.in_ok-all.all ≡ refuting_all m m.conjectures more g =
+    let is : form c.in_ok-all.all ≡ refuting_where All m m.conjectures more g =
     c.in_ok-all.ensures ∙ ap (λ (q : FormTree). with_parts q more) before ∙ restricted_is All m more g in
     subst (BoundForm 0) (sym is)
-    (c.indices.ensures.bound (symbols (answered m g)) [] (refuting_all m m.conjectures more g) fit)
+    (c.indices.ensures.bound (symbols (answered m g)) [] (refuting_where All m m.conjectures more g) fit)
 
 pub new-requires : goal.new-requires
 new-requires c =
@@ -38,6 +38,6 @@ new-requires c =
     c.answered_goal.ensures.signature c.requires.goal added).fragment in
     let before = c.into_formula-formula.ensures.value ∙ c.into_sentence.ensures.value
     ∙ c.in_ok-answered.ensures.sentence in
-    let is : c.of.result ≡ refuting_all m m.conjectures more g =
+    let is : c.of.result ≡ refuting_where All m m.conjectures more g =
     c.of.ensures ∙ c.in_ok-all.ensures ∙ ap (λ (q : FormTree). with_parts q more) before ∙ restricted_is All m more g in
     subst (λ (q : FormTree). IsEa q) (sym is) fragment

@@ -10,7 +10,7 @@ use Rattle.fol_formula.specs.Witnesses.{existentials}
 use Rattle.rml_command.specs.declared.havoc.Havoc.{Havoc}
 use Rattle.rml_wp.specs.Preconditions.{answered}
 use Rattle.rml_wp.specs.Laws.{goal_havocs}
-use Rattle.rml_wp.specs.Witnesses.{witness_places_by, values_at}
+use Rattle.rml_wp.specs.Witnesses.{witness_places, values_at}
 use Rattle.obligation_decide.specs.Restricted.{RefutesAs}
 use Rattle.obligation_decide.specs.WithConstants.{constant_sorts, HoldsWithConstants}
 use Rattle.obligation_decide.proofs.SameAnswer.{signature_of, functions_of}
@@ -93,7 +93,7 @@ returns-clause-refutes c =
     let w = c.in_ok-witness.witness in
     let n = c.existentials-count.result in
     let xs = c.deref.result.now in
-    let places = witness_places_by c.args.premises m g in
+    let places = witness_places c.args.premises m g in
     let sig = answered m c.args.goal.now in
     let model = subst (λ (z : Declared). HoldsWithConstants z p c.args.model) c.requires.answered c.requires.model in
     let same = c.formula.ensures.value ∙ c.sentence.ensures.value in
