@@ -16,8 +16,7 @@ use Rattle.rml_report.specs.Words.{cause_text}
 use Rattle.limits.specs.declared.cause.Cause.{Cause}
 use Rattle.ea_decide.specs.GroundForm.{IsClauseForm}
 use Rattle.limits.specs.Ceilings.{Ceilings}
-use Rattle.obligation_decide.specs.GoalPassing.{PassesFirst, refuting_sentence}
-use Rattle.obligation_decide.specs.GoalDecisions.{IsFailing, IsLeftOpen}
+use Rattle.obligation_decide.specs.GoalPassing.{refuting_sentence, PassesFirst}
 use Rattle.goal_clauses.specs.GoalClauses.{AreClausesOf}
 use Rattle.commands.specs.Due.{Due}
 use Rattle.command_line.specs.declared.request.Emission.{Emission}
@@ -30,22 +29,23 @@ use Rattle.command_parts.specs.Faults.{model_fault_due}
 use Rattle.clause_commands.specs.declared.emit.Emitted.{Emitted}
 use Rattle.clause_commands.specs.declared.emit.Emitted.TheVariants.{Clauses, Refutation, Fails, Undecided, NoGoal}
 use Rattle.clause_commands.specs.declared.emit.EmitAnswer.{EmitAnswer}
+use Rattle.obligation_decide.specs.GoalDecisions.{IsFailing, IsLeftOpen}
 use Rattle.clause_commands.specs.declared.emit.EmitAnswer.TheVariants as answer
 
 -- `cnf`: the clauses of the goal, which say whether it has a counterexample, where it passes no limit by its size, and
 -- which their text says; or the limit that it passes
 abbrev pub AreClausesEmitted : Ceilings → ModelTree → Goal → Emitted → Type 0
 AreClausesEmitted limits m goal (Clauses f) =
-    PassesFirst limits m goal None × AreClausesOf m goal f × formulas.CanWrite f
-AreClausesEmitted limits m goal (Undecided c) = PassesFirst limits m goal (Some c)
+    PassesFirst limits m m.conjectures goal None × AreClausesOf m goal f × formulas.CanWrite f
+AreClausesEmitted limits m goal (Undecided c) = PassesFirst limits m m.conjectures goal (Some c)
 AreClausesEmitted limits m goal _ = ⊥
 
 -- The goal passes no limit and has no counterexample, and the log, each line of which is accepted, refutes the clauses
 -- of its refuting sentence; it can be read over them.
 pub record IsRefutationOfGoal (limits : Ceilings) (m : ModelTree) (goal : Goal) (f : Formula) (lines : List Line) : Type
     0 where
-  pub within : PassesFirst limits m goal None
-  pub safe : HasNone m goal
+  pub within : PassesFirst limits m m.conjectures goal None
+  pub safe : HasNone m m.conjectures goal
   pub clauses : IsClauseForm (answered m goal) (refuting_sentence m goal) f
   pub accepted : IsAccepted f lines
   pub refutes : adds_empty lines ≡ true
@@ -53,15 +53,15 @@ pub record IsRefutationOfGoal (limits : Ceilings) (m : ModelTree) (goal : Goal) 
 
 -- the goal passes no limit, and has a counterexample
 pub record FailsWithin (limits : Ceilings) (m : ModelTree) (goal : Goal) : Type 0 where
-  pub within : PassesFirst limits m goal None
+  pub within : PassesFirst limits m m.conjectures goal None
   pub shown : Counterexample
-  pub fails : IsFailing limits m goal shown
+  pub fails : IsFailing limits m m.conjectures goal shown
 
 -- `lrat`: the log that refutes the goal's clauses; or the goal fails; or it is left open
 abbrev pub IsLogEmitted : Ceilings → ModelTree → Goal → Emitted → Type 0
 IsLogEmitted limits m goal (Refutation f lines) = IsRefutationOfGoal limits m goal f lines
 IsLogEmitted limits m goal Fails = FailsWithin limits m goal
-IsLogEmitted limits m goal (Undecided c) = IsLeftOpen limits m goal c
+IsLogEmitted limits m goal (Undecided c) = IsLeftOpen limits m m.conjectures goal c
 IsLogEmitted limits m goal _ = ⊥
 
 -- what is answered of the goal, where its clauses or a log is asked for

@@ -14,7 +14,7 @@ use Rattle.clause_commands.specs.declared.lrat.LratAnswer.TheVariants.{Refuted}
 -- where `lrat` finds that some log refutes a text of the goal's clauses, the goal has no counterexample
 abbrev pub AcceptedLogProves : Type 0
 AcceptedLogProves = (m : ModelTree) (goal : Goal) (f : Formula) (text log : List ℕ) (a : LratAnswer)
-    → AreClausesOf m goal f → read_of text ≡ Ok f → IsRefutation text log a → a ≡ Refuted → HasNone m goal
+    → AreClausesOf m goal f → read_of text ≡ Ok f → IsRefutation text log a → a ≡ Refuted → HasNone m m.conjectures goal
 
 -- the text that `emit` writes is one
 abbrev pub WrittenIsRead : Type 0

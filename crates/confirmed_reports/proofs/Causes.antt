@@ -21,6 +21,7 @@ use Rattle.ea_decide.specs.Passing.{Passes}
 use Rattle.ea_decide.specs.Decisions.{IsOver}
 use Rattle.obligation_decide.specs.GoalPassing.{cause_of, first_cause, PassesAs, PassesFirstAs}
 use Rattle.obligation_decide.specs.GoalDecisions.{IsLeftOpenAs, AreAxiomsDecided}
+use Rattle.rml_wp.specs.declared.premises.Premises.TheVariants.{All}
 
 saturated_number : (n : ℕ) → IsNumber (saturated n)
 saturated_number n = omega arith
@@ -71,21 +72,21 @@ module _ (limits : Ceilings) (few : limits.conflicts ≤ 100000000) where
             subst (λ (d : Cause). IsCounted d) (sym same) (passes_counted (answered m goal) p x passes)
 
     -- a goal that passes no limit of formulas is left open for a cause that has a number
-    first_is_counted : (c : Cause) → goal_passes_limit m goal ≡ false → PassesFirstAs limits m goal p (Some c)
+    first_is_counted : (c : Cause) → goal_passes_limit All m goal ≡ false → PassesFirstAs limits m goal p (Some c)
         → IsCounted c
     first_is_counted c within h =
         sentence_counted c
         (subst (λ (b : Bool). MatchBool b (Some c ≡ Some cause.Formula)
         (PassesAs limits (answered m goal) p (Some c))) within h)
 
-    pub open_counted : (c : Cause) → goal_passes_limit m goal ≡ false → IsLeftOpenAs limits m goal p c → IsCounted c
+    pub open_counted : (c : Cause) → goal_passes_limit All m goal ≡ false → IsLeftOpenAs limits m goal p c → IsCounted c
     open_counted cause.Formula within h = first_is_counted cause.Formula within h
     open_counted (cause.Terms n) within h = first_is_counted (cause.Terms n) within h
     open_counted (cause.Ground n) within h = first_is_counted (cause.Ground n) within h
     open_counted (cause.Conflicts n) within h = let same : n ≡ limits.conflicts = h.1 in omega (arith, same, few)
 
     first_is_cause : (c : Cause) → PassesFirstAs limits m goal p (Some c) → IsCause c
-    first_is_cause c h = by (goal_passes_limit m goal) h
+    first_is_cause c h = by (goal_passes_limit All m goal) h
       where
         by : (b : Bool) → MatchBool b (Some c ≡ Some cause.Formula) (PassesAs limits (answered m goal) p (Some c))
             → IsCause c
@@ -99,8 +100,8 @@ module _ (limits : Ceilings) (few : limits.conflicts ≤ 100000000) where
     open_cause (cause.Conflicts n) h = let same : n ≡ limits.conflicts = h.1 in omega (arith, same, few)
 
     -- what passes no limit passes none of formulas
-    pub no_formula : PassesFirstAs limits m goal p None → goal_passes_limit m goal ≡ false
-    no_formula h = by (goal_passes_limit m goal) h
+    pub no_formula : PassesFirstAs limits m goal p None → goal_passes_limit All m goal ≡ false
+    no_formula h = by (goal_passes_limit All m goal) h
       where
         by : (b : Bool) → MatchBool b (None ≡ Some cause.Formula) (PassesAs limits (answered m goal) p None) → b ≡ false
         by true e = absurd (cc e)

@@ -26,8 +26,7 @@ use Rattle.printed_report.specs.Lines.{IsBound, IsLeast}
 use Rattle.report_read.specs.Printing.{CanPrint}
 use Rattle.limits.specs.Ceilings.{Ceilings}
 use Rattle.obligation_decide.specs.GoalPassing.{refuting_sentence}
-use Rattle.obligation_decide.specs.GoalDecisions.{IsFailing}
-use Rattle.rml_wp.specs.Added.{refuting_all}
+use Rattle.rml_wp.specs.Added.{refuting_where}
 use Rattle.lean_decide.specs.declared.settling.Counted.TheVariants.{Whole}
 use Rattle.lean_decide.specs.Settled.{FirstPassed}
 use Rattle.cti_minimise.specs.Bounding.{bounds_on}
@@ -51,6 +50,8 @@ use Rattle.verdicts.specs.Answers.{
 use Rattle.confirmed_reports.specs.Confirmed.{HasNumbers}
 use Rattle.confirmed_reports.proofs.Causes.{axioms_told, open_counted, open_cause, no_formula}
 use Rattle.confirmed_reports.proofs.TextLengths.{tuples_shown, answers_long}
+use Rattle.rml_wp.specs.declared.premises.Premises.TheVariants.{All as AllAxioms}
+use Rattle.obligation_decide.specs.GoalDecisions.{IsFailing}
 
 -- each relation is true of so few tuples that their number has 64 bits
 abbrev HasFewTuples : Tables → Type 0
@@ -84,13 +85,13 @@ module _ (limits : Ceilings) (terms : limits.terms ≤ 100000) (few : limits.con
       let most = tuples r.0 lt in
       (omega (arith, has, names), omega (arith, below, there, most))
 
-  is_least : (goal : Goal) (s : Tables) → goal_passes_limit m goal ≡ false → FitsStructure (symbols m.signature) s
+  is_least : (goal : Goal) (s : Tables) → goal_passes_limit AllAxioms m goal ≡ false → FitsStructure (symbols m.signature) s
       → sum s.sizes ≤ limits.terms → HasFewTuples s → (l : Least) → minimal.IsLeast limits m goal s l → IsLeast m l
   is_least goal s within fits small tuples least.Yes h = tt
   is_least goal s within fits small tuples (least.Stopped bound size c) h = (
     is_bound s fits small tuples bound size h.0 h.1.below,
     open_counted limits few m goal
-        (refuting_all m m.conjectures
+        (refuting_where AllAxioms m m.conjectures
         (bounds_on m.signature (numbers_up_to s (bound_place m.signature bound) size)) goal)
         c within h.1.left_open,
   )
@@ -99,7 +100,7 @@ module _ (limits : Ceilings) (terms : limits.terms ≤ 100000) (few : limits.con
   record Failed (f : Failure) : Type 0 where
     goal : Goal
     passes : FirstPassed Whole limits m goal None
-    fails : IsFailing limits m goal f.shown
+    fails : IsFailing limits m m.conjectures goal f.shown
     least : minimal.IsLeast limits m goal f.shown.structure f.least
 
   failed : (gs : List Goal) (answers : List GoalAnswer) (f : Failure) → AreAnswers Whole limits m gs answers
@@ -158,7 +159,7 @@ module _ (limits : Ceilings) (terms : limits.terms ≤ 100000) (few : limits.con
       subst (λ (a : Answer). CanPrint m a) (sym h.is)
       (told (subst (λ (a : Answer). IsShort g.about a) h.is short))
 
-  pub has_numbers : (r : Report) → IsReport limits m r → length (report_text m r) < 2 ^ 63 → HasNumbers m r
+  pub has_numbers : (r : Report) → IsReport Whole limits m r → length (report_text m r) < 2 ^ 63 → HasNumbers m r
   has_numbers r h short = record {
     axioms = axioms_told limits few m r.axioms h.axioms;
     groups = all_both (IsGroupNow Whole limits m)

@@ -37,7 +37,7 @@ module _ (m : ModelTree) where
   as_printed shown (Some t) same h = (h.0, same ∙ h.1, h.2)
 
   outcome : (shown : Counterexample)
-      → (c : IsCounterexample m shown.goal shown.structure shown.trace.havoc shown.values)
+      → (c : IsCounterexample m m.conjectures shown.goal shown.structure shown.trace.havoc shown.values)
       → outcome_of m shown ≡ follow_path m.axioms c.path shown.trace.havoc shown.structure
   outcome shown c = ap (λ p. followed m p shown) c.is_path
 

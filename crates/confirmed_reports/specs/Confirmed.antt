@@ -21,6 +21,7 @@ use Rattle.model_commands.specs.declared.check.CheckAnswer.TheVariants.{Checked}
 use Rattle.replay_command.specs.Replay.{IsReplayAnswer}
 use Rattle.replay_command.specs.declared.replay.ReplayAnswer.{ReplayAnswer}
 use Rattle.replay_command.specs.declared.replay.ReplayAnswer.TheVariants.{Replayed}
+use Rattle.lean_decide.specs.declared.settling.Counted.TheVariants.{Whole}
 
 -- one for a group that fails
 abbrev pub fails_count : Answer → ℕ
@@ -49,5 +50,5 @@ ReportsAreConfirmed = (text : List ℕ) (m : ModelTree) (r : Report) (a : Replay
 -- than these allow, and its numbers have 64 bits.
 abbrev pub CheckedIsConfirmed : Type 0
 CheckedIsConfirmed = (asked : Asked) (text : List ℕ) (m : ModelTree) (r : Report) (a : ReplayAnswer) → IsInRange asked
-    → IsCheckAnswer (ceilings_of asked) text (Checked m r) → IsChecked m → length (report_text m r) < 2 ^ 63
+    → IsCheckAnswer Whole (ceilings_of asked) text (Checked m r) → IsChecked m → length (report_text m r) < 2 ^ 63
     → IsReplayAnswer text (report_text m r) a → a ≡ Replayed (Confirmed (failing_groups r.groups))

@@ -28,6 +28,7 @@ use Rattle.model_commands.specs.declared.sample.SampleAnswer.{SampleAnswer}
 use Rattle.ivy_run.specs.declared.ended.Answer.{Answer}
 use Rattle.ivy_run.specs.declared.ended.Answer.TheVariants as answer
 use Rattle.ivy_run.specs.declared.ended.Ended.{Ended}
+use Rattle.lean_decide.specs.declared.settling.Counted.TheVariants.{Whole}
 
 -- the answer to words that are no command line
 abbrev pub IsUsage : Answer → Type 0
@@ -75,7 +76,7 @@ pub record Does (line : Option Line) (told : List ℕ → Told) (before now : �
   pub of_none : line ≡ None → EndsNone before now first second (λ text other a. IsUsage a) end
   pub of_check : (file : List ℕ) (asked : Asked) → line ≡ Some (check file asked)
       → EndsOne (told file) model_limit before now first second
-      (λ text other a. OfCheck (IsCheckAnswer (ceilings_of asked) text) a) end
+      (λ text other a. OfCheck (IsCheckAnswer Whole (ceilings_of asked) text) a) end
   pub of_lrat : (formula log : List ℕ) → line ≡ Some (lrat formula log)
       → EndsTwo (told formula) (told log) clause_limit clause_limit before now first second
       (λ text other a. OfLrat (IsRefutation text other) a) end
@@ -84,9 +85,10 @@ pub record Does (line : Option Line) (told : List ℕ → Told) (before now : �
       end
   pub of_houdini : (file : List ℕ) (asked : Asked) → line ≡ Some (houdini file asked)
       → EndsOne (told file) model_limit before now first second
-      (λ text other a. OfHoudini (IsHoudiniAnswer (ceilings_of asked) text) a) end
+      (λ text other a. OfHoudini (IsHoudiniAnswer Whole (ceilings_of asked) text) a) end
   pub of_bmc : (file : List ℕ) (bound : Bound) → line ≡ Some (bmc file bound)
-      → EndsOne (told file) model_limit before now first second (λ text other a. OfBmc (IsBmcAnswer bound text) a) end
+      → EndsOne (told file) model_limit before now first second
+      (λ text other a. OfBmc (IsBmcAnswer Whole bound text) a) end
   pub of_replay : (model report : List ℕ) → line ≡ Some (replay model report)
       → EndsTwo (told model) (told report) model_limit report_limit before now first second
       (λ text other a. OfReplay (IsReplayAnswer text other) a) end

@@ -16,6 +16,7 @@ ghost use Rattle.replay_command.specs.Replay.{IsReplayAnswer, report_limit};
 ghost use Rattle.commands.specs.Due.{passage};
 ghost use Rattle.ivy_run.specs.Run.{asked, course, EndsAlone, EndsOnFile, EndsOnFiles, WritesDue, IsUsage};
 ghost use Rattle.ivy_run.specs.Run.{OfCheck, OfLrat, OfEmit, OfHoudini, OfBmc, OfReplay, OfSample};
+ghost use Rattle.lean_decide.specs.declared.settling.Counted.TheVariants.{Whole};
 
 use crate::ended::{Ended, Loaded};
 use crate::perform::work;
@@ -43,7 +44,7 @@ pub fn run<F: Files, O: Sink, E: Sink>(
     // conjecture.
     ensures check { (file : List ℕ) (limits : Asked) → asked words.now ≡ Some (check file limits)
         → EndsOnFile (course (F.faults files.old) (F.faults files.new) result) (F.told files.old file) model_limit
-        (λ text a. OfCheck (IsCheckAnswer (ceilings_of limits) text) a) }
+        (λ text a. OfCheck (IsCheckAnswer Whole (ceilings_of limits) text) a) }
 
     // `lrat CNF LOG`: both texts have one answer, and where that is that the log refutes, no truth values satisfy the
     // formula.
@@ -64,7 +65,7 @@ pub fn run<F: Files, O: Sink, E: Sink>(
     // themselves.
     ensures houdini { (file : List ℕ) (limits : Asked) → asked words.now ≡ Some (houdini file limits)
         → EndsOnFile (course (F.faults files.old) (F.faults files.new) result) (F.told files.old file) model_limit
-        (λ text a. OfHoudini (IsHoudiniAnswer (ceilings_of limits) text) a) }
+        (λ text a. OfHoudini (IsHoudiniAnswer Whole (ceilings_of limits) text) a) }
 
     // `bmc FILE --steps K`: the lengths 0, 1, .. of the runs of the text's one model are answered in order, up to K or
     // to the first that is broken. Where the verdict is safe, no run with at most K actions aborts or breaks a
@@ -73,7 +74,7 @@ pub fn run<F: Files, O: Sink, E: Sink>(
     // is found to have a run.
     ensures bmc { (file : List ℕ) (bound : Bound) → asked words.now ≡ Some (bmc file bound)
         → EndsOnFile (course (F.faults files.old) (F.faults files.new) result) (F.told files.old file) model_limit
-        (λ text a. OfBmc (IsBmcAnswer bound text) a) }
+        (λ text a. OfBmc (IsBmcAnswer Whole bound text) a) }
 
     // `replay MODEL REPORT`: of the model that the first text has, the second is no printed report, and the first
     // line is named that none has there; or it says one thing, and this is judged by truth and by following its

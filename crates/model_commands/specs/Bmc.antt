@@ -1,7 +1,6 @@
 -- `bmc FILE --steps K`: whether some run with at most K actions aborts or breaks a conjecture.
 use Rattle.std.specs.Prelude.{ℕ, List}
 use Rattle.lean_decide.specs.declared.settling.Counted.{Counted}
-use Rattle.lean_decide.specs.declared.settling.Counted.TheVariants.{Whole}
 use Rattle.rml_bmc.specs.Bounds.{IsBounded}
 use Rattle.rml_bmc.specs.Lengths.{verdict_of}
 use Rattle.rml_bmc.specs.declared.answer.Verdict.{Verdict}
@@ -18,14 +17,10 @@ use Rattle.model_commands.specs.declared.bmc.BmcAnswer.TheVariants.{Answered, Fa
 
 -- What is so of the runs of the text's one model with at most so many actions, where the limits are on these counts, or
 -- the text's one fault.
-abbrev pub IsBmcAnswerBy : Counted → Bound → List ℕ → BmcAnswer → Type 0
-IsBmcAnswerBy counted bound text (Answered model bounded) =
+abbrev pub IsBmcAnswer : Counted → Bound → List ℕ → BmcAnswer → Type 0
+IsBmcAnswer counted bound text (Answered model bounded) =
     IsTheModel text model × IsBounded counted (ceilings_of bound.limits) model bound.steps bounded
-IsBmcAnswerBy counted bound text (Fault fault) = IsTheFault text fault
-
--- by the counts of whole sentences
-abbrev pub IsBmcAnswer : Bound → List ℕ → BmcAnswer → Type 0
-IsBmcAnswer bound text answer = IsBmcAnswerBy Whole bound text answer
+IsBmcAnswer counted bound text (Fault fault) = IsTheFault text fault
 
 -- 0 where each length is safe, 1 where one is broken, else 3
 abbrev pub bounded_status : Verdict → ℕ

@@ -9,8 +9,7 @@ use Rattle.rml_report.specs.declared.report.Verdict.{Verdict}
 use Rattle.rml_report.specs.declared.report.Verdict.TheVariants as verdict
 use Rattle.limits.specs.Ceilings.{Ceilings}
 use Rattle.lean_decide.specs.declared.settling.Counted.{Counted}
-use Rattle.lean_decide.specs.declared.settling.Counted.TheVariants.{Whole}
-use Rattle.verdicts.specs.Answers.{IsReportBy}
+use Rattle.verdicts.specs.Answers.{IsReport}
 use Rattle.commands.specs.Due.{Due}
 use Rattle.command_parts.specs.ModelTexts.{IsTheModel, IsTheFault}
 use Rattle.command_parts.specs.Saying.{on_out}
@@ -22,24 +21,16 @@ use Rattle.model_commands.specs.declared.check.CheckAnswer.TheVariants.{Checked,
 -- the model aborts or breaks a conjecture. It is made of right answers to all goals under the limits, on the counts of
 -- whole sentences or of lean ones: a group that fails is shown by its first failing path, and one of which no path
 -- fails by its first path that was left open, if any was.
-pub record IsCheckedBy (counted : Counted) (limits : Ceilings) (model : ModelTree) (report : Report) : Type 0 where
+pub record IsCheckedModel (counted : Counted) (limits : Ceilings) (model : ModelTree) (report : Report) : Type 0 where
   pub reports : Reports model report
   pub safe : report.verdict ≡ verdict.Inductive → Safe model
-  pub now : IsReportBy counted limits model report
+  pub now : IsReport counted limits model report
 
 -- the report on the text's one model, where the limits are on these counts; or the text's one fault
-abbrev pub IsCheckAnswerBy : Counted → Ceilings → List ℕ → CheckAnswer → Type 0
-IsCheckAnswerBy counted limits text (Checked model report) =
-    IsTheModel text model × IsCheckedBy counted limits model report
-IsCheckAnswerBy counted limits text (Fault fault) = IsTheFault text fault
-
--- by the counts of whole sentences
-abbrev pub IsCheckedModel : Ceilings → ModelTree → Report → Type 0
-IsCheckedModel limits model report = IsCheckedBy Whole limits model report
-
--- the answer by the counts of whole sentences
-abbrev pub IsCheckAnswer : Ceilings → List ℕ → CheckAnswer → Type 0
-IsCheckAnswer limits text answer = IsCheckAnswerBy Whole limits text answer
+abbrev pub IsCheckAnswer : Counted → Ceilings → List ℕ → CheckAnswer → Type 0
+IsCheckAnswer counted limits text (Checked model report) =
+    IsTheModel text model × IsCheckedModel counted limits model report
+IsCheckAnswer counted limits text (Fault fault) = IsTheFault text fault
 
 -- 0 where the model is inductive, 1 where it is not, else 3
 abbrev pub verdict_status : Verdict → ℕ

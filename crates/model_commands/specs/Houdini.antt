@@ -6,7 +6,6 @@ use Rattle.limits.specs.Ceilings.{Ceilings}
 use Rattle.rml_houdini.specs.declared.houdini.Dropped.{Dropped}
 use Rattle.rml_houdini.specs.declared.houdini.Houdini.{Houdini}
 use Rattle.lean_decide.specs.declared.settling.Counted.{Counted}
-use Rattle.lean_decide.specs.declared.settling.Counted.TheVariants.{Whole}
 use Rattle.rml_houdini.specs.Greatest.{IsFound}
 use Rattle.rml_houdini.specs.HoudiniText.{houdini_text}
 use Rattle.commands.specs.Due.{Due}
@@ -17,14 +16,10 @@ use Rattle.model_commands.specs.declared.houdini.HoudiniAnswer.{HoudiniAnswer}
 use Rattle.model_commands.specs.declared.houdini.HoudiniAnswer.TheVariants.{Found, Fault}
 
 -- What was found of the text's one model, where the limits are on these counts, or the text's one fault.
-abbrev pub IsHoudiniAnswerBy : Counted → Ceilings → List ℕ → HoudiniAnswer → Type 0
-IsHoudiniAnswerBy counted limits text (Found model houdini) =
+abbrev pub IsHoudiniAnswer : Counted → Ceilings → List ℕ → HoudiniAnswer → Type 0
+IsHoudiniAnswer counted limits text (Found model houdini) =
     IsTheModel text model × IsFound counted limits model houdini
-IsHoudiniAnswerBy counted limits text (Fault fault) = IsTheFault text fault
-
--- by the counts of whole sentences
-abbrev pub IsHoudiniAnswer : Ceilings → List ℕ → HoudiniAnswer → Type 0
-IsHoudiniAnswer limits text answer = IsHoudiniAnswerBy Whole limits text answer
+IsHoudiniAnswer counted limits text (Fault fault) = IsTheFault text fault
 
 -- 3 where a goal was left open, else 1 where a conjecture was dropped, else 0
 abbrev pub houdini_status : List Dropped → Option (Goal × Cause) → ℕ

@@ -13,13 +13,14 @@ use Rattle.command_parts.specs.Saying.{on_out}
 use Rattle.command_parts.specs.Faults.{model_fault_due}
 use Rattle.model_commands.specs.declared.sample.Sampled.{Sampled}
 use Rattle.model_commands.specs.declared.sample.SampleAnswer.{SampleAnswer}
+use Rattle.lean_decide.specs.declared.settling.Counted.TheVariants.{Whole}
 use Rattle.model_commands.specs.declared.sample.SampleAnswer.TheVariants as answer
 
 -- The report on the text's model, under the limits of a `check` without options, with the number of bytes and of goals.
 pub record IsSampled (n : ℕ) (sampled : Sampled) : Type 0 where
   pub model : ModelTree
   pub is_model : IsTheModel (sample_text n) model
-  pub checked : IsCheckedModel (ceilings_of default_asked) model sampled.report
+  pub checked : IsCheckedModel Whole (ceilings_of default_asked) model sampled.report
   pub bytes : sampled.bytes ≡ length (sample_text n)
   pub goals : sampled.goals ≡ min (length (goals_of model)) (2 ^ 64 - 1)
 

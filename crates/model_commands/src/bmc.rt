@@ -3,7 +3,7 @@ ghost use Rattle.std.specs.Prelude.{◌≡◌, ◌≤◌, IfOk};
 ghost use Rattle.command_line.specs.Asking.{IsInRange};
 ghost use Rattle.rml_bmc.specs.Bounds.{IsBounded};
 ghost use Rattle.command_parts.specs.Limits.{ceilings_of};
-ghost use Rattle.model_commands.specs.Bmc.{IsBmcAnswerBy, bmc_due, bounded_status};
+ghost use Rattle.model_commands.specs.Bmc.{IsBmcAnswer, bmc_due, bounded_status};
 
 use base::{Mem, Refused};
 use bounded_text::render;
@@ -61,7 +61,7 @@ fn judge_runs<P: Progress>(
 ) -> Mem<BmcAnswer>
     requires steps { bound.steps ≤ 12 }
     requires limits { IsInRange bound.limits }
-    ensures { IfOk result (IsBmcAnswerBy counted bound text.now) }
+    ensures { IfOk result (IsBmcAnswer counted bound text.now) }
 {
     match read_model(alloc, text) {
         Ok(model) => match bounded_on(alloc, &model, bound, counted, progress) {
@@ -90,7 +90,7 @@ pub fn bounded_status(verdict: Verdict) -> u8
 impl Command for Bmc {
     type Answer = BmcAnswer;
 
-    ghost is_answer = { λ c first second a. IsBmcAnswerBy c.counted c.bound first a };
+    ghost is_answer = { λ c first second a. IsBmcAnswer c.counted c.bound first a };
 
     ghost due = { λ c first second a. bmc_due first a };
 

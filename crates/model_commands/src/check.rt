@@ -2,7 +2,7 @@
 ghost use Rattle.std.specs.Prelude.{◌≡◌, IfOk};
 ghost use Rattle.command_line.specs.Asking.{IsInRange};
 ghost use Rattle.command_parts.specs.Limits.{ceilings_of};
-ghost use Rattle.model_commands.specs.Check.{IsCheckAnswerBy, IsCheckedBy, check_due, verdict_status};
+ghost use Rattle.model_commands.specs.Check.{IsCheckAnswer, IsCheckedModel, check_due, verdict_status};
 ghost use Rattle.command_parts.specs.ModelTexts.{IsTheModel};
 
 use base::{Mem, Refused};
@@ -43,7 +43,7 @@ pub fn report_on<P: Progress>(
     progress: &mut P,
 ) -> Mem<Report>
     requires { IsInRange asked }
-    ensures { IfOk result (IsCheckedBy counted (ceilings_of asked) model.now) }
+    ensures { IfOk result (IsCheckedModel counted (ceilings_of asked) model.now) }
 {
     verdicts::report_law();
     rml_report::report_law();
@@ -63,7 +63,7 @@ fn judge_model<P: Progress>(
     progress: &mut P,
 ) -> Mem<CheckAnswer>
     requires { IsInRange asked }
-    ensures { IfOk result (IsCheckAnswerBy counted (ceilings_of asked) text.now) }
+    ensures { IfOk result (IsCheckAnswer counted (ceilings_of asked) text.now) }
 {
     match read_model(alloc, text) {
         Ok(model) => {
@@ -94,7 +94,7 @@ pub fn verdict_status(verdict: Verdict) -> u8
 impl Command for Check {
     type Answer = CheckAnswer;
 
-    ghost is_answer = { λ c first second a. IsCheckAnswerBy c.counted (ceilings_of c.asked) first a };
+    ghost is_answer = { λ c first second a. IsCheckAnswer c.counted (ceilings_of c.asked) first a };
 
     ghost due = { λ c first second a. check_due first a };
 

@@ -3,7 +3,7 @@ ghost use Rattle.std.specs.Prelude.{◌≡◌, IfOk};
 ghost use Rattle.command_line.specs.Asking.{IsInRange};
 ghost use Rattle.rml_houdini.specs.Greatest.{IsFound};
 ghost use Rattle.command_parts.specs.Limits.{ceilings_of};
-ghost use Rattle.model_commands.specs.Houdini.{IsHoudiniAnswerBy, houdini_due, houdini_status};
+ghost use Rattle.model_commands.specs.Houdini.{IsHoudiniAnswer, houdini_due, houdini_status};
 
 use base::{Mem, Refused};
 use command_line::Asked;
@@ -60,7 +60,7 @@ fn judge_conjectures<P: Progress>(
     progress: &mut P,
 ) -> Mem<HoudiniAnswer>
     requires { IsInRange asked }
-    ensures { IfOk result (IsHoudiniAnswerBy counted (ceilings_of asked) text.now) }
+    ensures { IfOk result (IsHoudiniAnswer counted (ceilings_of asked) text.now) }
 {
     match read_model(alloc, text) {
         Ok(model) => match greatest_of(alloc, &model, asked, counted, progress) {
@@ -91,7 +91,7 @@ pub fn houdini_status(houdini: &rml_houdini::Houdini) -> u8
 impl Command for Houdini {
     type Answer = HoudiniAnswer;
 
-    ghost is_answer = { λ c first second a. IsHoudiniAnswerBy c.counted (ceilings_of c.asked) first a };
+    ghost is_answer = { λ c first second a. IsHoudiniAnswer c.counted (ceilings_of c.asked) first a };
 
     ghost due = { λ c first second a. houdini_due first a };
 

@@ -142,7 +142,7 @@ module _ (numbered : TuplesAreNumbered) (tables : TablesAreTuples) (law : Update
 -- of a counterexample
 module _ (numbered : TuplesAreNumbered) (tables : TablesAreTuples) (updates : UpdatesKeepSymbols) (law : GoalPathsFit)
     (ends : PathsEndAtAbort) (m : ModelTree) (ok : IsChecked m) (shown : Counterexample)
-    (is : IsCounterexample m shown.goal shown.structure shown.trace.havoc shown.values) where
+    (is : IsCounterexample m m.conjectures shown.goal shown.structure shown.trace.havoc shown.values) where
   has_outcome : (a : About) (values : List ℕ) (o : Option Outcome) → FailsGoal m a values o
       → (r : Outcome) × (o ≡ Some r)
   has_outcome about.Abort values o f = (aborted, f.0)

@@ -131,7 +131,8 @@ ReportsArePrinted = (m : ModelTree) (r : Report) → IsChecked m → Reports m r
 
 -- What is printed of a counterexample is one, and its path ends as before.
 pub record IsShownAlike (m : ModelTree) (shown : Counterexample) : Type 0 where
-  pub refutes : IsCounterexample m shown.goal shown.structure (printed_shown m shown).trace.havoc shown.values
+  pub refutes : IsCounterexample m m.conjectures shown.goal shown.structure (printed_shown m shown).trace.havoc
+      shown.values
   pub ends : outcome_of m (printed_shown m shown) ≡ outcome_of m shown
 
 -- So it is of each counterexample that is shown of a checked model.

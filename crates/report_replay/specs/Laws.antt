@@ -34,7 +34,7 @@ EndsAs m shown (Some t) = (s : Tables) × (outcome_of m shown ≡ Some (ended s)
 
 -- what a group shows is a counterexample of its goal
 pub record IsShown (m : ModelTree) (shown : Counterexample) (after : Option Tables) : Type 0 where
-  pub refutes : IsCounterexample m shown.goal shown.structure shown.trace.havoc shown.values
+  pub refutes : IsCounterexample m m.conjectures shown.goal shown.structure shown.trace.havoc shown.values
   pub ends : EndsAs m shown after
 
 -- so it is of what an answer shows, if it shows something

@@ -94,8 +94,8 @@ fn passed_in(
 // The run that a counterexample of the goal in the walk's model is.
 fn shown_run(alloc: Global, checked: &Checked, walk: &Walk, shown: Counterexample) -> Mem<Run>
     requires walk { IsWalk checked.now walk.now }
-    requires shown { IsCounterexample (walk_model checked.now walk.now.parts) (walk_goal walk.now.about)
-        shown.structure shown.trace.havoc shown.values }
+    requires shown { IsCounterexample (walk_model checked.now walk.now.parts) checked.now.conjectures
+        (walk_goal walk.now.about) shown.structure shown.trace.havoc shown.values }
     ensures along { IfOk result (IsRunAlong checked.now walk.now) }
     ensures start { IfOk result (λ run. run.start ≡ shown.structure) }
 {

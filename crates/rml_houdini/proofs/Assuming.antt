@@ -21,15 +21,16 @@ use Rattle.rml_command.specs.declared.goal.Goal.{Goal}
 use Rattle.rml_command.specs.declared.goal.Stage.{Stage}
 use Rattle.rml_command.specs.declared.goal.Stage.TheVariants as stage
 use Rattle.rml_wp.specs.declared.premises.Premises.TheVariants.{Affected}
-use Rattle.rml_wp.specs.Preconditions.{answered, conjectures_of, goal_precondition_by, parts_before, refuting_by}
+use Rattle.rml_wp.specs.Preconditions.{answered, goal_precondition, parts_before, refuting}
+use Rattle.rml_command.specs.InductiveSets.{conjectures_of}
 use Rattle.rml_wp.specs.Answered.{IsAnswered, CounterexamplesAreCuts}
-use Rattle.rml_wp.specs.Added.{AreAdded, refuting_all_by, RefutingSentencesFit, NoPartsAreAdded}
+use Rattle.rml_wp.specs.Added.{AreAdded, refuting_where, RefutingSentencesFit, NoPartsAreAdded}
 use Rattle.ea_decide.specs.GroundForm.{skolem_sentence}
 use Rattle.ea_decide.specs.Decisions.{HasNoModel}
 use Rattle.limits.specs.Ceilings.{Ceilings}
 use Rattle.ea_decide.specs.declared.decided.Decided.{Decided}
 use Rattle.pruned_decide.specs.Decisions.{IsDecidedSmall}
-use Rattle.obligation_decide.specs.GoalDecisions.{HasNoneBy}
+use Rattle.rml_command.specs.Goals.{HasNone}
 use Rattle.rml_houdini.specs.Assuming.{lawful_parts, held_parts, assumed_sentence}
 use Rattle.rml_houdini.specs.declared.assumed.Assumed.{Assumed}
 
@@ -100,7 +101,7 @@ module _ (m : ModelTree) (goal : Goal) (a : Assumed) where
       → lent ≡ m → axioms ≡ lent.axioms → conjectures ≡ lent.conjectures → ks ≡ a.held.items
       → first ≡ lawful_parts a.lawful axioms
       → both ≡ first ++ held_parts goal.stage (map (λ k. slice_index_or conjectures k top) ks)
-      → p ≡ q → q ≡ goal_precondition_by Affected m goal → f ≡ all_of (both ++ negation p ∷ [])
+      → p ≡ q → q ≡ goal_precondition Affected m goal → f ≡ all_of (both ++ negation p ∷ [])
       → f ≡ assumed_sentence m a goal
   assembled lent axioms conjectures ks first both p q f same by_axioms by_conjectures of is_first is_both is by all =
       let lawful = by_axioms ∙ ap (λ (z : ModelTree). z.axioms) same in
@@ -117,38 +118,38 @@ module _ (m : ModelTree) (goal : Goal) (a : Assumed) where
   -- where no structure satisfies it, the goal has no counterexample where these conjectures hold
   pub none_assumed : CounterexamplesAreCuts → FitsModel m → IsSignature m.signature
       → AreAdded m (conjectures_of m a.held.items) [] → IsGoal m goal → (p : FormTree) → p ≡ assumed_sentence m a goal
-      → HasNoModel (answered m goal) p → HasNoneBy m (conjectures_of m a.held.items) goal
+      → HasNoModel (answered m goal) p → HasNone m (conjectures_of m a.held.items) goal
   none_assumed cuts fits ok added g p is none s havocs values counter =
       let held = conjectures_of m a.held.items in
       let w = cuts Affected m held goal s havocs values fits ok added.universal_fit g counter in
       none w.whole w.fits
       (subst (λ (q : FormTree). is_true w.whole q ≡ true) (sym is)
-      (part-true w.whole a.lawful goal.stage m.axioms held (goal_precondition_by Affected m goal) w.holds))
+      (part-true w.whole a.lawful goal.stage m.axioms held (goal_precondition Affected m goal) w.holds))
 
   module _ (fit : RefutingSentencesFit) (none : NoPartsAreAdded) (checked : IsChecked m)
       (ok : IsSignature m.signature) (g : IsGoal m goal) (added : AreAdded m (conjectures_of m a.held.items) []) where
     pub assumed_ea : IsEa (assumed_sentence m a goal)
     assumed_ea =
         let held = conjectures_of m a.held.items in
-        part-ea a.lawful goal.stage m.axioms held (goal_precondition_by Affected m goal)
+        part-ea a.lawful goal.stage m.axioms held (goal_precondition Affected m goal)
         (subst IsEa (none Affected m held goal) (fit Affected m held [] goal checked ok g added).fragment)
 
     pub assumed_fits : FitsForm (symbols (answered m goal)) [] (assumed_sentence m a goal)
     assumed_fits =
         let held = conjectures_of m a.held.items in
-        part-fits (symbols (answered m goal)) a.lawful goal.stage m.axioms held (goal_precondition_by Affected m goal)
+        part-fits (symbols (answered m goal)) a.lawful goal.stage m.axioms held (goal_precondition Affected m goal)
         (subst (λ (q : FormTree). FitsForm (symbols (answered m goal)) [] q) (none Affected m held goal)
         (fit Affected m held [] goal checked ok g added).fits)
 
   -- with the axioms it is a refuting sentence of the goal
   pub is_whole : a.lawful ≡ true
-      → assumed_sentence m a goal ≡ refuting_by Affected m (conjectures_of m a.held.items) goal
+      → assumed_sentence m a goal ≡ refuting Affected m (conjectures_of m a.held.items) goal
   is_whole lawful =
-      part-whole a.lawful goal.stage m.axioms (conjectures_of m a.held.items) (goal_precondition_by Affected m goal)
+      part-whole a.lawful goal.stage m.axioms (conjectures_of m a.held.items) (goal_precondition Affected m goal)
       lawful
 
   pub is_refuting : NoPartsAreAdded → a.lawful ≡ true → (p : FormTree) → p ≡ assumed_sentence m a goal
-      → p ≡ refuting_all_by Affected m (conjectures_of m a.held.items) [] goal
+      → p ≡ refuting_where Affected m (conjectures_of m a.held.items) [] goal
   is_refuting none lawful p is =
       is ∙ is_whole lawful ∙ sym (none Affected m (conjectures_of m a.held.items) goal)
 

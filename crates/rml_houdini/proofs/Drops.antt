@@ -14,11 +14,10 @@ use Rattle.rml_command.specs.declared.goal.Stage.{Stage}
 use Rattle.rml_command.specs.declared.goal.About.TheVariants as about
 use Rattle.rml_command.specs.declared.goal.Goal.{Goal}
 use Rattle.rml_exec.specs.declared.trace.Counterexample.{Counterexample}
-use Rattle.rml_wp.specs.Preconditions.{conjectures_of}
+use Rattle.rml_command.specs.InductiveSets.{conjectures_of, Has, IsWithin, IsInductive}
+use Rattle.rml_command.specs.Goals.{HasNone}
 use Rattle.limits.specs.declared.cause.Cause.{Cause}
 use Rattle.limits.specs.Ceilings.{Ceilings}
-use Rattle.obligation_decide.specs.GoalDecisions.{HasNoneBy}
-use Rattle.rml_houdini.specs.Subsets.{Has, IsWithin, IsInductive}
 use Rattle.lean_decide.specs.declared.settling.Counted.{Counted}
 use Rattle.rml_houdini.specs.Rounds.{group_at, stage_goals, goals_about, conjecture_stages, IsSafe, IsFirstFailing}
 use Rattle.rml_houdini.specs.Rounds.{AreSettled}
@@ -218,7 +217,7 @@ module _ (counted : Counted) (limits : Ceilings) (m : ModelTree) where
             (inductive m held
             (λ k has. left_below m (map (λ d. d.conjecture) dropped) k
             (subst (λ (l : List ℕ). Has l k) far.held_is has))
-            (all_more (IsSafe counted limits m held) (HasNoneBy m (conjectures_of m held)) (λ g is. is.1)
+            (all_more (IsSafe counted limits m held) (HasNone m (conjectures_of m held)) (λ g is. is.1)
             (goals_about m held) safe));
         settled = subst (λ (l : List ℕ). AreSettled counted limits m l (goals_about m l) h.unsettled) (sym of_kept)
             settled;

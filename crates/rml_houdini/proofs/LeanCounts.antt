@@ -9,7 +9,7 @@ use Rattle.rml_exec.specs.declared.trace.Counterexample.{Counterexample}
 use Rattle.limits.specs.declared.cause.Cause.{Cause}
 use Rattle.limits.specs.declared.cause.Cause.TheVariants as cause
 use Rattle.rml_wp.specs.declared.premises.Premises.TheVariants.{Affected}
-use Rattle.rml_wp.specs.Preconditions.{answered, goal_passes_limit_by}
+use Rattle.rml_wp.specs.Preconditions.{answered, goal_passes_limit}
 use Rattle.ea_decide.specs.declared.decided.Passed.{Passed}
 use Rattle.ea_decide.specs.declared.decided.Passed.TheVariants as passed
 use Rattle.limits.specs.Ceilings.{Ceilings}
@@ -24,7 +24,7 @@ use Rattle.rml_houdini.specs.Keeping.{AssumedPasses, IsTried, IsSettledBy}
 use Rattle.rml_houdini.specs.declared.assumed.Assumed.{Assumed}
 use Rattle.rml_houdini.specs.declared.trying.Tried.{Tried}
 use Rattle.rml_houdini.specs.declared.trying.Tried.TheVariants as tried
-use Rattle.rml_houdini.specs.declared.settling.Settled.TheVariants as settled
+use Rattle.lean_decide.specs.declared.settling.Settled.TheVariants as settled
 use Rattle.rml_houdini.proofs.Assuming.{is_whole}
 
 module _ (limits : Ceilings) (m : ModelTree) (held : List ℕ) (goal : Goal) where
@@ -34,14 +34,14 @@ module _ (limits : Ceilings) (m : ModelTree) (held : List ℕ) (goal : Goal) whe
       ((p : Option Passed) × LeanPasses limits m held goal p × (first ≡ first_cause p))
 
   -- what the lean sentence passes, where the limit of formulas is not passed
-  by_count : (p : Option Passed) → goal_passes_limit_by Affected m goal ≡ false → LeanPasses limits m held goal p
+  by_count : (p : Option Passed) → goal_passes_limit Affected m goal ≡ false → LeanPasses limits m held goal p
       → LeanPassesFirst limits m held goal (first_cause p)
   by_count p within h = subst (λ (b : Bool). BySize (first_cause p) b) (sym within) (p, h, refl)
 
-  pub by_formula : goal_passes_limit_by Affected m goal ≡ true → IsLeanLeftOpen limits m held goal cause.Formula
+  pub by_formula : goal_passes_limit Affected m goal ≡ true → IsLeanLeftOpen limits m held goal cause.Formula
   by_formula passes = subst (λ (b : Bool). BySize (Some cause.Formula) b) (sym passes) refl
 
-  by_passed : (p : Passed) → goal_passes_limit_by Affected m goal ≡ false
+  by_passed : (p : Passed) → goal_passes_limit Affected m goal ≡ false
       → IsOver limits (lean_signature (answered m goal) (affected_with m held goal))
       (lean_sentence (answered m goal) (affected_with m held goal)) p
       → IsLeanLeftOpen limits m held goal (cause_of p)
@@ -50,7 +50,7 @@ module _ (limits : Ceilings) (m : ModelTree) (held : List ℕ) (goal : Goal) whe
   by_passed (passed.GroundSize n) within h = by_count (Some (passed.GroundSize n)) within h
 
 module _ (limits : Ceilings) (m : ModelTree) (goal : Goal) (a : Assumed) (lawful : a.lawful ≡ true)
-    (within : goal_passes_limit_by Affected m goal ≡ false) where
+    (within : goal_passes_limit Affected m goal ≡ false) where
   -- what is said of the sentence with this assumed is said of the refuting sentence
   moved : (Q : FormTree → Type 0) → Q (assumed_sentence m a goal) → Q (affected_with m a.held.items goal)
   moved Q h = subst Q (is_whole m goal a lawful) h

@@ -4,7 +4,7 @@ use Rattle.std.proofs.Common.{◌&&◌, ◌||◌, List, [], ◌∷◌, ◌++◌,
 use Rattle.std.specs.List.{filter, list_any}
 use Rattle.std.proofs.lemmas.Bool.Decides.{Decides-eqb}
 use Rattle.base.specs.Lists.{count_from}
-use Rattle.rml_houdini.specs.Subsets.{Has}
+use Rattle.rml_command.specs.InductiveSets.{Has}
 use Rattle.rml_houdini.specs.Greatest.{AreDistinct}
 
 pub has_push : (ks : List ℕ) (c k : ℕ) → Has (ks ++ c ∷ []) k → Has ks k ⊎ (c ≡ k)

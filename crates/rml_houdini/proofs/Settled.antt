@@ -21,10 +21,9 @@ use Rattle.rml_command.specs.declared.goal.Stage.{Stage}
 use Rattle.rml_command.specs.declared.goal.Stage.TheVariants as stage
 use Rattle.rml_command.specs.declared.goal.About.TheVariants as about
 use Rattle.rml_command.specs.declared.goal.Goal.{Goal}
-use Rattle.rml_wp.specs.Preconditions.{conjectures_of}
-use Rattle.rml_wp.specs.Laws.{is_allowed_by, IsCounterexampleBy}
-use Rattle.obligation_decide.specs.GoalDecisions.{HasNoneBy}
-use Rattle.rml_houdini.specs.Subsets.{Has, IsInductive}
+use Rattle.rml_command.specs.InductiveSets.{conjectures_of, Has, IsInductive}
+use Rattle.rml_command.specs.Goals.{is_allowed, IsCounterexample}
+use Rattle.rml_command.specs.Goals.{HasNone}
 use Rattle.rml_houdini.specs.Rounds.{conjecture_stages, group_at, stage_goals, goals_about}
 use Rattle.rml_houdini.specs.Laws.{SettledIsInductive}
 use Rattle.rml_houdini.proofs.Members.{to_count}
@@ -88,18 +87,18 @@ is-action m a number p at = go (slice_get m.actions a) refl at
         (to_count 0 (length m.actions) a (omega arith) within))
 
 module _ (followed : PathHasFollowedOutcomes) (kind : PathsKeepKind) (values : FalsehoodHasValues) (m : ModelTree)
-    (held : List ℕ) (settled : AllByRecursion (HasNoneBy m (conjectures_of m held)) (goals_about m held)) where
+    (held : List ℕ) (settled : AllByRecursion (HasNone m (conjectures_of m held)) (goals_about m held)) where
   -- the goal of a held conjecture at a path of a stage
   none-at : (st : Stage) (k number : ℕ) (p : List PrimitiveTree) → SomeOf (λ s. s ≡ st) (conjecture_stages m)
       → Has held k → numbered (stage_paths m st) number ≡ Some p → has_abort p ≡ false
-      → HasNoneBy m (conjectures_of m held) (record { stage = st; path = number; about = about.Conjecture k })
+      → HasNone m (conjectures_of m held) (record { stage = st; path = number; about = about.Conjecture k })
   none-at st k zero p here has at ends = absurd (cc at)
   none-at st k (suc j) p here has at ends =
-      let P = HasNoneBy m (conjectures_of m held) in
+      let P = HasNone m (conjectures_of m held) in
       let stage_none = all-joined P (λ s. stage_goals m held s) (conjecture_stages m) st here settled in
       let group_none = all-joined P (λ n. group_goals m (group_at st n)) held k has stage_none in
       let next : 1 + j ≡ suc j = omega arith in
-      subst (λ (n : ℕ). HasNoneBy m (conjectures_of m held) (record {
+      subst (λ (n : ℕ). HasNone m (conjectures_of m held) (record {
         stage = st;
         path = n;
         about = about.Conjecture k;
@@ -109,7 +108,7 @@ module _ (followed : PathHasFollowedOutcomes) (kind : PathsKeepKind) (values : F
   keeps : (st : Stage) (k : ℕ) (c : FormTree) (number : ℕ) (p : List PrimitiveTree) (s new : Tables)
       → SomeOf (λ x. x ≡ st) (conjecture_stages m) → Has held k → slice_get m.conjectures k ≡ Some c
       → numbered (stage_paths m st) number ≡ Some p
-      → FitsStructure (symbols m.signature) s → is_allowed_by m (conjectures_of m held) st s ≡ true
+      → FitsStructure (symbols m.signature) s → is_allowed m (conjectures_of m held) st s ≡ true
       → PathHasOutcome m.axioms p s (ended new) → is_true new c ≡ true
   keeps st k c number p s new here has at is_path fits allowed outcome = go (is_true new c) refl
     where
@@ -118,7 +117,7 @@ module _ (followed : PathHasFollowedOutcomes) (kind : PathsKeepKind) (values : F
       go false e =
           let path = (followed m.axioms p s (ended new)).0 outcome in
           let vs = (values new c).0 e in
-          let ce : IsCounterexampleBy m (conjectures_of m held)
+          let ce : IsCounterexample m (conjectures_of m held)
           (record { stage = st; path = number; about = about.Conjecture k }) s path.havocs vs.0 = record {
             path = p;
             is_path = is_path;

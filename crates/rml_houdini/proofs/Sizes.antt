@@ -21,13 +21,15 @@ use Rattle.fol_formula.specs.Sentences.{all_of}
 use Rattle.rml_command.specs.declared.goal.Goal.{Goal}
 use Rattle.rml_command.specs.declared.goal.Stage.{Stage}
 use Rattle.rml_command.specs.declared.goal.Stage.TheVariants as stage
-use Rattle.rml_wp.specs.Preconditions.{answered, conjectures_of, goal_precondition, goal_passes_limit, parts_before}
-use Rattle.rml_wp.specs.Preconditions.{refuting_of}
+use Rattle.rml_wp.specs.Preconditions.{answered, goal_precondition, goal_passes_limit, parts_before}
+use Rattle.rml_command.specs.InductiveSets.{conjectures_of}
 use Rattle.limits.specs.declared.cause.Cause.TheVariants as cause
+use Rattle.rml_wp.specs.Preconditions.{refuting}
 use Rattle.ea_decide.specs.declared.decided.Passed.{Passed}
 use Rattle.limits.specs.Ceilings.{Ceilings}
 use Rattle.ea_decide.specs.Passing.{Passes, passed_of}
-use Rattle.obligation_decide.specs.GoalPassing.{first_cause, SentencePassesBy, PassesFirstBy}
+use Rattle.obligation_decide.specs.GoalPassing.{first_cause, SentencePasses, PassesFirst}
+use Rattle.rml_wp.specs.declared.premises.Premises.TheVariants.{All}
 
 -- a universal formula has no existentials
 mutual
@@ -158,18 +160,18 @@ module _ (kept : FragmentsAreKept) (limits : Ceilings) (m : ModelTree) (goal : G
     (many : AllByRecursion IsPlainUniversal (conjectures_of m ks))
     (few : AllByRecursion IsPlainUniversal (conjectures_of m (filter p ks))) where
   sentence-passes : (first : Option Passed)
-      → Passes limits (answered m goal) (refuting_of m (conjectures_of m ks) goal) first
-      → first ≡ None → Passes limits (answered m goal) (refuting_of m (conjectures_of m (filter p ks)) goal) None
+      → Passes limits (answered m goal) (refuting All m (conjectures_of m ks) goal) first
+      → first ≡ None → Passes limits (answered m goal) (refuting All m (conjectures_of m (filter p ks)) goal) None
   sentence-passes first h none =
-      let last = negation (goal_precondition m goal) in
-      passes-fewer limits (answered m goal) (refuting_of m (conjectures_of m ks) goal)
-      (refuting_of m (conjectures_of m (filter p ks)) goal)
+      let last = negation (goal_precondition All m goal) in
+      passes-fewer limits (answered m goal) (refuting All m (conjectures_of m ks) goal)
+      (refuting All m (conjectures_of m (filter p ks)) goal)
       (same-sorts goal.stage (all_of m.axioms) last (conjectures_of m (filter p ks)) (conjectures_of m ks)
       (none-new-held kept (conjectures_of m ks) many
       ∙ sym (none-new-held kept (conjectures_of m (filter p ks)) few)))
       (λ counts. fewer-nodes counts goal.stage (all_of m.axioms) last (conjectures_of m (filter p ks))
       (conjectures_of m ks) (filtered-nodes counts m p ks))
-      (subst (λ (o : Option Passed). Passes limits (answered m goal) (refuting_of m (conjectures_of m ks) goal) o)
+      (subst (λ (o : Option Passed). Passes limits (answered m goal) (refuting All m (conjectures_of m ks) goal) o)
       none h)
 
   none-first : (first : Option Passed) → None ≡ first_cause first → first ≡ None
@@ -177,12 +179,12 @@ module _ (kept : FragmentsAreKept) (limits : Ceilings) (m : ModelTree) (goal : G
   none-first (Some x) e = absurd (cc e)
 
   by-formula : (b : Bool)
-      → MatchBool b (None ≡ Some cause.Formula) (SentencePassesBy limits m (conjectures_of m ks) goal None)
+      → MatchBool b (None ≡ Some cause.Formula) (SentencePasses limits m (conjectures_of m ks) goal None)
       → MatchBool b (None ≡ Some cause.Formula)
-      (SentencePassesBy limits m (conjectures_of m (filter p ks)) goal None)
+      (SentencePasses limits m (conjectures_of m (filter p ks)) goal None)
   by-formula true h = absurd (cc h)
   by-formula false h = (None, sentence-passes h.0 h.1 (none-first h.0 h.2), refl)
 
-  pub fewer_pass : PassesFirstBy limits m (conjectures_of m ks) goal None
-      → PassesFirstBy limits m (conjectures_of m (filter p ks)) goal None
-  fewer_pass h = by-formula (goal_passes_limit m goal) h
+  pub fewer_pass : PassesFirst limits m (conjectures_of m ks) goal None
+      → PassesFirst limits m (conjectures_of m (filter p ks)) goal None
+  fewer_pass h = by-formula (goal_passes_limit All m goal) h

@@ -20,24 +20,24 @@ use Rattle.rml_command.specs.declared.goal.Goal.{Goal}
 use Rattle.rml_command.specs.declared.goal.Stage.{Stage}
 use Rattle.rml_command.specs.declared.goal.Stage.TheVariants as stage
 use Rattle.rml_exec.specs.declared.trace.Counterexample.{Counterexample}
-use Rattle.rml_wp.specs.Preconditions.{conjectures_of}
-use Rattle.rml_wp.specs.Laws.{is_allowed_by}
+use Rattle.rml_command.specs.InductiveSets.{conjectures_of, Has, IsWithin}
+use Rattle.rml_command.specs.Goals.{is_allowed}
 use Rattle.rml_wp.specs.Added.{ConjecturesAreAdded}
 use Rattle.limits.specs.declared.cause.Cause.{Cause}
 use Rattle.limits.specs.Ceilings.{Ceilings}
-use Rattle.obligation_decide.specs.GoalPassing.{PassesFirstBy}
-use Rattle.obligation_decide.specs.GoalDecisions.{HasNoneBy, IsFailingBy}
+use Rattle.rml_command.specs.Goals.{HasNone}
 use Rattle.lean_decide.specs.declared.settling.Counted.{Counted}
 use Rattle.lean_decide.specs.declared.settling.Counted.TheVariants.{Whole, Lean}
-use Rattle.rml_houdini.specs.Subsets.{Has, IsWithin}
 use Rattle.rml_houdini.specs.Rounds.{group_at, IsSafe}
-use Rattle.rml_houdini.specs.Progress.{earlier_of}
 use Rattle.rml_houdini.specs.Keeping.{Suffice, Grows, AreHeldBefore, IsKept, IsKeptAt, AreKept, KeptStaysKept}
 use Rattle.rml_houdini.specs.declared.known.Kept.{Kept}
 use Rattle.rml_houdini.proofs.Members.{has_push}
 use Rattle.rml_houdini.proofs.Fewer.{fewer_none}
 use Rattle.rml_houdini.proofs.Paths.{passed, listed, no_path}
 use Rattle.rml_houdini.proofs.Sizes.{fewer_pass}
+use Rattle.obligation_decide.specs.GoalDecisions.{IsFailing}
+use Rattle.obligation_decide.specs.GoalPassing.{PassesFirst}
+use Rattle.std.specs.Option.{option_or}
 
 -- what is assumed grows
 pub grow_on : (held old mid new : List ℕ) → Grows held old mid → Grows held mid new → Grows held old new
@@ -110,15 +110,15 @@ held_behind m stage.Final held s are = are
 
 -- a counterexample in which all held conjectures are true is one where they are held
 allowed-all : (m : ModelTree) (s : Tables) (ks held : List ℕ) (st : Stage)
-    → is_allowed_by m (conjectures_of m ks) st s ≡ true → AreHeldBefore m st held s
-    → is_allowed_by m (conjectures_of m held) st s ≡ true
+    → is_allowed m (conjectures_of m ks) st s ≡ true → AreHeldBefore m st held s
+    → is_allowed m (conjectures_of m held) st s ≡ true
 allowed-all m s ks held stage.Init h are = h
 allowed-all m s ks held (stage.Action a) h are = and_from _ _ (and_parts _ _ h).0 are
 allowed-all m s ks held stage.Final h are = and_from _ _ (and_parts _ _ h).0 are
 
 pub fails_held : (limits : Ceilings) (m : ModelTree) (ks held : List ℕ) (goal : Goal) (shown : Counterexample)
-    → IsFailingBy limits m (conjectures_of m ks) goal shown → AreHeldBefore m goal.stage held shown.structure
-    → IsFailingBy limits m (conjectures_of m held) goal shown
+    → IsFailing limits m (conjectures_of m ks) goal shown → AreHeldBefore m goal.stage held shown.structure
+    → IsFailing limits m (conjectures_of m held) goal shown
 fails_held limits m ks held goal shown h are = record {
   same = h.same;
   path = h.path;
@@ -134,7 +134,7 @@ fails_held limits m ks held goal shown h are = record {
 }
 
 -- some goal is left open
-open-now : (first : Option (Goal × Cause)) (g : Goal) (c : Cause) → earlier_of first g c ≡ None → ⊥
+open-now : (first : Option (Goal × Cause)) (g : Goal) (c : Cause) → option_or first (Some (g, c)) ≡ None → ⊥
 open-now None g c e = absurd (cc e)
 open-now (Some first) g c e = absurd (cc e)
 
@@ -157,7 +157,7 @@ module _ (m : ModelTree) (group : Head) (ps : List (List PrimitiveTree)) where
         (subst (λ (gs : List Goal). Suffice m more gs) (sym (passed group ps i p at other)) h)
 
     pub kept_suffices : is_for group.about p ≡ true → (now : List ℕ) → IsWithin ks now
-        → HasNoneBy m (conjectures_of m now) (record { stage = group.stage; path = i + 1; about = group.about })
+        → HasNone m (conjectures_of m now) (record { stage = group.stage; path = i + 1; about = group.about })
         → SufficesThrough first now (i + 1)
     kept_suffices kind now grows none_here more none within h =
         so_far more none (λ k has. within k (grows k has))
@@ -165,7 +165,7 @@ module _ (m : ModelTree) (group : Head) (ps : List (List PrimitiveTree)) where
         (fewer_none m now more (record { stage = group.stage; path = i + 1; about = group.about }) within none_here, h))
 
   pub open_suffices : (first : Option (Goal × Cause)) (g : Goal) (c : Cause) (ks : List ℕ) (i : ℕ)
-      → SufficesThrough (earlier_of first g c) ks i
+      → SufficesThrough (option_or first (Some (g, c))) ks i
   open_suffices first g c ks i more none within h = absurd (open-now first g c none)
 
   pub suffices_end : (first : Option (Goal × Cause)) (ks : List ℕ) (i : ℕ) → length ps ≤ i
@@ -194,7 +194,7 @@ module _ (limits : Ceilings) (m : ModelTree) (held : List ℕ) where
   safe_by : (st : Stage) (k : ℕ) (ks : List ℕ) → IsKept limits m held st k ks → IsWithin ks held
       → AllByRecursion (IsSafe Whole limits m held) (group_goals m (group_at st k))
   safe_by st k ks h within =
-      all_both (λ g. PassesFirstBy limits m (conjectures_of m held) g None) (HasNoneBy m (conjectures_of m ks))
+      all_both (λ g. PassesFirst limits m (conjectures_of m held) g None) (HasNone m (conjectures_of m ks))
       (IsSafe Whole limits m held) (λ g few none. (few, fewer_none m ks held g within none))
       (group_goals m (group_at st k)) h.within h.suffice
 
@@ -214,7 +214,7 @@ module _ (limits : Ceilings) (m : ModelTree) (held : List ℕ) where
       → AllByRecursion (IsSafe Whole limits m held) (group_goals m (group_at st k))
       → Suffice m ks (group_goals m (group_at st k)) → IsKept limits m held st k ks
   kept_by st k ks safe suffice = record {
-    within = all_more (IsSafe Whole limits m held) (λ g. PassesFirstBy limits m (conjectures_of m held) g None)
+    within = all_more (IsSafe Whole limits m held) (λ g. PassesFirst limits m (conjectures_of m held) g None)
         (λ g h. h.0) (group_goals m (group_at st k)) safe;
     suffice = suffice;
   }
@@ -234,8 +234,8 @@ module _ (fragments : FragmentsAreKept) (added : ConjecturesAreAdded) (limits : 
   kept-left : (g : Option Kept) → IsKeptAt limits m held g → IsKeptAt limits m left g
   kept-left None h = tt
   kept-left (Some kept) h = record {
-    within = all_more (λ g. PassesFirstBy limits m (conjectures_of m held) g None)
-        (λ g. PassesFirstBy limits m (conjectures_of m left) g None)
+    within = all_more (λ g. PassesFirst limits m (conjectures_of m held) g None)
+        (λ g. PassesFirst limits m (conjectures_of m left) g None)
         (λ g few. fewer_pass fragments limits m g (λ k. not (c == k)) held
         ((added m [] checked tt tt).some held).universal ((added m [] checked tt tt).some left).universal few)
         (group_goals m (group_at kept.stage kept.conjecture)) h.within;

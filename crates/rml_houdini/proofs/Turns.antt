@@ -12,19 +12,20 @@ use Rattle.rml_command.specs.declared.goal.Stage.{Stage}
 use Rattle.rml_command.specs.declared.goal.Stage.TheVariants as stage
 use Rattle.rml_command.specs.declared.goal.Goal.{Goal}
 use Rattle.rml_exec.specs.declared.trace.Counterexample.{Counterexample}
-use Rattle.rml_wp.specs.Preconditions.{conjectures_of}
+use Rattle.rml_command.specs.InductiveSets.{conjectures_of}
 use Rattle.limits.specs.declared.cause.Cause.{Cause}
 use Rattle.limits.specs.Ceilings.{Ceilings}
-use Rattle.obligation_decide.specs.GoalDecisions.{IsFailingBy}
 use Rattle.lean_decide.specs.declared.settling.Counted.{Counted}
 use Rattle.rml_houdini.specs.Counts.{PassesFirst}
 use Rattle.rml_houdini.specs.Rounds.{group_at, stage_goals, goals_about, IsSafe, IsOpen}
-use Rattle.rml_houdini.specs.Progress.{earlier_of, first_of, action_goals, Leads, IsRound}
+use Rattle.rml_houdini.specs.Progress.{action_goals, Leads, IsRound}
 use Rattle.rml_houdini.specs.declared.round.Round.{Round}
 use Rattle.rml_houdini.specs.declared.round.Round.TheVariants.{Fails, Passes}
 use Rattle.rml_houdini.proofs.Steps.{Completes, behind_safe, behind_open, behind_list, in_list, round_failing, at_last}
 use Rattle.rml_houdini.proofs.Steps.{round_front, round_then, behind_first}
 use Rattle.rml_houdini.proofs.Paths.{passed, listed, no_path, next_of, none_of, actions_from, next_action, no_action}
+use Rattle.obligation_decide.specs.GoalDecisions.{IsFailing}
+use Rattle.std.specs.Option.{option_or}
 
 module _ (counted : Counted) (limits : Ceilings) (m : ModelTree) (held : List ℕ) (start : Option (Goal × Cause)) where
   -- the goals of a group, along its paths
@@ -60,14 +61,14 @@ module _ (counted : Counted) (limits : Ceilings) (m : ModelTree) (held : List �
           (goals_among group (i + 1 + 1) (drop (i + 1) ps)) (here kind) safe
 
       pub path_open : is_for group.about p ≡ true → (c : Cause) → IsOpen counted limits m held (goal_at i) c
-          → ThroughPaths (earlier_of now (goal_at i) c) (i + 1)
+          → ThroughPaths (option_or now (Some ((goal_at i), c))) (i + 1)
       path_open kind c left =
           behind_open counted limits m held start (group_goals m group) now (goal_at i) c
           (goals_among group (i + 1 + 1) (drop (i + 1) ps)) (here kind) left
 
       pub path_fails : is_for group.about p ≡ true → (shown : Counterexample) → IsGoal m (goal_at i)
           → PassesFirst counted limits m held (goal_at i) None
-          → IsFailingBy limits m (conjectures_of m held) (goal_at i) shown
+          → IsFailing limits m (conjectures_of m held) (goal_at i) shown
           → IsRound counted limits m held start (group_goals m group) (Fails shown)
       path_fails kind shown is within fails =
           here kind (Fails shown) (round_failing counted limits m held now (goal_at i)
@@ -96,10 +97,10 @@ module _ (counted : Counted) (limits : Ceilings) (m : ModelTree) (held : List �
 
       pub group_passes : (more : Option (Goal × Cause))
           → Leads counted limits m held None (group_goals m (group_at st k)) more
-          → ThroughHeld (first_of now more) (i + 1)
+          → ThroughHeld (option_or now more) (i + 1)
       group_passes more lead =
           behind_list counted limits m held start (stage_goals m held st) now (group_goals m (group_at st k))
-          (flat_map (λ k. group_goals m (group_at st k)) (drop (i + 1) held)) (first_of now more) group-here
+          (flat_map (λ k. group_goals m (group_at st k)) (drop (i + 1) held)) (option_or now more) group-here
           (behind_first counted limits m held now (group_goals m (group_at st k)) more lead)
 
       pub group_fails : (shown : Counterexample)

@@ -7,7 +7,8 @@ use Rattle.rml_command.specs.declared.goal.Goal.{Goal}
 use Rattle.rml_command.specs.declared.goal.Stage.{Stage}
 use Rattle.rml_command.specs.declared.goal.Stage.TheVariants as stage
 use Rattle.rml_wp.specs.declared.premises.Premises.TheVariants.{Affected}
-use Rattle.rml_wp.specs.Preconditions.{conjectures_of, goal_precondition_by}
+use Rattle.rml_wp.specs.Preconditions.{goal_precondition}
+use Rattle.rml_command.specs.InductiveSets.{conjectures_of}
 use Rattle.rml_houdini.specs.declared.assumed.Assumed.{Assumed}
 
 -- the axioms, where they are assumed
@@ -26,4 +27,4 @@ held_parts stage.Final held = all_of held ∷ []
 abbrev pub assumed_sentence : ModelTree → Assumed → Goal → FormTree
 assumed_sentence m a goal =
     all_of (lawful_parts a.lawful m.axioms ++ held_parts goal.stage (conjectures_of m a.held.items)
-    ++ negation (goal_precondition_by Affected m goal) ∷ [])
+    ++ negation (goal_precondition Affected m goal) ∷ [])

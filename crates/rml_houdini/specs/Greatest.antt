@@ -7,7 +7,7 @@ use Rattle.rml_command.specs.Models.{ModelTree}
 use Rattle.rml_command.specs.declared.goal.About.TheVariants as about
 use Rattle.limits.specs.Ceilings.{Ceilings}
 use Rattle.lean_decide.specs.declared.settling.Counted.{Counted}
-use Rattle.rml_houdini.specs.Subsets.{Has, IsWithin, IsInductive}
+use Rattle.rml_command.specs.InductiveSets.{Has, IsWithin, IsInductive}
 use Rattle.rml_houdini.specs.Rounds.{goals_about, IsFirstFailing, AreSettled}
 use Rattle.rml_houdini.specs.declared.houdini.Dropped.{Dropped}
 use Rattle.rml_houdini.specs.declared.houdini.Houdini.{Houdini}

@@ -13,17 +13,8 @@ use Rattle.limits.specs.Ceilings.{Ceilings}
 use Rattle.lean_decide.specs.declared.settling.Counted.{Counted}
 use Rattle.rml_houdini.specs.Rounds.{stage_goals, IsSafe, IsOpen, IsFirstFailing}
 use Rattle.rml_houdini.specs.declared.round.Round.{Round}
+use Rattle.std.specs.Option.{option_or}
 use Rattle.rml_houdini.specs.declared.round.Round.TheVariants as round
-
--- the first open goal, where one more is open
-abbrev pub earlier_of : Option (Goal × Cause) → Goal → Cause → Option (Goal × Cause)
-earlier_of None goal c = Some (goal, c)
-earlier_of (Some first) goal c = Some first
-
--- the first open goal of goals and of more behind them
-abbrev pub first_of : Option (Goal × Cause) → Option (Goal × Cause) → Option (Goal × Cause)
-first_of None more = more
-first_of (Some first) more = Some first
 
 module _ (counted : Counted) (limits : Ceilings) (m : ModelTree) (held : List ℕ) where
   -- No goal fails; the first open goal before them is `from`, and behind them it is `to`.
@@ -31,7 +22,7 @@ module _ (counted : Counted) (limits : Ceilings) (m : ModelTree) (held : List �
   Leads from [] to = to ≡ from
   Leads from (g ∷ gs) to =
       (IsSafe counted limits m held g × Leads from gs to)
-      ⊎ ((c : Cause) × IsOpen counted limits m held g c × Leads (earlier_of from g c) gs to)
+      ⊎ ((c : Cause) × IsOpen counted limits m held g c × Leads (option_or from (Some (g, c))) gs to)
 
   -- what was found of these goals, which stand behind others whose first open goal is `from`
   abbrev pub IsRound : Option (Goal × Cause) → List Goal → Round → Type 0

@@ -10,14 +10,15 @@ use Rattle.rml_command.specs.declared.goal.Stage.TheVariants as stage
 use Rattle.rml_command.specs.declared.goal.About.TheVariants as about
 use Rattle.rml_command.specs.declared.goal.Goal.{Goal}
 use Rattle.rml_exec.specs.declared.trace.Counterexample.{Counterexample}
-use Rattle.rml_wp.specs.Preconditions.{conjectures_of}
+use Rattle.rml_command.specs.InductiveSets.{conjectures_of}
+use Rattle.rml_command.specs.Goals.{HasNone}
 use Rattle.limits.specs.declared.cause.Cause.{Cause}
 use Rattle.limits.specs.Ceilings.{Ceilings}
-use Rattle.obligation_decide.specs.GoalDecisions.{HasNoneBy, IsFailingBy}
 use Rattle.lean_decide.specs.declared.settling.Counted.{Counted}
 use Rattle.rml_houdini.specs.Counts.{PassesFirst, IsLeftOpen}
 use Rattle.rml_houdini.specs.declared.round.Round.{Round}
 use Rattle.rml_houdini.specs.declared.round.Round.TheVariants.{Fails, Passes}
+use Rattle.obligation_decide.specs.GoalDecisions.{IsFailing}
 
 -- init and each action: behind these a conjecture is to hold
 abbrev pub conjecture_stages : ModelTree → List Stage
@@ -38,7 +39,7 @@ goals_about m ks = flat_map (λ s. stage_goals m ks s) (conjecture_stages m)
 module _ (counted : Counted) (limits : Ceilings) (m : ModelTree) (held : List ℕ) where
   -- the goal passes no limit, and has no counterexample
   abbrev pub IsSafe : Goal → Type 0
-  IsSafe goal = PassesFirst counted limits m held goal None × HasNoneBy m (conjectures_of m held) goal
+  IsSafe goal = PassesFirst counted limits m held goal None × HasNone m (conjectures_of m held) goal
 
   -- it is left open for this cause
   abbrev pub IsOpen : Goal → Cause → Type 0
@@ -57,7 +58,7 @@ pub record IsFirstFailing (counted : Counted) (limits : Ceilings) (m : ModelTree
   pub earlier : AllByRecursion (IsSafeOrOpen counted limits m held) before
   pub goal : IsGoal m shown.goal
   pub within : PassesFirst counted limits m held shown.goal None
-  pub fails : IsFailingBy limits m (conjectures_of m held) shown.goal shown
+  pub fails : IsFailing limits m (conjectures_of m held) shown.goal shown
 
 -- This is the first of the goals that is left open, with its cause, and none fails.
 pub record IsFirstOpen (counted : Counted) (limits : Ceilings) (m : ModelTree) (held : List ℕ) (goals : List Goal)

@@ -6,7 +6,7 @@ ghost use Rattle.fol_formula.specs.Syntax.{top, negation};
 ghost use Rattle.rml_command.specs.Goals.{IsGoal};
 ghost use Rattle.fol_formula.specs.Sentences.{all_of};
 ghost use Rattle.rml_wp.specs.declared.premises.Premises.TheVariants.{Affected};
-ghost use Rattle.rml_wp.specs.Preconditions.{goal_precondition_by};
+ghost use Rattle.rml_wp.specs.Preconditions.{goal_precondition};
 ghost use Rattle.rml_houdini.specs.Assuming.{lawful_parts, held_parts, assumed_sentence};
 
 use base::Mem;
@@ -32,7 +32,7 @@ pub fn assumed_sentence(
     assumed: &Assumed,
 ) -> Mem<Ea>
     requires goal { IsGoal checked.now goal.now }
-    requires precondition { precondition.now ≡ goal_precondition_by Affected checked.now goal.now }
+    requires precondition { precondition.now ≡ goal_precondition Affected checked.now goal.now }
     requires held { All (λ k. k < length checked.now.conjectures) assumed.now.held.items }
     ensures { IfOk result (λ f. f ≡ assumed_sentence checked.now assumed.now goal.now) }
 {

@@ -1,11 +1,13 @@
 // Which limit a goal passes by its size, told by its whole refuting sentence. That is counted where its parts stand.
 ghost use Rattle.std.specs.Prelude.{◌≡◌, ◌<◌, length, All, IfOk};
 ghost use Rattle.rml_command.specs.Goals.{IsGoal};
-ghost use Rattle.rml_wp.specs.Preconditions.{answered as answered_of, conjectures_of, goal_precondition};
+ghost use Rattle.rml_wp.specs.Preconditions.{answered as answered_of, goal_precondition};
+ghost use Rattle.rml_command.specs.InductiveSets.{conjectures_of};
 ghost use Rattle.ground_size.specs.Conjoined.{forms_at};
 ghost use Rattle.limits.specs.Ceilings.{ceilings};
-ghost use Rattle.obligation_decide.specs.GoalPassing.{PassesFirstBy, SentencePassesBy};
 ghost use Rattle.rml_houdini.specs.Assuming.{held_parts};
+ghost use Rattle.rml_wp.specs.declared.premises.Premises.TheVariants.{All as AllAxioms};
+ghost use Rattle.obligation_decide.specs.GoalPassing.{PassesFirst, SentencePasses};
 
 use crate::assumed::sentences_of;
 use base::{Mem, Refused};
@@ -16,7 +18,7 @@ use ground_size::Part;
 use limits::{Cause, Limits};
 use obligation_decide::cause_of;
 use rml_command::{Checked, Goal, Stage};
-use rml_wp::precondition;
+use rml_wp::{Premises, precondition};
 use std::alloc::{AllocError, Global};
 
 /// The limit that a goal passes by its size where these conjectures are held, if it passes one.
@@ -30,9 +32,9 @@ pub fn first_limit(
     requires goal { IsGoal checked.now goal.now }
     requires held { All (λ k. k < length checked.now.conjectures) held.now }
     ensures { IfOk result
-        (PassesFirstBy (ceilings limits.now) checked.now (conjectures_of checked.now held.now) goal.now) }
+        (PassesFirst (ceilings limits.now) checked.now (conjectures_of checked.now held.now) goal.now) }
 {
-    match precondition(alloc, checked, goal) {
+    match precondition(alloc, checked, Premises::All, goal) {
         Ok((answered, precondition)) => {
             let limit = limit_of(alloc, checked, goal, &answered, &precondition, held, limits);
             drop(answered);
@@ -56,10 +58,10 @@ fn limit_of(
 ) -> Mem<Option<Cause>>
     requires goal { IsGoal checked.now goal.now }
     requires answered { answered.now ≡ answered_of checked.now goal.now }
-    requires precondition { precondition.now ≡ goal_precondition checked.now goal.now }
+    requires precondition { precondition.now ≡ goal_precondition AllAxioms checked.now goal.now }
     requires held { All (λ k. k < length checked.now.conjectures) held.now }
     ensures { IfOk result
-        (SentencePassesBy (ceilings limits.now) checked.now (conjectures_of checked.now held.now) goal.now) }
+        (SentencePasses (ceilings limits.now) checked.now (conjectures_of checked.now held.now) goal.now) }
 {
     rml_wp::sentence_law();
     rml_wp::answered_goal(checked, goal);

@@ -5,11 +5,11 @@ ghost use Rattle.std.specs.Prelude.{◌≡◌, ◌<◌, length, true, All, IfOk,
 ghost use Rattle.fol_sig.specs.Symbols.{FitsStructure, symbols};
 ghost use Rattle.rml_command.specs.Goals.{IsGoal};
 ghost use Rattle.rml_wp.specs.declared.premises.Premises.TheVariants.{Affected};
-ghost use Rattle.rml_wp.specs.Preconditions.{answered as answered_of, conjectures_of, goal_precondition_by};
+ghost use Rattle.rml_wp.specs.Preconditions.{answered as answered_of, goal_precondition};
+ghost use Rattle.rml_command.specs.InductiveSets.{conjectures_of, Has, IsWithin};
 ghost use Rattle.limits.specs.Ceilings.{ceilings};
-ghost use Rattle.obligation_decide.specs.GoalDecisions.{IsFailingBy};
-ghost use Rattle.rml_houdini.specs.Subsets.{Has, IsWithin};
 ghost use Rattle.rml_houdini.specs.Keeping.{Grows, IsTurn, AreHeldBefore};
+ghost use Rattle.obligation_decide.specs.GoalDecisions.{IsFailing};
 
 use crate::assumed::{Assumed, sentences_of};
 use crate::trying::{Tried, try_with};
@@ -20,7 +20,7 @@ use fol_sig::{Signature, Structure};
 use limits::Limits;
 use rml_command::{Checked, Goal, Stage};
 use rml_exec::Counterexample;
-use rml_wp::{Premises, precondition_by};
+use rml_wp::{Premises, precondition};
 use std::alloc::{AllocError, Global};
 
 /// What a turn ends with.
@@ -52,7 +52,7 @@ pub fn keep(
     ensures grows { OnOk result (Grows held.now assumed.old.held.items assumed.new.held.items) }
     ensures turn { IfOk result (IsTurn (ceilings limits.now) checked.now held.now goal.now assumed.new) }
 {
-    match precondition_by(alloc, checked, Premises::Affected, goal) {
+    match precondition(alloc, checked, Premises::Affected, goal) {
         Ok((answered, precondition)) => {
             let turn = keep_from(
                 alloc,
@@ -86,7 +86,7 @@ fn keep_from(
 ) -> Mem<Turn>
     requires goal { IsGoal checked.now goal.now }
     requires answered { answered.now ≡ answered_of checked.now goal.now }
-    requires precondition { precondition.now ≡ goal_precondition_by Affected checked.now goal.now }
+    requires precondition { precondition.now ≡ goal_precondition Affected checked.now goal.now }
     requires held { All (λ k. k < length checked.now.conjectures) held.now }
     requires within { IsWithin assumed.old.held.items held.now }
     ensures grows { OnOk result (Grows held.now assumed.old.held.items assumed.new.held.items) }
@@ -123,7 +123,7 @@ fn take_turn(
 ) -> Mem<Turn>
     requires goal { IsGoal checked.now goal.now }
     requires answered { answered.now ≡ answered_of checked.now goal.now }
-    requires precondition { precondition.now ≡ goal_precondition_by Affected checked.now goal.now }
+    requires precondition { precondition.now ≡ goal_precondition Affected checked.now goal.now }
     requires held { All (λ k. k < length checked.now.conjectures) held.now }
     requires within { IsWithin assumed.old.held.items held.now }
     ensures grows { OnOk result (Grows held.now assumed.old.held.items assumed.new.held.items) }
@@ -183,7 +183,7 @@ fn judge(
     limits: &Limits,
 ) -> Mem<Turn>
     requires held { All (λ k. k < length checked.now.conjectures) held.now }
-    requires fails { IsFailingBy (ceilings limits.now) checked.now
+    requires fails { IsFailing (ceilings limits.now) checked.now
         (conjectures_of checked.now assumed.old.held.items) goal.now shown }
     ensures grows { OnOk result (Grows held.now assumed.old.held.items assumed.new.held.items) }
     ensures turn { IfOk result (IsTurn (ceilings limits.now) checked.now held.now goal.now assumed.new) }

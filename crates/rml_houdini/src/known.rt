@@ -8,7 +8,7 @@ ghost use Rattle.rml_command.specs.Goals.{group_goals};
 ghost use Rattle.limits.specs.Ceilings.{Ceilings};
 ghost use Rattle.lean_decide.specs.declared.settling.Counted.{Counted};
 ghost use Rattle.lean_decide.specs.declared.settling.Counted.TheVariants.{Whole};
-ghost use Rattle.rml_houdini.specs.Subsets.{IsWithin};
+ghost use Rattle.rml_command.specs.InductiveSets.{IsWithin};
 ghost use Rattle.rml_houdini.specs.Rounds.{group_at, IsSafe};
 ghost use Rattle.rml_houdini.specs.Keeping.{IsKept, AreKept, KeptStaysKept};
 

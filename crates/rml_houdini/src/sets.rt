@@ -2,7 +2,7 @@
 ghost use Rattle.std.specs.Prelude.{◌≡◌, ◌==◌, not, true, length, IfOk};
 ghost use Rattle.std.specs.List.{filter};
 ghost use Rattle.base.specs.Lists.{count_from};
-ghost use Rattle.rml_houdini.specs.Subsets.{IsWithin};
+ghost use Rattle.rml_command.specs.InductiveSets.{IsWithin};
 
 use base::Mem;
 use rml_command::Checked;

@@ -3,13 +3,13 @@
 ghost use Rattle.std.specs.Prelude.{◌≡◌, ◌<◌, true, false, length, None, All, IfOk, OnOk};
 ghost use Rattle.rml_command.specs.Goals.{IsGoal};
 ghost use Rattle.rml_wp.specs.declared.premises.Premises.TheVariants.{Affected};
-ghost use Rattle.rml_wp.specs.Preconditions.{answered as answered_of, conjectures_of, goal_precondition_by};
-ghost use Rattle.rml_wp.specs.Preconditions.{goal_passes_limit_by};
+ghost use Rattle.rml_wp.specs.Preconditions.{answered as answered_of, goal_precondition};
+ghost use Rattle.rml_command.specs.InductiveSets.{conjectures_of, IsWithin};
+ghost use Rattle.rml_wp.specs.Preconditions.{goal_passes_limit};
 ghost use Rattle.limits.specs.Ceilings.{ceilings};
-ghost use Rattle.obligation_decide.specs.GoalPassing.{PassesFirstBy};
 ghost use Rattle.lean_decide.specs.declared.settling.Counted.TheVariants.{Whole, Lean};
-ghost use Rattle.rml_houdini.specs.Subsets.{IsWithin};
 ghost use Rattle.rml_houdini.specs.Keeping.{Grows, IsSettledBy};
+ghost use Rattle.obligation_decide.specs.GoalPassing.{PassesFirst};
 
 use crate::assumed::Assumed;
 use crate::counting::first_limit;
@@ -18,21 +18,12 @@ use crate::trying::{Tried, try_with};
 use base::{Mem, Refused};
 use fol_formula::Ae;
 use fol_sig::Signature;
-use lean_decide::Counted;
+use lean_decide::{Counted, Settled};
 use limits::{Cause, Limits};
 use obligation_decide::{Decision, cause_of, decide_with};
 use rml_command::{Checked, Goal};
-use rml_exec::Counterexample;
-use rml_wp::{Premises, precondition_by};
+use rml_wp::{Premises, precondition};
 use std::alloc::{AllocError, Global};
-
-/// What is answered of a goal.
-#[derive(Drop)]
-pub enum Settled {
-    Holds,
-    Fails(Counterexample),
-    Undecided(Cause),
-}
 
 /// Decides a goal where these conjectures are held, beginning with what is assumed; where it holds, what is assumed
 /// then suffices. Which limit it passes is told by its refuting sentence, whole or lean.
@@ -92,7 +83,7 @@ fn settle_within(
     requires goal { IsGoal checked.now goal.now }
     requires held { All (λ k. k < length checked.now.conjectures) held.now }
     requires within { IsWithin assumed.old.held.items held.now }
-    requires limit { PassesFirstBy (ceilings limits.now) checked.now (conjectures_of checked.now held.now) goal.now
+    requires limit { PassesFirst (ceilings limits.now) checked.now (conjectures_of checked.now held.now) goal.now
         None }
     ensures grows { OnOk result (Grows held.now assumed.old.held.items assumed.new.held.items) }
     ensures settled { IfOk result
@@ -163,7 +154,7 @@ fn settle_lean(
         (IsSettledBy Lean (ceilings limits.now) checked.now held.now goal.now assumed.new) }
 {
     assume_all(assumed, held)?;
-    match precondition_by(alloc, checked, Premises::Affected, goal) {
+    match precondition(alloc, checked, Premises::Affected, goal) {
         Ok((answered, precondition)) => {
             let settled = settle_assumed(
                 alloc,
@@ -197,8 +188,8 @@ fn settle_assumed(
 ) -> Mem<Settled>
     requires goal { IsGoal checked.now goal.now }
     requires answered { answered.now ≡ answered_of checked.now goal.now }
-    requires precondition { precondition.now ≡ goal_precondition_by Affected checked.now goal.now }
-    requires within { goal_passes_limit_by Affected checked.now goal.now ≡ false }
+    requires precondition { precondition.now ≡ goal_precondition Affected checked.now goal.now }
+    requires within { goal_passes_limit Affected checked.now goal.now ≡ false }
     requires lawful { assumed.now.lawful ≡ true }
     requires held { All (λ k. k < length checked.now.conjectures) assumed.now.held.items }
     ensures { IfOk result (IsSettledBy Lean (ceilings limits.now) checked.now assumed.now.held.items goal.now

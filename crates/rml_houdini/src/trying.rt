@@ -2,7 +2,7 @@
 ghost use Rattle.std.specs.Prelude.{◌≡◌, ◌<◌, length, All, IfOk};
 ghost use Rattle.rml_command.specs.Goals.{IsGoal};
 ghost use Rattle.rml_wp.specs.declared.premises.Premises.TheVariants.{Affected};
-ghost use Rattle.rml_wp.specs.Preconditions.{answered as answered_of, goal_precondition_by};
+ghost use Rattle.rml_wp.specs.Preconditions.{answered as answered_of, goal_precondition};
 ghost use Rattle.limits.specs.Ceilings.{ceilings};
 ghost use Rattle.pruned_decide.specs.Decisions.{IsDecidedSmall};
 ghost use Rattle.rml_houdini.specs.Assuming.{assumed_sentence};
@@ -48,7 +48,7 @@ pub fn try_with(
 ) -> Mem<Tried>
     requires goal { IsGoal checked.now goal.now }
     requires answered { answered.now ≡ answered_of checked.now goal.now }
-    requires precondition { precondition.now ≡ goal_precondition_by Affected checked.now goal.now }
+    requires precondition { precondition.now ≡ goal_precondition Affected checked.now goal.now }
     requires held { All (λ k. k < length checked.now.conjectures) assumed.now.held.items }
     ensures { IfOk result (IsTried (ceilings limits.now) checked.now goal.now assumed.now) }
 {

@@ -35,7 +35,7 @@ pub record IsExecution (m : ModelTree) (shown : Counterexample) : Type 0 where
 -- The execution is a counterexample of its goal.
 pub record IsRefutation (m : ModelTree) (shown : Counterexample) : Type 0 where
   pub goal : IsGoal m shown.goal
-  pub refutes : IsCounterexample m shown.goal shown.structure shown.trace.havoc shown.values
+  pub refutes : IsCounterexample m m.conjectures shown.goal shown.structure shown.trace.havoc shown.values
 
 -- It is shown of a group: its goal is the group's, at its path.
 pub record IsShown (m : ModelTree) (group : Head) (shown : Counterexample) : Type 0 where
@@ -45,7 +45,7 @@ pub record IsShown (m : ModelTree) (group : Head) (shown : Counterexample) : Typ
 -- A group that is left open: this path is one of its goals, and no earlier one has a counterexample.
 pub record IsLeftOpen (m : ModelTree) (group : Head) (path : ℕ) : Type 0 where
   pub is_goal : IsGoal m (goal_at group path)
-  pub earlier : (n : ℕ) → n < path → IsGoal m (goal_at group n) → HasNone m (goal_at group n)
+  pub earlier : (n : ℕ) → n < path → IsGoal m (goal_at group n) → HasNone m m.conjectures (goal_at group n)
 
 -- What an answer says of its group. `holds`: no goal of it has a counterexample. `fails`: the shown execution is a
 -- counterexample, and its block has so many paths. `undecided`: as above.

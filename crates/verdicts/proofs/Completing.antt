@@ -20,8 +20,9 @@ use Rattle.verdicts.specs.Answers.{
   first_failing,
 }
 use Rattle.verdicts.specs.Answers.{open_or_holds, fails_or, IsAnswerTo}
-use Rattle.verdicts.specs.Earliest.{earlier_of, open_or, answer_of}
+use Rattle.verdicts.specs.Earliest.{open_or, answer_of}
 use Rattle.verdicts.specs.declared.deciding.OpenGoal.{OpenGoal}
+use Rattle.std.specs.Option.{option_or}
 
 -- right answers to the goals that are left make an answer to all, with the first open goal so far
 abbrev pub Completes : Counted → Ceilings → ModelTree → ℕ → List Goal → Option OpenGoal → List Goal → Type 0
@@ -53,7 +54,7 @@ module _ (counted : Counted) (limits : Ceilings) (m : ModelTree) (paths : ℕ) (
   pub behind_open : (earliest : Option OpenGoal) (goal : Goal) (rest : List Goal) (c : Cause)
       → Completes counted limits m paths goals earliest (goal ∷ rest)
       → IsOpen counted limits m goal c → Completes counted limits m paths goals
-      (earlier_of earliest (record { path = goal.path; cause = c })) rest
+      (option_or earliest (Some (record { path = goal.path; cause = c }))) rest
   behind_open None goal rest c whole is answers right = whole (left_open c ∷ answers) (is, right)
   behind_open (Some first) goal rest c whole is answers right = whole (left_open c ∷ answers) (is, right)
 

@@ -22,7 +22,7 @@ use Rattle.rml_report.specs.declared.report.Answer.TheVariants as answer
 use Rattle.rml_report.specs.declared.report.Group.{Group}
 use Rattle.rml_report.specs.Reports.{head_of, goal_at, IsShown, IsLeftOpen, IsAnswer, IsRight, AxiomsAre}
 use Rattle.limits.specs.Ceilings.{Ceilings}
-use Rattle.obligation_decide.specs.GoalDecisions.{IsFailing, AreAxiomsDecided}
+use Rattle.obligation_decide.specs.GoalDecisions.{AreAxiomsDecided, IsFailing}
 use Rattle.lean_decide.specs.declared.settling.Counted.{Counted}
 use Rattle.verdicts.specs.Answers.{
   Failure,
@@ -62,7 +62,7 @@ module _ (counted : Counted) (limits : Ceilings) (m : ModelTree) (group : Head) 
   -- where no goal fails and none is left open, none has a counterexample
   all_safe : (gs : List Goal) (answers : List GoalAnswer) → AreAnswers counted limits m gs answers
       → first_failing answers ≡ None → open_or_holds gs answers ≡ answer.Holds
-      → AllByRecursion (HasNone m) gs
+      → AllByRecursion (HasNone m m.conjectures) gs
   all_safe [] answers right e f = tt
   all_safe (g ∷ gs) [] right e f = absurd right
   all_safe (g ∷ gs) (safe ∷ more) right e f = (right.0.1, all_safe gs more right.1 e f)
@@ -74,7 +74,7 @@ module _ (counted : Counted) (limits : Ceilings) (m : ModelTree) (group : Head) 
     pub goal : Goal
     pub among : SomeOf (λ x. x ≡ goal) gs
     pub at : goal ≡ goal_at group goal.path
-    pub fails : IsFailing limits m goal failure.shown
+    pub fails : IsFailing limits m m.conjectures goal failure.shown
     pub least : IsLeast limits m goal failure.shown.structure failure.least
 
   failed : (gs : List Goal) (answers : List GoalAnswer) (shown : Failure)
@@ -93,7 +93,7 @@ module _ (counted : Counted) (limits : Ceilings) (m : ModelTree) (group : Head) 
         goal = g;
         among = inl refl;
         at = at.0;
-        fails = subst (λ (x : Failure). IsFailing limits m g x.shown) same right.0.1;
+        fails = subst (λ (x : Failure). IsFailing limits m m.conjectures g x.shown) same right.0.1;
         least = subst (λ (x : Failure). IsLeast limits m g x.shown.structure x.least) same right.0.2;
       }
   failed (g ∷ gs) (left_open c ∷ more) shown at right e = behind (failed gs more shown at.1 right.1 e)
@@ -107,7 +107,7 @@ module _ (counted : Counted) (limits : Ceilings) (m : ModelTree) (group : Head) 
     goal = f.fails.same ∙ f.at ∙ ap (goal_at group) (sym f.fails.path);
     refutation = record {
       goal = subst (λ (x : Goal). IsGoal m x) (sym f.fails.same) (are f.goal f.among);
-      refutes = subst (λ (x : Goal). IsCounterexample m x shown.structure shown.trace.havoc shown.values)
+      refutes = subst (λ (x : Goal). IsCounterexample m m.conjectures x shown.structure shown.trace.havoc shown.values)
           (sym f.fails.same) f.fails.refutes;
     };
   }
@@ -136,7 +136,7 @@ module _ (counted : Counted) (limits : Ceilings) (m : ModelTree) (group : Head) 
       → AreAnswers counted limits m (goals_among group k ps) answers
       → first_failing answers ≡ None → open_or_holds (goals_among group k ps) answers ≡ answer.Undecided path c
       → (j : ℕ) (p : List PrimitiveTree) → slice_get ps j ≡ Some p → is_for group.about p ≡ true → k + j < path
-      → HasNone m (goal_at group (k + j))
+      → HasNone m m.conjectures (goal_at group (k + j))
   earlier k [] answers path c right e f j p here is below = absurd (cc here)
   earlier k (q ∷ ps) answers path c right e f j p here is below =
       by (is_for group.about q) refl answers right e f j here below (λ more. earlier (suc k) ps more path c)
@@ -145,11 +145,11 @@ module _ (counted : Counted) (limits : Ceilings) (m : ModelTree) (group : Head) 
       Behind more = AreAnswers counted limits m (goals_among group (suc k) ps) more → first_failing more ≡ None
           → open_or_holds (goals_among group (suc k) ps) more ≡ answer.Undecided path c
           → (i : ℕ) (r : List PrimitiveTree) → slice_get ps i ≡ Some r → is_for group.about r ≡ true → suc k + i < path
-          → HasNone m (goal_at group (suc k + i))
+          → HasNone m m.conjectures (goal_at group (suc k + i))
 
-      shifted : (i : ℕ) → HasNone m (goal_at group (suc k + i)) → HasNone m (goal_at group (k + suc i))
+      shifted : (i : ℕ) → HasNone m m.conjectures (goal_at group (suc k + i)) → HasNone m m.conjectures (goal_at group (k + suc i))
       shifted i none = let next : suc k + i ≡ k + suc i = omega arith in
-          subst (λ n. HasNone m (goal_at group n)) next none
+          subst (λ n. HasNone m m.conjectures (goal_at group n)) next none
 
       by : (b : Bool) → is_for group.about q ≡ b → (answers : List GoalAnswer)
           → AreAnswers counted limits m (if b then goal_at group k ∷ goals_among group (suc k) ps else goals_among group
@@ -158,13 +158,13 @@ module _ (counted : Counted) (limits : Ceilings) (m : ModelTree) (group : Head) 
           → open_or_holds (if b then goal_at group k ∷ goals_among group (suc k) ps else goals_among group (suc k) ps)
           answers ≡ answer.Undecided path c
           → (j : ℕ) → slice_get (q ∷ ps) j ≡ Some p → k + j < path → ((more : List GoalAnswer) → Behind more)
-          → HasNone m (goal_at group (k + j))
+          → HasNone m m.conjectures (goal_at group (k + j))
       by false t answers right e f zero here below later = absurd (cc)
       by false t answers right e f (suc i) here below later = let lt : suc k + i < path = omega (arith, below) in
           shifted i (later answers right e f i p here is lt)
       by true t [] right e f j here below later = absurd right
       by true t (safe ∷ more) right e f zero here below later = let first : k ≡ k + 0 = omega arith in
-          subst (λ n. HasNone m (goal_at group n)) first right.0.1
+          subst (λ n. HasNone m m.conjectures (goal_at group n)) first right.0.1
       by true t (safe ∷ more) right e f (suc i) here below later = let lt : suc k + i < path = omega (arith, below) in
           shifted i (later more right.1 e f i p here is lt)
       by true t (failing shown ∷ more) right e f j here below later = absurd (cc e)
@@ -185,12 +185,12 @@ module _ (counted : Counted) (limits : Ceilings) (m : ModelTree) (group : Head) 
       earlier = none;
     }
       where
-        none : (n : ℕ) → n < path → IsGoal m (goal_at group n) → HasNone m (goal_at group n)
+        none : (n : ℕ) → n < path → IsGoal m (goal_at group n) → HasNone m m.conjectures (goal_at group n)
         none zero below h = absurd (cc h.is_path)
         none (suc j) below h =
             let next : 1 + j ≡ suc j = omega arith in
             let lt : 1 + j < path = omega (arith, below) in
-            subst (λ n. HasNone m (goal_at group n)) next
+            subst (λ n. HasNone m m.conjectures (goal_at group n)) next
             (earlier 1 (stage_paths m group.stage) answers path c right e f j h.path h.is_path h.kind lt)
 
     settled : (answers : List GoalAnswer) → AreAnswers counted limits m (group_goals m group) answers

@@ -15,9 +15,8 @@ use Rattle.rml_report.specs.declared.report.Group.{Group}
 use Rattle.rml_report.specs.declared.report.Report.{Report}
 use Rattle.rml_report.specs.Reports.{head_of, verdict_of}
 use Rattle.limits.specs.Ceilings.{Ceilings}
-use Rattle.obligation_decide.specs.GoalDecisions.{IsFailing, AreAxiomsDecided}
+use Rattle.obligation_decide.specs.GoalDecisions.{AreAxiomsDecided, IsFailing}
 use Rattle.lean_decide.specs.declared.settling.Counted.{Counted}
-use Rattle.lean_decide.specs.declared.settling.Counted.TheVariants.{Whole}
 use Rattle.lean_decide.specs.Settled.{FirstPassed, IsOpen}
 use Rattle.cti_minimise.specs.Minimal.{IsLeast}
 
@@ -35,9 +34,9 @@ pub data GoalAnswer : Type 0 where
 -- what the answer says is so; a goal is left open where it passes a limit, or where a log of just so many clauses as
 -- the budget allows exists
 abbrev pub IsGoalAnswer : Counted → Ceilings → ModelTree → Goal → GoalAnswer → Type 0
-IsGoalAnswer counted limits m goal safe = FirstPassed counted limits m goal None × HasNone m goal
+IsGoalAnswer counted limits m goal safe = FirstPassed counted limits m goal None × HasNone m m.conjectures goal
 IsGoalAnswer counted limits m goal (failing f) =
-    FirstPassed counted limits m goal None × IsFailing limits m goal f.shown
+    FirstPassed counted limits m goal None × IsFailing limits m m.conjectures goal f.shown
     × IsLeast limits m goal f.shown.structure f.least
 IsGoalAnswer counted limits m goal (left_open c) = IsOpen counted limits m goal c
 
@@ -96,12 +95,8 @@ IsGroupNow counted limits m g = IsGroupAnswer counted limits m (head_of g) g.ans
 
 -- A report under limits: all groups of the model, in order and once each, each answered as above. The axioms are
 -- counted whole.
-pub record IsReportBy (counted : Counted) (limits : Ceilings) (m : ModelTree) (report : Report) : Type 0 where
+pub record IsReport (counted : Counted) (limits : Ceilings) (m : ModelTree) (report : Report) : Type 0 where
   pub groups : map head_of report.groups ≡ groups_of m
   pub answers : AllByRecursion (IsGroupNow counted limits m) report.groups
   pub verdict : report.verdict ≡ verdict_of report.groups
   pub axioms : AreAxiomsDecided limits m report.axioms
-
--- the same by the counts of whole refuting sentences
-abbrev pub IsReport : Ceilings → ModelTree → Report → Type 0
-IsReport limits m report = IsReportBy Whole limits m report

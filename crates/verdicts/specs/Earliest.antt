@@ -4,11 +4,6 @@ use Rattle.rml_report.specs.declared.report.Answer.{Answer}
 use Rattle.rml_report.specs.declared.report.Answer.TheVariants as answer
 use Rattle.verdicts.specs.declared.deciding.OpenGoal.{OpenGoal}
 
--- the open goal so far, or the next one where there is none yet
-abbrev pub earlier_of : Option OpenGoal → OpenGoal → Option OpenGoal
-earlier_of None next = Some next
-earlier_of (Some first) next = Some first
-
 -- an open goal, or this answer where there is none
 abbrev pub open_or : Option OpenGoal → Answer → Answer
 open_or None a = a

@@ -8,12 +8,12 @@ use Rattle.rml_report.specs.declared.report.Report.{Report}
 use Rattle.limits.specs.Ceilings.{Ceilings}
 use Rattle.cti_minimise.specs.Minimal.{IsLeast}
 use Rattle.lean_decide.specs.declared.settling.Counted.{Counted}
-use Rattle.verdicts.specs.Answers.{IsReportBy}
+use Rattle.verdicts.specs.Answers.{IsReport}
 
 -- each line of it is right
 abbrev pub ReportsAreRight : Type 0
 ReportsAreRight = (counted : Counted) (limits : Ceilings) (m : ModelTree) (report : Report)
-    → IsReportBy counted limits m report → Reports m report
+    → IsReport counted limits m report → Reports m report
 
 -- what is said of the sizes of a counterexample that is shown
 abbrev pub IsLeastAsSaid : Ceilings → ModelTree → Answer → Type 0
@@ -24,5 +24,5 @@ IsLeastAsSaid limits m (answer.Undecided path cause) = Unit {0}
 -- Each counterexample of a report has least sizes, or the search for smaller ones stopped, as the report says.
 abbrev pub ShownAreLeast : Type 0
 ShownAreLeast = (counted : Counted) (limits : Ceilings) (m : ModelTree) (report : Report)
-    → IsReportBy counted limits m report
+    → IsReport counted limits m report
     → AllByRecursion (λ g. IsLeastAsSaid limits m g.answer) report.groups

@@ -6,7 +6,7 @@ ghost use Rattle.rml_report.specs.Reports.{head_of};
 ghost use Rattle.pool_wp.specs.Sharing.{IsPoolOf};
 ghost use Rattle.limits.specs.Ceilings.{ceilings};
 ghost use Rattle.verdicts.specs.Answers.{IsAnswerTo, IsGroupNow};
-ghost use Rattle.verdicts.specs.Earliest.{earlier_of, answer_of};
+ghost use Rattle.verdicts.specs.Earliest.{answer_of};
 
 use crate::listing::group_goals;
 use base::Mem;
@@ -23,16 +23,6 @@ use std::alloc::Global;
 struct OpenGoal {
     path: u32,
     cause: Cause,
-}
-
-// The first open goal, where one more is open.
-fn earlier_of(earliest: Option<OpenGoal>, next: OpenGoal) -> Option<OpenGoal>
-    ensures { result ≡ earlier_of earliest next }
-{
-    match earliest {
-        Some(first) => Some(first),
-        None => Some(next),
-    }
 }
 
 // The answer where no goal fails, by the first that is open.
@@ -74,7 +64,7 @@ fn decide_goals(
             }
             Settled::Undecided(cause) => {
                 let path = goal.path;
-                earliest = earlier_of(earliest, OpenGoal { path, cause });
+                earliest = earliest.or(Some(OpenGoal { path, cause }));
             }
         }
     }

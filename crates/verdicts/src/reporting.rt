@@ -5,7 +5,7 @@ ghost use Rattle.rml_command.specs.Goals.{HasAbout, groups_of};
 ghost use Rattle.rml_report.specs.Reports.{head_of, says_holds, says_fails, verdict_of};
 ghost use Rattle.pool_wp.specs.Sharing.{IsPoolOf};
 ghost use Rattle.limits.specs.Ceilings.{ceilings};
-ghost use Rattle.verdicts.specs.Answers.{IsGroupNow, IsReportBy};
+ghost use Rattle.verdicts.specs.Answers.{IsGroupNow, IsReport};
 
 use crate::deciding::decide_group;
 use base::{Mem, Row};
@@ -102,7 +102,7 @@ pub fn report<P: Progress>(
     limits: &Limits,
     progress: &mut P,
 ) -> Mem<Report>
-    ensures { IfOk result (IsReportBy counted (ceilings limits.now) checked.now) }
+    ensures { IfOk result (IsReport counted (ceilings limits.now) checked.now) }
 {
     let mut shared = ModelPool::new(alloc, checked.model())?;
     let groups = all_groups(alloc, &mut shared, checked, counted, limits, progress);

@@ -7,9 +7,9 @@ use Rattle.commands.specs.Ends.{EndsOne, EndsTwo}
 use Rattle.command_parts.specs.ModelTexts.{model_limit}
 use Rattle.command_parts.specs.Limits.{ceilings_of}
 use Rattle.lean_decide.specs.declared.settling.Counted.{Counted}
-use Rattle.model_commands.specs.Check.{IsCheckAnswerBy}
-use Rattle.model_commands.specs.Houdini.{IsHoudiniAnswerBy}
-use Rattle.model_commands.specs.Bmc.{IsBmcAnswerBy}
+use Rattle.model_commands.specs.Check.{IsCheckAnswer}
+use Rattle.model_commands.specs.Houdini.{IsHoudiniAnswer}
+use Rattle.model_commands.specs.Bmc.{IsBmcAnswer}
 use Rattle.replay_command.specs.Replay.{IsReplayAnswer, report_limit}
 use Rattle.view_line.specs.declared.options.Form.{Form}
 use Rattle.view_line.specs.Asking.{Query, of_check, of_houdini, of_bmc, of_why, of_replay}
@@ -25,9 +25,9 @@ use Rattle.view_run.specs.Questions.{OfCheck, OfHoudini, OfBmc, OfWhy, OfReplay,
 
 -- the answer to these texts
 abbrev pub IsAnswerTo : Inquiry → List ℕ → List ℕ → ModelAnswer → Type 0
-IsAnswerTo (inquiry.Check c) text other a = OfCheck (IsCheckAnswerBy c.counted (ceilings_of c.asked) text) a
-IsAnswerTo (inquiry.Houdini c) text other a = OfHoudini (IsHoudiniAnswerBy c.counted (ceilings_of c.asked) text) a
-IsAnswerTo (inquiry.Bmc c) text other a = OfBmc (IsBmcAnswerBy c.counted c.bound text) a
+IsAnswerTo (inquiry.Check c) text other a = OfCheck (IsCheckAnswer c.counted (ceilings_of c.asked) text) a
+IsAnswerTo (inquiry.Houdini c) text other a = OfHoudini (IsHoudiniAnswer c.counted (ceilings_of c.asked) text) a
+IsAnswerTo (inquiry.Bmc c) text other a = OfBmc (IsBmcAnswer c.counted c.bound text) a
 IsAnswerTo (inquiry.Why c) text other a = OfWhy (IsWhyAnswer (ceilings_of c.asked) text) a
 IsAnswerTo inquiry.Replay text other a = OfReplay (IsReplayAnswer text other) a
 

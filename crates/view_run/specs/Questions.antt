@@ -8,9 +8,9 @@ use Rattle.command_parts.specs.ModelTexts.{model_limit}
 use Rattle.command_parts.specs.Limits.{ceilings_of}
 use Rattle.lean_decide.specs.declared.settling.Counted.{Counted}
 use Rattle.lean_decide.specs.declared.settling.Counted.TheVariants.{Whole, Lean}
-use Rattle.model_commands.specs.Check.{IsCheckAnswerBy}
-use Rattle.model_commands.specs.Houdini.{IsHoudiniAnswerBy}
-use Rattle.model_commands.specs.Bmc.{IsBmcAnswerBy}
+use Rattle.model_commands.specs.Check.{IsCheckAnswer}
+use Rattle.model_commands.specs.Houdini.{IsHoudiniAnswer}
+use Rattle.model_commands.specs.Bmc.{IsBmcAnswer}
 use Rattle.model_commands.specs.declared.check.CheckAnswer.{CheckAnswer}
 use Rattle.model_commands.specs.declared.houdini.HoudiniAnswer.{HoudiniAnswer}
 use Rattle.model_commands.specs.declared.bmc.BmcAnswer.{BmcAnswer}
@@ -79,9 +79,9 @@ OfReplay P _ = ⊥
 -- What answers a question about these texts, with limits on these counts. What `check`, `houdini`, `bmc` and `replay`
 -- answer is what they answer in `ivycheck`.
 abbrev pub IsAnswer : Query → Counted → List ℕ → List ℕ → ModelAnswer → Type 0
-IsAnswer (of_check file asked) counted text other a = OfCheck (IsCheckAnswerBy counted (ceilings_of asked) text) a
-IsAnswer (of_houdini file asked) counted text other a = OfHoudini (IsHoudiniAnswerBy counted (ceilings_of asked) text) a
-IsAnswer (of_bmc file bound) counted text other a = OfBmc (IsBmcAnswerBy counted bound text) a
+IsAnswer (of_check file asked) counted text other a = OfCheck (IsCheckAnswer counted (ceilings_of asked) text) a
+IsAnswer (of_houdini file asked) counted text other a = OfHoudini (IsHoudiniAnswer counted (ceilings_of asked) text) a
+IsAnswer (of_bmc file bound) counted text other a = OfBmc (IsBmcAnswer counted bound text) a
 IsAnswer (of_why file asked) counted text other a = OfWhy (IsWhyAnswer (ceilings_of asked) text) a
 IsAnswer (of_replay model report) counted text other a = OfReplay (IsReplayAnswer text other) a
 

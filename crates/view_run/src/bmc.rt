@@ -4,7 +4,7 @@ ghost use Rattle.std.specs.List.{AllByRecursion, flat_map};
 ghost use Rattle.bounded_text.specs.BoundedText.{CanRender};
 ghost use Rattle.told_answers.specs.RunsText.{CanTell};
 ghost use Rattle.command_parts.specs.ModelTexts.{IsTheModel};
-ghost use Rattle.model_commands.specs.Bmc.{IsBmcAnswerBy};
+ghost use Rattle.model_commands.specs.Bmc.{IsBmcAnswer};
 ghost use Rattle.told_fault.specs.Readings.{IsReading};
 ghost use Rattle.view_run.specs.Bmc.{length_graphs, bounded_line, bounded_view, bmc_view};
 
@@ -101,7 +101,7 @@ pub fn say_bmc(
     reading: &Reading,
     answer: &BmcAnswer,
 ) -> Mem<Said>
-    requires answer { IsBmcAnswerBy bmc.now.counted bmc.now.bound text.now answer.now }
+    requires answer { IsBmcAnswer bmc.now.counted bmc.now.bound text.now answer.now }
     requires reading { IsReading text.now reading.now }
     ensures { IfOk result (λ s. s
         ≡ bmc_view showing.entry.form showing.entry.file.now text.now reading.now answer.now) }

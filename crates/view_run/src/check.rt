@@ -4,7 +4,7 @@ ghost use Rattle.std.specs.List.{AllByRecursion};
 ghost use Rattle.rml_report.specs.Reports.{CanRender};
 ghost use Rattle.command_parts.specs.Limits.{ceilings_of};
 ghost use Rattle.command_parts.specs.ModelTexts.{IsTheModel};
-ghost use Rattle.model_commands.specs.Check.{IsCheckAnswerBy, verdict_status};
+ghost use Rattle.model_commands.specs.Check.{IsCheckAnswer, verdict_status};
 ghost use Rattle.told_fault.specs.Readings.{IsReading};
 ghost use Rattle.view_run.specs.Check.{checked_line, checked_text, check_view};
 
@@ -84,7 +84,7 @@ pub fn say_check(
     reading: &Reading,
     answer: &CheckAnswer,
 ) -> Mem<Said>
-    requires answer { IsCheckAnswerBy check.now.counted (ceilings_of check.now.asked) text.now answer.now }
+    requires answer { IsCheckAnswer check.now.counted (ceilings_of check.now.asked) text.now answer.now }
     requires reading { IsReading text.now reading.now }
     ensures { IfOk result (λ s. s
         ≡ check_view showing.entry.form showing.entry.file.now text.now reading.now answer.now) }

@@ -4,7 +4,7 @@ ghost use Rattle.std.specs.List.{AllByRecursion};
 ghost use Rattle.rml_houdini.specs.HoudiniText.{CanRender};
 ghost use Rattle.command_parts.specs.Limits.{ceilings_of};
 ghost use Rattle.command_parts.specs.ModelTexts.{IsTheModel};
-ghost use Rattle.model_commands.specs.Houdini.{IsHoudiniAnswerBy};
+ghost use Rattle.model_commands.specs.Houdini.{IsHoudiniAnswer};
 ghost use Rattle.told_fault.specs.Readings.{IsReading};
 ghost use Rattle.view_run.specs.Houdini.{found_line, found_text, houdini_view};
 
@@ -83,7 +83,7 @@ pub fn say_houdini(
     reading: &Reading,
     answer: &HoudiniAnswer,
 ) -> Mem<Said>
-    requires answer { IsHoudiniAnswerBy houdini.now.counted (ceilings_of houdini.now.asked) text.now answer.now }
+    requires answer { IsHoudiniAnswer houdini.now.counted (ceilings_of houdini.now.asked) text.now answer.now }
     requires reading { IsReading text.now reading.now }
     ensures { IfOk result (λ s. s
         ≡ houdini_view showing.entry.form showing.entry.file.now text.now reading.now answer.now) }

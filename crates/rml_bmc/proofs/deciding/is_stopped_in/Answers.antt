@@ -19,6 +19,6 @@ pub returns-in-Holds : goal.returns-in-Holds
 returns-in-Holds c = λ e.
     let is = c.stopped_model_law.ensures c.args.checked.now c.args.legs.now c.model-checked.ensures.checked
     c.requires.legs c.requires.goes_on in
-    is.none (subst (λ (w : ModelTree). HasNone w (walk_goal about.Abort)) c.requires.model
-    (subst (λ (g : Goal). HasNone c.args.model.now g) c.goal_of-goal.ensures
+    is.none (subst (λ (w : ModelTree). HasNone w w.conjectures (walk_goal about.Abort)) c.requires.model
+    (subst (λ (g : Goal). HasNone c.args.model.now c.args.model.now.conjectures g) c.goal_of-goal.ensures
     (rw c.in-Holds.is at c.in_ok-settle_in.ensures).1))

@@ -1,6 +1,6 @@
 use Rattle.std.proofs.Common.{[], ◌∙◌}
 use Rattle.rml_wp.specs.declared.premises.Premises.TheVariants.{All}
-use Rattle.rml_wp.specs.Preconditions.{conjectures_of}
+use Rattle.rml_command.specs.InductiveSets.{conjectures_of}
 use Rattle.limits.specs.Ceilings.{ceilings}
 use Rattle.rml_houdini.proofs.Assuming.{strata_of}
 use Rattle.rml_houdini.proofs.Counted.{lent, in_fragment, fits_given, within_by, over_by}

@@ -1,4 +1,4 @@
-use Rattle.rml_houdini.specs.Subsets.{IsWithin}
+use Rattle.rml_command.specs.InductiveSets.{IsWithin}
 use Rattle.rml_houdini.specs.Keeping.{Grows}
 use Rattle.rml_houdini.proofs.keeping.keep_from.Given as goal
 

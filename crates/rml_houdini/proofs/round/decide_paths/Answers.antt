@@ -87,7 +87,7 @@ loop-i-preserved c =
             kind decided.0)
         | in-Undecided w ↦
             subst (λ (o : Option (Goal × Cause)). ThroughPaths counted limits m held None group ps o (i + 1))
-            (sym (w.first-is ∙ w.earlier_of-first.ensures))
+            (sym (w.first-is ∙ w.or-first.ensures))
             (path_open counted limits m held None group ps c.loop-i.first i c.path.result c.path.ensures before.whole
             kind w.in-Undecided.cause (rw w.in-Undecided.is at c.in_ok-settle.ensures.settled))
       ];
@@ -99,7 +99,7 @@ loop-i-preserved c =
             decided.1)
         | in-Undecided w ↦
             subst (λ (o : Option (Goal × Cause)). SufficesThrough m group ps o new (i + 1))
-            (sym (w.first-is ∙ w.earlier_of-first.ensures))
+            (sym (w.first-is ∙ w.or-first.ensures))
             (open_suffices m group ps c.loop-i.first _ w.in-Undecided.cause new (i + 1))
       ];
     }

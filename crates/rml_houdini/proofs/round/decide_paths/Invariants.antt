@@ -1,7 +1,7 @@
 use Rattle.std.proofs.Common.{◌≡◌, ◌≤◌, length, None}
 use Rattle.rml_command.specs.Goals.{stage_paths}
 use Rattle.limits.specs.Ceilings.{ceilings}
-use Rattle.rml_houdini.specs.Subsets.{IsWithin}
+use Rattle.rml_command.specs.InductiveSets.{IsWithin}
 use Rattle.rml_houdini.proofs.Turns.{ThroughPaths}
 use Rattle.rml_houdini.proofs.Sufficing.{SufficesThrough}
 use Rattle.rml_houdini.proofs.round.decide_paths.Given as goal

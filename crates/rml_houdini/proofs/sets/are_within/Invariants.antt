@@ -1,5 +1,5 @@
 use Rattle.std.proofs.Common.{drop}
-use Rattle.rml_houdini.specs.Subsets.{IsWithin}
+use Rattle.rml_command.specs.InductiveSets.{IsWithin}
 use Rattle.rml_houdini.proofs.sets.are_within.Given as goal
 
 abbrev pub invariant-loop-number : goal.invariant-loop-number

@@ -1,6 +1,6 @@
 use Rattle.std.proofs.Common.{ℕ, List, sym, subst}
 use Rattle.std.specs.Prelude.{Vec}
-use Rattle.rml_houdini.specs.Subsets.{IsWithin}
+use Rattle.rml_command.specs.InductiveSets.{IsWithin}
 use Rattle.rml_houdini.proofs.Drops.{has_at}
 use Rattle.rml_houdini.proofs.Sufficing.{pushed_within}
 use Rattle.rml_houdini.proofs.sets.common.Goals as goal

@@ -1,4 +1,4 @@
-use Rattle.rml_houdini.specs.Subsets.{IsWithin}
+use Rattle.rml_command.specs.InductiveSets.{IsWithin}
 use Rattle.rml_houdini.proofs.sets.common.Given as goal
 
 abbrev pub invariant-loop-number : goal.invariant-loop-number

@@ -1,6 +1,6 @@
 use Rattle.std.proofs.Common.{ℕ, List, sym, subst}
-use Rattle.rml_wp.specs.Preconditions.{conjectures_of}
-use Rattle.obligation_decide.specs.GoalDecisions.{HasNoneBy}
+use Rattle.rml_command.specs.InductiveSets.{conjectures_of}
+use Rattle.rml_command.specs.Goals.{HasNone}
 use Rattle.rml_houdini.proofs.Sufficing.{grows_to_all}
 use Rattle.rml_houdini.proofs.settling.settle_wholly.Goals as goal
 
@@ -14,6 +14,6 @@ returns-in_ok-assume_all-in-Holds-clause-settled c =
     let m = c.args.checked.now in
     let decided = rw c.in-Holds.is at c.in_ok-proof.ensures in (
       (decided.0, decided.1),
-      subst (λ (ks : List ℕ). HasNoneBy m (conjectures_of m ks) c.args.goal.now)
+      subst (λ (ks : List ℕ). HasNone m (conjectures_of m ks) c.args.goal.now)
           (sym c.in_ok-assume_all-in-Holds.ensures.held) decided.1,
     )

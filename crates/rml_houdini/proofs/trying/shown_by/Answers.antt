@@ -4,7 +4,8 @@ use Rattle.fol_sig.specs.Symbols.{symbols, FitsStructure}
 use Rattle.fol_sig.specs.Constants.{reduct}
 use Rattle.fol_formula.specs.Syntax.{FormTree}
 use Rattle.fol_formula.specs.Fits.{FitsForm}
-use Rattle.rml_wp.specs.Preconditions.{answered, conjectures_of}
+use Rattle.rml_wp.specs.Preconditions.{answered}
+use Rattle.rml_command.specs.InductiveSets.{conjectures_of}
 use Rattle.limits.specs.Ceilings.{ceilings}
 use Rattle.ea_decide.specs.Passing.{Passes}
 use Rattle.ea_decide.specs.declared.decided.Decided.TheVariants.{Satisfied}

@@ -49,7 +49,7 @@ loop-goal-preserved c =
             here (is.0, is.1))
         | in-Undecided w ↦
             subst (λ (e : Option OpenGoal). Completes c.args.counted limits m c.args.paths c.args.goals.now e rest)
-            (sym (w.earliest-is ∙ w.earlier_of-earliest.ensures))
+            (sym (w.earliest-is ∙ w.or-earliest.ensures))
             (behind_open c.args.counted limits m c.args.paths c.args.goals.now c.loop-goal.earliest next_goal rest
             w.in-Undecided.cause
             here (rw w.in-Undecided.is at c.in_ok-settle.ensures.settled))

@@ -1,5 +1,5 @@
 use Rattle.std.proofs.Common.{ℕ, List, subst}
-use Rattle.rml_houdini.specs.Subsets.{IsWithin}
+use Rattle.rml_command.specs.InductiveSets.{IsWithin}
 use Rattle.rml_houdini.proofs.Sufficing.{remembered}
 use Rattle.rml_houdini.proofs.known.Known.keeps.Goals as goal
 
