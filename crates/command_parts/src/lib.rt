@@ -3,12 +3,12 @@
 //! named here, and nothing is decided.
 #![tactic(auto)]
 
+mod asked;
 mod fault_text;
-mod limits;
 mod model_text;
 mod saying;
 
+pub use asked::limits_of;
 pub use fault_text::{ReportCode, fault_line, refusal_line, say_model_fault};
-pub use limits::limits_of;
 pub use model_text::read_model;
 pub use saying::{complaint, shown, verdict};
