@@ -3,6 +3,7 @@ ghost use Rattle.std.specs.Prelude.{◌≡◌, ◌<◌, ◌≤◌, length, All, 
 ghost use Rattle.std.specs.List.{AllByRecursion};
 ghost use Rattle.std.specs.Iterator.{YieldsFirst, item_count};
 ghost use Rattle.fol_sig.specs.Tables.{numbers, InRange};
+ghost use Rattle.fol_sig.specs.Arguments.{max_arguments};
 ghost use Rattle.fol_sig.specs.Tuples.{tuples};
 
 use crate::tuples::{table_len, tuple_of_number};
@@ -37,7 +38,7 @@ impl<'a> Model for TuplesLeft<'a> {
 #[tactic(auto, using(crate::proofs::Walks::all_in_range))]
 pub fn each_tuple<'a>(alloc: Global, sizes: &'a [u32], sorts: &'a [Sort]) -> Mem<TuplesLeft<'a>>
     requires sorted { All (λ k. k < length sizes.now) (numbers sorts.now) }
-    requires short { length sorts.now ≤ 8 }
+    requires short { length sorts.now ≤ max_arguments }
     ensures all { IfOk result (λ left. left ≡ tuples sizes.now (numbers sorts.now)) }
     ensures in_range { IfOk result (AllByRecursion (InRange sizes.now (numbers sorts.now))) }
 {
