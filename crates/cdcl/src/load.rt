@@ -5,10 +5,10 @@ ghost use Rattle.cnf_base.specs.declared.cnf.Entry.TheVariants.{Clause, True};
 ghost use Rattle.cnf_base.specs.Literals.{opposite};
 ghost use Rattle.cnf_base.specs.Clauses.{IsClause};
 ghost use Rattle.cnf_base.specs.Formulas.{IsFormula};
-ghost use Rattle.cnf_base.specs.Numerals.{max_number};
 ghost use Rattle.cdcl.specs.Solver.{IsRefuted};
 ghost use Rattle.cdcl.specs.Loading.{IsAtRoot, IsLoaded};
 ghost use Rattle.cdcl.specs.Watch.{IsPairOf};
+ghost use Rattle.cnf_base.specs.Numerals.{max_number};
 
 use crate::search::{Search, Solver};
 use crate::state::State;

@@ -3,7 +3,6 @@
 ghost use Rattle.std.specs.Prelude.{List, ◌≡◌, ◌+◌, ◌-◌, ◌<◌, ◌≤◌, [], length, IfOk, OnOk, OnErr, reverse};
 ghost use Rattle.cnf_base.specs.declared.cnf.Entry.{Entry};
 ghost use Rattle.cnf_base.specs.Formulas.{IsModel};
-ghost use Rattle.cnf_base.specs.Numerals.{max_number};
 ghost use Rattle.lrat_log.specs.declared.line.Line.{Line};
 ghost use Rattle.lrat_log.specs.declared.line.Line.TheVariants.{Add};
 ghost use Rattle.lrat_log.specs.Held.{held_by};
@@ -17,6 +16,7 @@ ghost use Rattle.cdcl.specs.Assigned.{AreAllSet};
 ghost use Rattle.cdcl.specs.Logged.{IsLogged};
 ghost use Rattle.cdcl.specs.Answered.{IsAnswer};
 ghost use Rattle.cdcl.specs.Turns.{IsTurn};
+ghost use Rattle.cnf_base.specs.Numerals.{max_number};
 
 use crate::analyse::Learnt;
 use crate::load::{Loaded, load};

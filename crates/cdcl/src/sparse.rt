@@ -1,11 +1,11 @@
 // Solving, also where the numbers of the variables are sparse: the search then runs over the variables 1, 2, .., and
 // its log is handed over under the names when it is whole. So memory goes by the literals of the formula and the log.
 ghost use Rattle.std.specs.Prelude.{◌≡◌, ◌+◌, ◌≤◌, [], length, IfOk};
-ghost use Rattle.cnf_base.specs.Numerals.{max_number};
 ghost use Rattle.lrat_log.specs.Accepted.{IsAccepted};
 ghost use Rattle.lrat_log.specs.Logs.{IsLogOver};
 ghost use Rattle.renumbering.specs.Renumbered.{IsRenumbered};
 ghost use Rattle.cdcl.specs.Answered.{IsAnswer, IsSolved};
+ghost use Rattle.cnf_base.specs.Numerals.{max_number};
 
 use crate::solver::{Answer, Solved, search_into};
 use base::Mem;

@@ -3,11 +3,11 @@ ghost use Rattle.std.specs.Prelude.{◌≡◌, ℕ, ◌+◌, ◌<◌, ◌≤◌,
 ghost use Rattle.cnf_base.specs.Literals.{AreLiterals};
 ghost use Rattle.cnf_base.specs.Formulas.{IsModel, value_of};
 ghost use Rattle.cnf_base.specs.Rising.{AreRising};
-ghost use Rattle.cnf_base.specs.Numerals.{max_number};
 ghost use Rattle.lrat_log.specs.Accepted.{IsAccepted};
 ghost use Rattle.lrat_log.specs.Logs.{IsLogOver, IsLineOver};
 ghost use Rattle.renumbering.specs.Named.{named, named_line};
 ghost use Rattle.renumbering.specs.Renumbered.{IsRenumbered};
+ghost use Rattle.cnf_base.specs.Numerals.{max_number};
 
 use crate::dense::Renumbered;
 use crate::names::name_of;
