@@ -683,8 +683,9 @@ def reason_differences(found, told, tallies):
     if heads != [(stage, name) for stage, _ in found.model.stages()
                  for name in ["abort", *names * (stage != "final")]]:
         yield f"why: the groups are {heads}"
-    if told["idle"] != [c for c in names if c not in carrying]:
-        yield f"why: idle are {told['idle']}, and {sorted(carrying)} carry a group"
+    idle = "idle" if all(reason["carried"] for reason in told["groups"]) else "idle_so_far"
+    if told.get(idle) != [c for c in names if c not in carrying]:
+        yield f"why: {idle} is {told.get(idle)}, and {sorted(carrying)} carry a group"
 
 
 def lack_differences(model, stage, name, held, lack, tallies):

@@ -86,6 +86,14 @@ init { asked(N) := false; held(N) := false }
 action grant { n := *; assume waits(n); insert held(n) }
 conjecture alone: forall X:node, Y:node. held(X) & held(Y) -> X = Y
 """
+# a goal whose ground size is above the most that may be asked for
+WIDE = """sort s
+relation p(s, s)
+init { p(A, B) := false }
+action go { skip }
+conjecture wide:
+  forall A:s, B:s, C:s, D:s, E:s, F:s, G:s, H:s. p(A, B) & p(C, D) & p(E, F) & p(G, H) -> p(A, D) & p(E, H)
+"""
 USELESS = FIXED + "conjecture twice: forall C:client, S:server. free(S) -> ~holds(C, S)\n"
 FAULTS = [
     ("a byte that is none of the language's", "relation p\naxiom a: p ! p\n", "fault"),
@@ -154,6 +162,8 @@ def cases():
         yield check(f"check open, {option}", ["check", "open.rml", option, "1"], {"open.rml": OPEN}, "checked")
     yield check("check with few conflicts", ["check", "pigeons.rml", "--conflicts", "1"], {"pigeons.rml": PIGEONS},
                 "checked")
+    yield check("check open, above the most", ["check", "wide.rml"], {"wide.rml": WIDE}, "checked")
+    yield check("check open, above the most, as a value", ["check", "wide.rml", "--json"], {"wide.rml": WIDE}, "checked")
     yield check("check open as a value", ["check", "open.rml", "--json", "--ground", "1"], {"open.rml": OPEN},
                 "checked")
     yield check("limits on whole counts", ["check", "fixed.rml", "--ground", "300"], {"fixed.rml": FIXED}, "checked")
@@ -180,6 +190,7 @@ def cases():
         for form in ([], ["--json"]):
             yield check(" ".join(["why", word, *form]), ["why", f"{word}.rml", *form], {f"{word}.rml": text}, "reasons")
     yield check("why open", ["why", "open.rml", "--ground", "1"], {"open.rml": OPEN}, "reasons")
+    yield check("why open as a value", ["why", "open.rml", "--ground", "1", "--json"], {"open.rml": OPEN}, "reasons")
     right = REPORT
     for title, report, outcome in (("a right report", right, "replayed"),
                                    ("a wrong verdict", right.replace("not inductive", "inductive"), "replayed"),

@@ -1,5 +1,5 @@
 -- Which conjectures carry which group, as data.
-use Rattle.std.specs.Prelude.{ℕ, true, false, List, [], ◌∷◌, map, codes}
+use Rattle.std.specs.Prelude.{ℕ, Bool, true, false, List, [], ◌∷◌, map, codes}
 use Rattle.serde_json.specs.Data.{Data, Members, boolean, null, string, no_members}
 use Rattle.rml_command.specs.Models.{ModelTree}
 use Rattle.rml_reasons.specs.declared.reason.Need.{Need}
@@ -8,7 +8,7 @@ use Rattle.rml_reasons.specs.declared.reason.Lack.TheVariants.{Fails, Open}
 use Rattle.rml_reasons.specs.declared.reason.Carried.{Carried}
 use Rattle.rml_reasons.specs.declared.reason.Carried.TheVariants.{By, Not}
 use Rattle.model_reasons.specs.declared.reason.Reason.{Reason}
-use Rattle.model_reasons.specs.Idle.{idle_conjectures}
+use Rattle.model_reasons.specs.Idle.{idle_conjectures, are_carried}
 use Rattle.json_values.specs.Values.{list_data, number_data, object_of, set_each}
 use Rattle.json_outcome.specs.ExecutionData.{execution_data}
 use Rattle.json_outcome.specs.GroupData.{stage_data, about_data, cause_data, name_data}
@@ -42,9 +42,14 @@ reason_data m r =
     object_of ((codes "stage", stage_data m.names r.stage) ∷ (codes "about", about_data m.names r.about)
     ∷ carried_members m r.carried)
 
+-- the conjectures that carry no group but their own: of all groups, or, where some fail or are left open, of the others
+abbrev pub idle_members : Bool → Data → List (List ℕ × Data)
+idle_members true names = (codes "idle", names) ∷ []
+idle_members false names = (codes "idle_so_far", names) ∷ []
+
 -- the groups in order, and the conjectures that carry no group but their own
 unfoldable pub reasons_members : ModelTree → List Reason → Members
 reasons_members m reasons =
     set_each no_members ((codes "command", string (codes "why"))
     ∷ (codes "groups", list_data (map (reason_data m) reasons))
-    ∷ (codes "idle", names_data m.names (idle_conjectures m reasons)) ∷ [])
+    ∷ idle_members (are_carried reasons) (names_data m.names (idle_conjectures m reasons)))

@@ -4,7 +4,9 @@ ghost use Rattle.std.specs.List.{AllByRecursion};
 ghost use Rattle.rml_report.specs.Reports.{IsExecution};
 ghost use Rattle.model_reasons.specs.Laws.{LackIsShown, CarriedIsShown};
 ghost use Rattle.json_values.specs.Values.{IsBuiltBy, list_data};
-ghost use Rattle.json_outcome.specs.ReasonsData.{lack_data, need_data, carried_members, reason_data, reasons_members};
+ghost use Rattle.json_outcome.specs.HoudiniData.{names_data};
+ghost use Rattle.json_outcome.specs.ReasonsData.{lack_data, need_data, carried_members, reason_data, idle_members};
+ghost use Rattle.json_outcome.specs.ReasonsData.{reasons_members};
 
 use crate::execution::execution_value;
 use crate::group::{cause_value, name_value, with_group};
@@ -12,8 +14,8 @@ use crate::houdini::names_value;
 use base::Mem;
 use json_values::{Json, JsonList, JsonObject, ObjectBuilder};
 use limits::Cause;
-use model_reasons::{Reason, idle};
-use rml_command::{Checked, Goal};
+use model_reasons::{Reason, are_carried, idle};
+use rml_command::{Checked, Goal, Names};
 use rml_exec::Counterexample;
 use rml_reasons::{Carried, Lack, Need};
 use std::alloc::Global;
@@ -126,6 +128,19 @@ fn reason_values(alloc: Global, checked: &Checked, reasons: &[Reason]) -> Mem<Js
     list.into_json()
 }
 
+fn with_idle(
+    alloc: Global,
+    object: ObjectBuilder,
+    names: &Names,
+    all: bool,
+    idle: &[u32],
+) -> ObjectBuilder
+    ensures { IsBuiltBy object (idle_members all (names_data names.now idle.now)) result }
+{
+    let key = if all { "idle" } else { "idle_so_far" };
+    object.with(key, names_value(alloc, names, idle))
+}
+
 /// What carries the groups of a model, and which conjectures carry no group but their own.
 #[tactic(auto, unfolding(crate::specs::ReasonsData::reasons_members))]
 pub fn reasons_object(alloc: Global, checked: &Checked, reasons: &[Reason]) -> Mem<JsonObject>
@@ -134,9 +149,9 @@ pub fn reasons_object(alloc: Global, checked: &Checked, reasons: &[Reason]) -> M
 {
     let names = checked.model().names();
     let idle = idle(alloc, checked, reasons)?;
-    ObjectBuilder::new(alloc)
+    let object = ObjectBuilder::new(alloc)
         .with_word("command", "why")
-        .with("groups", reason_values(alloc, checked, reasons))
-        .with("idle", names_value(alloc, names, idle.as_slice()))
-        .build()
+        .with("groups", reason_values(alloc, checked, reasons));
+    let all = are_carried(reasons);
+    with_idle(alloc, object, names, all, idle.as_slice()).build()
 }

@@ -11,4 +11,4 @@ mod serving;
 pub use laws::{idle_law, showing_law};
 pub use listing::reasons;
 pub use reason::Reason;
-pub use serving::idle;
+pub use serving::{are_carried, idle};

@@ -1,7 +1,7 @@
 // The conjectures that carry no group but their own.
 ghost use Rattle.std.specs.Prelude.{◌≡◌, ◌==◌, not, IfOk};
 ghost use Rattle.std.specs.List.{filter, list_any};
-ghost use Rattle.model_reasons.specs.Idle.{names, is_about, serves, idle_conjectures};
+ghost use Rattle.model_reasons.specs.Idle.{names, is_about, serves, idle_conjectures, is_carried, are_carried};
 
 use crate::reason::Reason;
 use base::{Mem, Row};
@@ -69,4 +69,20 @@ pub fn idle(alloc: Global, checked: &Checked, reasons: &[Reason]) -> Mem<Row<u32
     let all = all_conjectures(alloc, checked)?;
     let idle = idle_among(alloc, &all, reasons)?;
     Ok(Row::from_vec(idle))
+}
+
+fn is_carried(carried: &Carried) -> bool
+    ensures { result ≡ is_carried carried.now }
+{
+    match carried {
+        Carried::By(_) => true,
+        Carried::Not(_) => false,
+    }
+}
+
+/// Whether each of these groups is carried. Where one is not, it may need a conjecture that is idle among the others.
+pub fn are_carried(reasons: &[Reason]) -> bool
+    ensures { result ≡ are_carried reasons.now }
+{
+    reasons.iter().all(|reason| is_carried(&reason.carried))
 }

@@ -1,5 +1,5 @@
 -- The text of the reasons of a model's groups.
-use Rattle.std.specs.Prelude.{ℕ, List, [], ◌∷◌, ◌++◌, codes}
+use Rattle.std.specs.Prelude.{ℕ, Bool, true, false, List, [], ◌∷◌, ◌++◌, codes}
 use Rattle.std.specs.List.{flat_map}
 use Rattle.rml_command.specs.Models.{ModelTree}
 use Rattle.rml_command.specs.declared.names.Names.{Names}
@@ -12,7 +12,7 @@ use Rattle.rml_reasons.specs.declared.reason.Carried.{Carried}
 use Rattle.rml_reasons.specs.declared.reason.Carried.TheVariants.{By, Not}
 use Rattle.told_report.specs.CauseWords.{open_at}
 use Rattle.model_reasons.specs.declared.reason.Reason.{Reason}
-use Rattle.model_reasons.specs.Idle.{idle_conjectures}
+use Rattle.model_reasons.specs.Idle.{idle_conjectures, are_carried}
 
 -- the name of a conjecture, behind a comma
 unfoldable pub next_name : List (List ℕ) → ℕ → List ℕ
@@ -46,12 +46,18 @@ unfoldable pub reason_line : Names → Reason → List ℕ
 reason_line names r =
     head_text names r.stage r.about ++ codes ": " ++ carried_text names.conjectures r.carried ++ codes "\n"
 
+-- of all groups; or, where some fail or are left open, of the others
+abbrev pub idle_words : Bool → List ℕ
+idle_words true = codes "no other group needs: "
+idle_words false = codes "of the groups that hold, no other needs: "
+
 -- nothing where each conjecture serves another group
-abbrev pub idle_line : List (List ℕ) → List ℕ → List ℕ
-idle_line names [] = []
-idle_line names (k ∷ ks) = codes "no other group needs: " ++ name_at names k ++ more_names names ks ++ codes "\n"
+abbrev pub idle_line : Bool → List (List ℕ) → List ℕ → List ℕ
+idle_line all names [] = []
+idle_line all names (k ∷ ks) = idle_words all ++ name_at names k ++ more_names names ks ++ codes "\n"
 
 -- a line for each group, and one for the conjectures that carry no group but their own
 unfoldable pub reasons_text : ModelTree → List Reason → List ℕ
 reasons_text m reasons =
-    flat_map (reason_line m.names) reasons ++ idle_line m.names.conjectures (idle_conjectures m reasons)
+    flat_map (reason_line m.names) reasons
+    ++ idle_line (are_carried reasons) m.names.conjectures (idle_conjectures m reasons)

@@ -2,11 +2,11 @@
 ghost use Rattle.std.specs.Prelude.{◌≡◌, IfOk};
 ghost use Rattle.std.specs.List.{flat_map};
 ghost use Rattle.told_text.specs.Written.{Wrote};
-ghost use Rattle.told_answers.specs.ReasonsText.{needs_text, carried_text, idle_line, reason_line, reasons_text};
-ghost use Rattle.told_answers.specs.ReasonsText.{more_names, more_needs};
+ghost use Rattle.told_answers.specs.ReasonsText.{needs_text, carried_text, idle_words, idle_line};
+ghost use Rattle.told_answers.specs.ReasonsText.{more_names, more_needs, reason_line, reasons_text};
 
 use base::Mem;
-use model_reasons::{Reason, idle};
+use model_reasons::{Reason, are_carried, idle};
 use rml_command::{Checked, Name, Names};
 use rml_reasons::{Carried, Lack, Need};
 use std::alloc::Global;
@@ -82,12 +82,22 @@ fn push_more_names(out: &mut Text, names: &[Name], conjectures: &[u32])
     }
 }
 
+fn push_idle_words(out: &mut Text, all: bool)
+    ensures { Wrote out.old out.new (idle_words all) }
+{
+    if all {
+        out.push_str("no other group needs: ");
+    } else {
+        out.push_str("of the groups that hold, no other needs: ");
+    }
+}
+
 #[tactic(auto, using(std::proofs::Common::append_assoc))]
-fn push_idle(out: &mut Text, names: &[Name], conjectures: &[u32])
-    ensures { Wrote out.old out.new (idle_line names.now conjectures.now) }
+fn push_idle(out: &mut Text, all: bool, names: &[Name], conjectures: &[u32])
+    ensures { Wrote out.old out.new (idle_line all names.now conjectures.now) }
 {
     if let Some((conjecture, others)) = conjectures.split_first() {
-        out.push_str("no other group needs: ");
+        push_idle_words(out, all);
         push_name(out, names, *conjecture);
         push_more_names(out, names, others);
         out.push_str("\n");
@@ -103,7 +113,8 @@ pub fn tell_reasons(alloc: Global, checked: &Checked, reasons: &[Reason]) -> Mem
     let idle = idle(alloc, checked, reasons)?;
     let mut out = Text::new(alloc);
     push_reasons(&mut out, names, reasons);
-    push_idle(&mut out, names.conjectures.as_slice(), idle.as_slice());
+    let all = are_carried(reasons);
+    push_idle(&mut out, all, names.conjectures.as_slice(), idle.as_slice());
     let text = out.into_bytes()?;
     Ok(text)
 }

@@ -1,5 +1,6 @@
 // Why something is left open.
 ghost use Rattle.told_text.specs.Written.{Wrote};
+ghost use Rattle.told_report.specs.CauseWords.{terms_words, ground_words, conflicts_words};
 ghost use Rattle.told_report.specs.CauseWords.{cause_words, cause_line, open_at};
 
 use crate::numbers::{push_numbered, push_two_numbered};
@@ -13,24 +14,51 @@ const MOST_GROUND: u64 = 50_000_000;
 
 const MOST_CONFLICTS: u64 = 100_000_000;
 
-/// Adds why something is left open, and the option to raise.
+fn push_terms(out: &mut Text, n: u64)
+    ensures { Wrote out.old out.new (terms_words n) }
+{
+    if MOST_TERMS < n {
+        let more = " ground terms, more than --terms can be (";
+        push_two_numbered(out, "", n, more, MOST_TERMS, ")");
+    } else {
+        let raise = " ground terms; raise --terms, up to ";
+        push_two_numbered(out, "", n, raise, MOST_TERMS, "");
+    }
+}
+
+fn push_ground(out: &mut Text, n: u64)
+    ensures { Wrote out.old out.new (ground_words n) }
+{
+    if MOST_GROUND < n {
+        let more = ", more than --ground can be (";
+        push_two_numbered(out, "ground size ", n, more, MOST_GROUND, ")");
+    } else {
+        let raise = "; raise --ground, up to ";
+        push_two_numbered(out, "ground size ", n, raise, MOST_GROUND, "");
+    }
+}
+
+fn push_conflicts(out: &mut Text, n: u64)
+    ensures { Wrote out.old out.new (conflicts_words n) }
+{
+    if n < MOST_CONFLICTS {
+        let raise = " conflicts were too few; raise --conflicts, up to ";
+        push_two_numbered(out, "", n, raise, MOST_CONFLICTS, "");
+    } else {
+        let spent = " conflicts were too few, and --conflicts can be no more";
+        push_numbered(out, "", n, spent);
+    }
+}
+
+/// Adds why something is left open, and what helps.
 pub fn push_cause_words(out: &mut Text, cause: &Cause)
     ensures { Wrote out.old out.new (cause_words cause.now) }
 {
     match cause {
         Cause::Formula => out.push_str("the formula is too large"),
-        Cause::Terms(n) => {
-            let raise = " ground terms; raise --terms, up to ";
-            push_two_numbered(out, "", *n, raise, MOST_TERMS, "")
-        }
-        Cause::Ground(n) => {
-            let raise = "; raise --ground, up to ";
-            push_two_numbered(out, "ground size ", *n, raise, MOST_GROUND, "")
-        }
-        Cause::Conflicts(n) => {
-            let raise = " conflicts were too few; raise --conflicts, up to ";
-            push_two_numbered(out, "", *n, raise, MOST_CONFLICTS, "")
-        }
+        Cause::Terms(n) => push_terms(out, *n),
+        Cause::Ground(n) => push_ground(out, *n),
+        Cause::Conflicts(n) => push_conflicts(out, *n),
     }
 }
 
