@@ -9,9 +9,11 @@ use Rattle.rml_command.specs.declared.goal.Stage.{Stage}
 use Rattle.rml_command.specs.declared.goal.About.{About}
 use Rattle.rml_command.specs.declared.goal.About.TheVariants as about
 use Rattle.rml_exec.specs.declared.trace.Counterexample.{Counterexample}
-use Rattle.rml_report.specs.Words.{name_at}
+use Rattle.rml_report.specs.Words.{name_at, labelled}
 use Rattle.rml_report.specs.ReportText.{stage_text, head_text}
 use Rattle.limits.specs.declared.cause.Cause.{Cause}
+use Rattle.rml_report.specs.declared.least.Bound.{Bound}
+use Rattle.rml_report.specs.declared.least.Bound.TheVariants as at
 use Rattle.rml_report.specs.declared.least.Least.{Least}
 use Rattle.rml_report.specs.declared.least.Least.TheVariants as least
 use Rattle.rml_report.specs.declared.report.Axioms.{Axioms}
@@ -22,8 +24,8 @@ use Rattle.rml_report.specs.declared.report.Answer.{Answer}
 use Rattle.rml_report.specs.declared.report.Answer.TheVariants as answer
 use Rattle.rml_report.specs.declared.report.Group.{Group}
 use Rattle.rml_report.specs.declared.report.Report.{Report}
-use Rattle.told_report.specs.NumberText.{two_numbered}
-use Rattle.told_report.specs.CauseWords.{cause_line, open_at}
+use Rattle.told_report.specs.NumberText.{numbered, two_numbered}
+use Rattle.told_report.specs.CauseWords.{cause_words, cause_line, open_at}
 use Rattle.told_report.specs.InText.{TextTold}
 use Rattle.told_report.specs.ExecutionText.{execution_text}
 
@@ -40,15 +42,23 @@ broken_text names s a = codes "\n" ++ stage_text names s ++ fault_text names a
 unfoldable pub path_text : ℕ → ℕ → List ℕ
 path_text path paths = two_numbered (codes " (path ") path (codes " of ") paths (codes ")\n")
 
--- nothing where the counterexample is least
-abbrev pub least_text : Least → List ℕ
-least_text least.Yes = []
-least_text (least.Stopped bound size c) = cause_line (codes "  there may be a smaller one: ") c
+-- the sort or relation that may be smaller
+abbrev pub bound_text : Names → Bound → List ℕ
+bound_text names (at.Sort k) =
+    labelled (codes "  there may be a smaller one (") (name_at names.sorts k.0) (codes ": at most ")
+bound_text names (at.Rel r) =
+    labelled (codes "  there may be a smaller one (relation ") (name_at names.relations r.0) (codes ": at most ")
+
+-- there may be a smaller one (node: at most 2): .., in a line; nothing where the counterexample is least
+abbrev pub least_text : Names → Least → List ℕ
+least_text names least.Yes = []
+least_text names (least.Stopped bound size c) =
+    bound_text names bound ++ numbered (codes "") size (codes "): ") ++ cause_words c ++ codes "\n"
 
 -- what the block does, on which of its paths, whether the structure may be smaller, and the execution
 unfoldable pub failure_text : ModelTree → TextTold → Stage → About → ℕ → Least → Counterexample → List ℕ
 failure_text m told s a paths l shown =
-    broken_text m.names s a ++ path_text shown.trace.path paths ++ least_text l ++ execution_text m told a shown
+    broken_text m.names s a ++ path_text shown.trace.path paths ++ least_text m.names l ++ execution_text m told a shown
 
 -- a group that fails, behind an empty line
 abbrev pub failing_text : ModelTree → TextTold → Stage → About → Answer → List ℕ

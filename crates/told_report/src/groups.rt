@@ -2,18 +2,18 @@
 ghost use Rattle.fol_sig.specs.Symbols.{symbols};
 ghost use Rattle.rml_report.specs.Reports.{CanRender};
 ghost use Rattle.told_text.specs.Written.{Wrote};
-ghost use Rattle.told_report.specs.ToldText.{fault_text, path_text, least_text, group_failing, undecided_text};
-ghost use Rattle.told_report.specs.ToldText.{group_summary};
+ghost use Rattle.told_report.specs.ToldText.{fault_text, path_text, bound_text, least_text, group_failing};
+ghost use Rattle.told_report.specs.ToldText.{undecided_text, group_summary};
 
-use crate::causes::{push_cause_line, push_open_at};
+use crate::causes::{push_cause_words, push_open_at};
 use crate::execution::push_execution;
 use crate::in_text::InText;
-use crate::numbers::push_two_numbered;
+use crate::numbers::{push_numbered, push_two_numbered};
 use limits::Cause;
 use rml_command::{About, Checked, Names, Stage};
-use rml_report::{Answer, Group, Least};
+use rml_report::{Answer, Bound, Group, Least};
 use std::alloc::Global;
-use told_states::{push_head, push_name, push_stage};
+use told_states::{push_head, push_labelled, push_name, push_stage};
 use told_text::Text;
 
 /// Adds what a block does that it must not.
@@ -38,16 +38,39 @@ pub fn push_path(out: &mut Text, path: u32, paths: u64)
     push_two_numbered(out, " (path ", path as u64, " of ", paths, ")\n");
 }
 
-fn push_least(out: &mut Text, least: &Least)
-    ensures { Wrote out.old out.new (least_text least.now) }
+fn push_bound(out: &mut Text, names: &Names, at: Bound)
+    ensures { Wrote out.old out.new (bound_text names.now at) }
+{
+    match at {
+        Bound::Sort(sort) => {
+            let before = "  there may be a smaller one (";
+            push_labelled(out, before, names.sorts.as_slice(), sort.0, ": at most ")
+        }
+        Bound::Rel(relation) => {
+            let before = "  there may be a smaller one (relation ";
+            push_labelled(
+                out,
+                before,
+                names.relations.as_slice(),
+                relation.0,
+                ": at most ",
+            )
+        }
+    }
+}
+
+#[tactic(auto, using(std::proofs::Common::append_assoc))]
+fn push_least(out: &mut Text, names: &Names, least: &Least)
+    ensures { Wrote out.old out.new (least_text names.now least.now) }
 {
     match least {
         Least::Yes => {}
-        Least::Stopped {
-            at: _,
-            size: _,
-            cause,
-        } => push_cause_line(out, "  there may be a smaller one: ", cause),
+        Least::Stopped { at, size, cause } => {
+            push_bound(out, names, *at);
+            push_numbered(out, "", *size, "): ");
+            push_cause_words(out, cause);
+            out.push_str("\n");
+        }
     }
 }
 
@@ -76,7 +99,7 @@ pub fn push_failing<T: InText>(
             push_stage(out, names, group.stage);
             push_fault(out, names, group.about);
             push_path(out, shown.trace.path, *paths as u64);
-            push_least(out, least);
+            push_least(out, names, least);
             push_execution(alloc, out, checked, source, group.about, shown);
         }
     }
