@@ -165,13 +165,22 @@ begin holds
 mkdir -p "$room/repo/bench" && cp "$here/bench/spread.sh" "$room/repo/bench/"
 cat >"$room/repo/ivycheck" <<'END'
 #!/bin/sh
-[ "$1" = --which ] || { echo 'ivycheck: building' >&2 && touch "$FAKE/built" && exit; }
-[ ! -e "$FAKE/built" ] || echo "$FAKE/../bin/stand-in"
-[ -e "$FAKE/built" ]
+[ "$1" = --which ] || { touch "$FAKE/asked" && exit; }
+[ ! -e "$FAKE/built" ] || { echo "$FAKE/../bin/stand-in" && exit; }
+echo 'ivycheck: no program here' >&2
+exit 1
 END
 chmod +x "$room/repo/ivycheck"
-env -u IVYCHECK "$room/repo/bench/spread.sh" model.rml >"$room/out" 2>"$room/err"
-expect 'spread: what a build says is seen' said 'ivycheck: building'
+spread_here() {
+    env -u IVYCHECK "$room/repo/bench/spread.sh" model.rml >"$room/out" 2>"$room/err"
+    status=$?
+}
+spread_here
+expect 'spread: where there is no program it is said' said 'ivycheck: no program here'
+expect 'spread: where there is no program there is no verdict' ended 5
+expect 'spread: and none is built' [ ! -e "$FAKE/asked" ]
+touch "$FAKE/built"
+spread_here
 expect 'spread: what was built answers' last_is 'verdict: inductive'
 
 # --- the recipe of docs/SCALE.md
