@@ -68,6 +68,7 @@ case $1 in
         ! is_at fail || { echo "rt: $crate NOT PROVED" && exit 1; }
         [ "$1" = lib ] || cat >out/ivycheck <<PROGRAM
 #!/bin/sh
+PATH=/usr/bin:/bin
 printf '%s' "$sources"
 printf '<%s> ' "\$@"
 printf '\\nverdict: inductive\\n'
@@ -120,17 +121,34 @@ without_rt() { mv "$room/bin/rt" "$room/rt" && plain=$PATH && PATH=/usr/bin:/bin
 with_rt() { PATH=$plain && mv "$room/rt" "$room/bin/rt"; }
 edit() { echo "$1" >"$repo/crates/low/src/lib.rt"; }
 
+# A program of the sources as they stand is released, and nothing is built.
+release() {
+    (cd "$repo/crates/ivycheck" && rt run) && "$repo/bench/release.sh" >"$room/out" 2>"$room/err"
+    status=$?
+    echo a page >"$repo/release/README.md"
+    rm -rf "$repo"/crates/*/out "$repo/.ivycheck" "$FAKE/versions"
+    : >"$FAKE/calls"
+}
+
 begin
 run check model
-expect 'the first call builds and runs' ended 0
-expect 'the first call builds and runs' wrote 'one more main <check> <model> '
+expect 'no call builds unasked' ended 70
+expect 'no call builds unasked' builds 0
+expect 'no call builds unasked' wrote_nothing
+expect 'it says what to call, and what that costs' said "$repo/ivycheck --prove proves and builds one: an hour or more"
+expect 'in two lines' [ "$(wc -l <"$room/err")" = 2 ]
+run --prove check model
+expect 'the word --prove builds and runs' ended 0
+expect 'the word --prove builds and runs' wrote 'one more main <check> <model> '
 expect 'a build is announced with what it costs' said 'an hour or more on 4 processors, 6 GB of memory, 11 GB of disk'
 expect 'a build names its log' said "$repo/.ivycheck/build.log"
 expect 'a build says how far it is' said '1 of 2: low'
 expect 'a build says how far it is' said '2 of 2: ivycheck'
+run check model
+expect 'what was built is said once' said_once 'this is the program that was proved and built here'
 run check 'open model'
-expect 'a second call does not build' builds 1
-expect 'a second call says nothing of its own' [ ! -s "$room/err" ]
+expect 'a later call does not build' builds 1
+expect 'it says nothing of its own' [ ! -s "$room/err" ]
 expect 'words and status are handed on as they are' wrote '<check> <open model> '
 expect 'words and status are handed on as they are' ended 3
 echo 'echo what another rt builds' >"$repo/crates/ivycheck/out/ivycheck"
@@ -140,32 +158,46 @@ ln -s "$repo/ivycheck" "$room/work/link"
 (cd / && "$room/work/link" check "$room/work/model" >"$room/out")
 expect 'a link to the script serves, from any folder' wrote 'one more main'
 
+# What was built is of other sources now, and is not run; what is built then is.
+is_seen() {
+    run check model
+    expect "$1: no older program runs" ended 70
+    run --prove check model
+    expect "$1: it is built" wrote "$2"
+}
+
 edit two
-run check model
-expect 'an edited source is built' wrote 'two more main'
+is_seen 'an edited source' 'two more main'
 edit old && touch -d 2001-01-01 "$repo/crates/low/src/lib.rt"
-run check model
-expect 'a source with an older time is built' wrote 'old more main'
+is_seen 'a source with an older time' 'old more main'
 rm "$repo/crates/low/specs/More.antt"
-run check model
-expect 'a removed file is seen' wrote 'old main'
+is_seen 'a removed file' 'old main'
 mv "$repo/crates/low/src/lib.rt" "$repo/crates/low/src/named.rt"
-run check model
-expect 'a new name is seen' builds 5
+is_seen 'a new name' 'old main'
 echo 'top: low' >>"$repo/crates.txt"
-run check model
-expect 'a new list of crates is seen' builds 6
+is_seen 'a new list of crates' 'old main'
 echo kit-2 >"$FAKE/version"
-run check model
-expect 'another kit is seen' builds 7
+is_seen 'another kit' 'old main'
 echo changed >"$repo/crates/other/src/lib.rt"
 run check model
-expect 'a crate that the program does not stand on is left alone' builds 7
+expect 'a crate that the program does not stand on is left alone' wrote 'old main'
 expect 'one program is kept' programs 1
 
 begin
+release
+source=$repo/crates/low/src
+touch "$source/.lib.rt.swp" "$source/lib.rt~" "$source/#lib.rt#" "$source/4913" && ln -s none "$source/.#lib.rt"
+mkdir "$source/.backups" && echo 'words of mine' >"$repo/crates/low/specs/notes.txt"
+run check model
+expect "an editor's files beside a source do not make it another" ended 0
+expect "an editor's files beside a source do not make it another" wrote 'one more main'
+echo more >"$source/more.rt"
+run check model
+expect 'a new source does' ended 70
+
+begin
 hold ivycheck
-run_as first check model
+run_as first --prove check model
 wait_for held
 edit two
 let_go
@@ -174,11 +206,11 @@ status=$? && mv "$room/first" "$room/out" && mv "$room/first.err" "$room/err"
 expect 'a source that was edited during the build is not taken as built' ended 70
 expect 'a source that was edited during the build is told' said 'a source was touched during the build'
 expect 'a source that was edited during the build leaves no program' programs 0
-run check model
+run --prove check model
 expect 'the next call builds it' wrote 'two more main'
 edit three
 hold low
-run_as first check model
+run_as first --prove check model
 wait_for held
 edit four
 edit three
@@ -186,7 +218,7 @@ let_go
 wait $!
 expect 'nor is one that was edited and put back' [ $? = 70 ]
 hold low
-run_as first check model
+run_as first --prove check model
 wait_for held
 rm -r "$repo/crates/low/specs"
 let_go
@@ -195,22 +227,23 @@ expect 'nor is one whose folder was removed' [ $? = 70 ]
 
 begin
 hold low
-run_as first check model
+run_as first --prove check model
 wait_for held
 first=$!
-run_as second check model
+run_as second --prove check model
 second=$!
 wait_for grep -q waiting "$room/second.err"
 let_go
 wait $first && wait $second
 expect 'of two first calls both answer' grep -q 'one more main' "$room/first" "$room/second"
-expect 'of two first calls the second waits and takes what the first built' builds 1
+expect 'of two first calls the second waits until the first has built' builds 2
+expect 'and there is one program then' programs 1
 
 begin
-run check model
+run --prove check model
 edit two
 hold ivycheck
-run_as first check model
+run_as first --prove check model
 wait_for held
 kill -9 $! "$(cat "$FAKE/pid")"
 wait $! 2>/dev/null
@@ -221,15 +254,15 @@ run check model
 expect 'a build that is killed leaves the old program working' wrote 'one more main'
 expect 'a build that is killed leaves the old program working' builds 2
 edit two
-run check model
+run --prove check model
 expect 'a build that was killed leaves no lock, and its sources are built' wrote 'two more main'
 edit three
 hold ivycheck
-run_as first check model
+run_as first --prove check model
 wait_for held
 kill -9 $!
 wait $! 2>/dev/null
-run_as second check model
+run_as second --prove check model
 wait_for grep -q waiting "$room/second.err"
 let_go
 wait $!
@@ -237,13 +270,13 @@ expect 'an rt that outlives the script is waited for' grep -q 'three more main' 
 
 begin
 without_rt
-run check model
+run --prove check model
 expect 'without rt it says so' said 'there is no working command rt on the PATH'
 expect 'without rt it says so' ended 70
 run --first-look check model
 expect 'nor is there a first look' ended 70
 with_rt
-run check model
+run --prove check model
 without_rt
 run check model
 expect 'without rt a program of just these sources is run' wrote 'one more main'
@@ -254,10 +287,10 @@ expect 'without rt what is there is kept' programs 1
 with_rt
 
 begin
-run check model
+run --prove check model
 edit two
 echo low >"$FAKE/fail"
-run check model
+run --prove check model
 expect 'a build that fails gives 70' ended 70
 expect 'a build that fails names the crate' said 'low could not be proved or built'
 expect 'a build that fails runs no old program' wrote_nothing
@@ -266,7 +299,7 @@ run check model
 expect 'the old program serves its own sources' wrote 'one more main'
 echo ivycheck >"$FAKE/fail"
 edit two
-run check model
+run --prove check model
 expect 'a program that is not linked gives 70' ended 70
 expect 'a program that is not linked leaves half of one, which is not run' wrote_nothing
 
@@ -288,6 +321,7 @@ expect 'a sample without its number' is_usage sample
 expect 'bounded runs without their bound' is_usage bmc model
 expect 'a first look at no command line' is_usage --first-look check
 expect 'the usage line is that of the program' grep -qxF "    $(cat "$room/err")" "$here/docs/FORMATS.md"
+run --prove
 run check model --help
 expect 'a word that may be an option is left to the program' wrote '<check> <model> <--help> '
 run check model --terms 40 --conflicts 9
@@ -329,15 +363,6 @@ run --first-look sample 400
 expect 'the number of a sample is no file' wrote '<sample> <400>'
 expect 'a first look builds nothing' builds 0
 
-# A program of the sources as they stand is released, and nothing is built.
-release() {
-    (cd "$repo/crates/ivycheck" && rt run) && "$repo/bench/release.sh" >"$room/out" 2>"$room/err"
-    status=$?
-    echo a page >"$repo/release/README.md"
-    rm -rf "$repo"/crates/*/out "$repo/.ivycheck" "$FAKE/versions"
-    : >"$FAKE/calls"
-}
-
 begin
 release
 expect 'a release names the sums' wrote "sources: $("$repo/ivycheck" --sum)"
@@ -375,7 +400,9 @@ is_refused() {
     run --which
     expect "$1: no program is there" ended 1
     expect "$1: no program is there" wrote_nothing
-    run check model
+    expect "$1: it says what to call" said "$repo/ivycheck --prove proves and builds one"
+    expect "$1: nothing is built unasked" builds 0
+    run --prove check model
     expect "$1: the program is built anew" wrote "$3"
     expect "$1: the program is built anew" builds 1
 }
@@ -419,7 +446,7 @@ begin
 wrong_library
 is_refused 'a program that does not run on this system' 'it does not run on this system' 'one more main <check>'
 begin
-release && edit two && run check model
+release && edit two && run --prove check model
 run check model
 expect 'what was built here goes first' wrote 'two more main'
 edit one
@@ -441,7 +468,7 @@ expect 'from then on it is the one that runs' wrote "$repo/.ivycheck/ivycheck-"
 run --prove
 expect 'without words that is all' ended 0
 expect 'without words that is all' wrote_nothing
-expect 'what was built here is not built again' builds 1
+expect 'it is proved and built again each time' builds 2
 run --prove prove model
 expect 'words that are no command line are told first' ended 2
 begin
@@ -470,6 +497,173 @@ without_rt
 run --prove check model
 with_rt
 expect 'without rt there is no proof' ended 70
+
+# What lies in .ivycheck/ runs only with the sums that it had when it was built.
+plant() { printf '#!/bin/sh\necho planted\n' >"$1" && chmod +x "$1"; }
+built() { find "$repo/.ivycheck" -name 'ivycheck-*'; }
+is_not_run() {
+    run check model
+    expect "$1: it is not run" ended 70
+    expect "$1: it is not run" wrote_nothing
+    expect "$1: it says so" said "the program that lies in .ivycheck/ is not run: $2"
+    run --which
+    expect "$1: it is none that runs" ended 1
+    run --prove check model
+    expect "$1: it is proved and built again" wrote 'one more main'
+    run check model
+    expect "$1: from then on what was built runs" wrote 'one more main'
+    expect "$1: nothing else is left there" programs 1
+}
+
+prove() {
+    begin
+    run --prove check model
+    file=$(built)
+    sums=$repo/.ivycheck/sums-${file##*/}
+}
+
+prove
+rm "$file" "$sums" && plant "$file"
+is_not_run 'a program that was planted' 'no sums lie beside it'
+prove
+plant "$file"
+is_not_run 'one that was planted over what was built' 'it has not the sum that it had when it was built'
+prove
+head -c 20 "$file" >"$room/half" && cat "$room/half" >"$file"
+is_not_run 'half of a program' 'it has not the sum'
+prove
+sed -i 's/^sources: ./sources: x/' "$sums"
+is_not_run 'sums of other sources' 'its sums are those of other sources'
+prove
+mv "$file" "$room/work/away" && ln -s "$room/work/away" "$file"
+is_not_run 'a link to the very program' 'it is a link'
+expect 'what it led to is left alone' grep -q more "$room/work/away"
+prove
+mv "$sums" "$room/work/away" && ln -s "$room/work/away" "$sums"
+is_not_run 'a link to its sums' 'no sums lie beside it'
+expect 'what it led to is left alone' grep -q kit-1 "$room/work/away"
+prove
+rm "$file" && mkdir "$file" && touch "$file/within"
+is_not_run 'a folder' 'it is a link, or in a folder that is one, or no file'
+prove
+rm "$file" && mkdir "$room/work/elsewhere" && ln -s "$room/work/elsewhere" "$file"
+is_not_run 'a link to a folder' 'it is a link'
+expect 'nothing is put where it led' [ -z "$(ls "$room/work/elsewhere")" ]
+prove
+chmod 644 "$file"
+is_not_run 'a program without the right to be run' 'it has no right to be run'
+
+begin
+release && run --prove && plant "$(built)"
+run check model
+expect 'a released program runs in the place of one that is not run' wrote 'one more main'
+expect 'and it is said why' said 'the program that lies in .ivycheck/ is not run: it has not the sum'
+
+prove
+mv "$repo/.ivycheck" "$room/work/away" && ln -s "$room/work/away" "$repo/.ivycheck"
+run check model
+expect 'nothing runs from a folder that is a link' ended 70
+expect 'nothing runs from a folder that is a link' said 'in a folder that is one'
+run --prove check model
+expect 'nor is one written to' ended 70
+expect 'nor is one written to' said_once "$repo/.ivycheck is a link, and links are not followed there"
+
+begin
+release
+mkdir "$repo/.ivycheck" && echo mine >"$room/work/mine"
+for name in build.log begun new said-ivycheck; do ln -s "$room/work/mine" "$repo/.ivycheck/$name"; done
+run check model
+expect 'what runs is said past a link' said_once 'this is the released program'
+run --prove check model
+expect 'a build runs past links' wrote 'one more main'
+expect 'and none is written through' grep -qx mine "$room/work/mine"
+ln -sf "$room/work/mine" "$repo/.ivycheck/lock"
+run --prove check model
+expect 'a lock that is a link is told' said_once "$repo/.ivycheck/lock is a link, or no file: remove it"
+expect 'a lock that is a link is told' ended 70
+
+# The folder of the clone has any name, and the program is called by its own. A program that shows how it is called is
+# `cat` on /proc/self/cmdline; a file `check` gives the answer that is asked of it first.
+lf='
+'
+is_called_as() { [ "$(tail -n 1 "$room/out" | tr '\0' '|')" = "$1|check|/proc/self/cmdline|" ]; }
+call_in() {
+    begin
+    release
+    cp "$(command -v cat)" "$repo/release/ivycheck"
+    sed -i "s/^program: .*/program: $(sha256sum <"$repo/release/ivycheck" | cut -c 1-64)/" "$repo/release/SUMS"
+    echo 'verdict: inductive' >"$room/work/check"
+    mv "$repo" "$room/work/$2" && repo=$room/work/$2
+    run check /proc/self/cmdline
+    expect "$1: the program runs" ended 0
+    expect "$1: it is called by its own name" is_called_as "${3:-ivycheck}"
+    run --prove check model
+    expect "$1: it is proved and built too" wrote 'one more main <check> <model>'
+    "$repo/bench/release.sh" --check >"$room/out" 2>"$room/err"
+    expect "$1: the release is looked at too" said 'is not the program that was built'
+    repo=$room/repo
+}
+
+call_in 'a folder whose name is no UTF-8' "$(printf 'name\377')"
+call_in 'a folder whose name ends in line feeds' "name$lf$lf"
+call_in 'a folder that PATH cannot name' "$(printf '50%%:name\377')" /proc/self/fd/8
+call_in 'a folder whose name begins with -' '-n a=b'
+
+# `ivyview` is a link, and so may be what leads to it.
+begin
+ln -s ivycheck "$repo/ivyview"
+called_as() { "$1" check model 2>&1 | grep -q "^$2: "; }
+ln -s "$repo/ivyview" iv
+ln -s iv i,v
+mkdir -p over && ln -s ../i,v over/v
+ln -s "$repo/ivycheck" ic
+ln -s "$repo/ivyview" ivycheck
+expect 'a link to ivyview is ivyview' called_as ./iv ivyview
+expect 'and a link to that link' called_as ./i,v ivyview
+expect 'from another folder too' called_as over/v ivyview
+expect 'a link to ivycheck is ivycheck' called_as ./ic ivycheck
+expect 'of two names the first counts' called_as ./ivycheck ivycheck
+
+# Tools that are not there are named in one line.
+lack() {
+    mkdir -p "$room/few"
+    rm -f "$room/few"/*
+    for tool in sh readlink sha256sum awk find sort cut sed grep cat flock cmp cp mv rm mkdir wc rt; do
+        case " $1 " in *" $tool "*) ;; *) ln -s "$(command -v "$tool")" "$room/few/$tool" ;; esac
+    done
+    shift
+    plain=$PATH
+    PATH=$room/few
+    run "$@"
+    PATH=$plain
+}
+begin
+release
+lack '' check model
+expect 'these tools are enough' wrote 'one more main'
+rm -r "$repo/.ivycheck"
+lack 'sha256sum' check model
+expect 'a tool that is not there is named' said_once 'ivycheck: this needs what is not on the PATH: sha256sum'
+expect 'a tool that is not there is named' ended 70
+lack 'readlink awk' --which
+expect 'so are two' said_once 'this needs what is not on the PATH: readlink awk'
+lack 'flock' --prove
+expect 'so is one that a build takes' said_once 'this needs what is not on the PATH: flock'
+lack 'flock' check model
+expect 'and a build alone' wrote 'one more main'
+lack 'rt' --prove
+expect 'so is rt' said_once 'there is no working command rt on the PATH'
+rm "$repo/crates.txt"
+run check model
+expect 'a clone without its list of crates is told in one line' said_once 'there is no crates.txt to be read in'
+expect 'a clone without its list of crates is told in one line' ended 70
+begin
+broken_sum() { printf '#!/bin/sh\nexit 1\n' >"$room/bin/sha256sum" && chmod +x "$room/bin/sha256sum"; }
+release && broken_sum
+run check model
+rm "$room/bin/sha256sum"
+expect 'sources that cannot all be read have no sum' said_once 'cannot all be read'
+expect 'sources that cannot all be read have no sum' ended 70
 
 is_checked() { "$repo/bench/release.sh" --check >"$room/out" 2>"$room/err"; }
 is_no_release() { ! is_checked && said "$1"; }

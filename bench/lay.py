@@ -13,10 +13,14 @@ import os
 import shutil
 import sys
 
+from program import stop
+
 
 def kit():
     """Gives the kit's own `rt`, as a module."""
-    loader = importlib.machinery.SourceFileLoader("rt_of_kit", os.path.realpath(shutil.which("rt") or "rt"))
+    if not shutil.which("rt"):
+        stop("there is no rt on the PATH")
+    loader = importlib.machinery.SourceFileLoader("rt_of_kit", os.path.realpath(shutil.which("rt")))
     made = importlib.util.module_from_spec(importlib.util.spec_from_loader("rt_of_kit", loader))
     loader.exec_module(made)
     return made

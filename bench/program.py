@@ -20,7 +20,8 @@ def program(name="ivycheck"):
         if not os.path.isfile(found) or not os.access(found, os.X_OK):
             stop(f"{name.upper()} names {named}, and no program stands there")
         return found
-    asked = subprocess.run([f"{HERE}/{name}", "--which"], capture_output=True, text=True)
+    # (the folder of a clone may have a name that is no text)
+    asked = subprocess.run([f"{HERE}/{name}", "--which"], capture_output=True, text=True, errors="surrogateescape")
     if asked.returncode:
         stop(asked.stderr.strip())
     return asked.stdout.strip()
@@ -48,4 +49,4 @@ def examples():
 
 
 if __name__ == "__main__":
-    print(program(*sys.argv[1:]))
+    sys.stdout.buffer.write(os.fsencode(program(*sys.argv[1:])) + b"\n")

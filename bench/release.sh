@@ -5,7 +5,9 @@
 #   bench/release.sh --check [CRATES]     fails where they are not of these sources and of this kit, or where a released
 #                                         program is not to the byte the one that `rt ci` built in this checkout
 # So a change of the sources brings its release with it: `rt ci`, then this, then `.ci/run`, which checks it.
-root=$(cd "$(dirname "$0")/.." && pwd) || exit 1
+# (a folder's name may end in line feeds, which `$(..)` would take off)
+root=$(cd -- "$(dirname -- "$0")/.." && printf %sx "$PWD") || exit 1
+root=${root%x}
 release=$root/release
 check=
 [ "$1" != --check ] || { check=yes && shift; }

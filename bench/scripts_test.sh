@@ -165,13 +165,22 @@ begin holds
 mkdir -p "$room/repo/bench" && cp "$here/bench/spread.sh" "$room/repo/bench/"
 cat >"$room/repo/ivycheck" <<'END'
 #!/bin/sh
-[ "$1" = --which ] || { echo 'ivycheck: building' >&2 && touch "$FAKE/built" && exit; }
-[ ! -e "$FAKE/built" ] || echo "$FAKE/../bin/stand-in"
-[ -e "$FAKE/built" ]
+[ "$1" = --which ] || { touch "$FAKE/asked" && exit; }
+[ ! -e "$FAKE/built" ] || { echo "$FAKE/../bin/stand-in" && exit; }
+echo 'ivycheck: no program here' >&2
+exit 1
 END
 chmod +x "$room/repo/ivycheck"
-env -u IVYCHECK "$room/repo/bench/spread.sh" model.rml >"$room/out" 2>"$room/err"
-expect 'spread: what a build says is seen' said 'ivycheck: building'
+spread_here() {
+    env -u IVYCHECK "$room/repo/bench/spread.sh" model.rml >"$room/out" 2>"$room/err"
+    status=$?
+}
+spread_here
+expect 'spread: where there is no program it is said' said 'ivycheck: no program here'
+expect 'spread: where there is no program there is no verdict' ended 5
+expect 'spread: and none is built' [ ! -e "$FAKE/asked" ]
+touch "$FAKE/built"
+spread_here
 expect 'spread: what was built answers' last_is 'verdict: inductive'
 
 # --- the recipe of docs/SCALE.md
@@ -393,6 +402,180 @@ expect 'keep: a folder that is no tree, or a kit that keeps by itself' ended 2
 echo 'rt: low proved' >"$room/no_log"
 bench plant.py "$room/no_log"
 expect 'plant: a log without a proof of the crate' said 'has no proof of'
+
+# --- texts.py, on a stand-in for the kit, and on the kit
+
+# Runs with no other tools on the PATH than these and Python: with_few 'TOOL ..' NAME WORD ..
+with_few() {
+    rm -rf "$room/few" && mkdir "$room/few"
+    for tool in $1; do ln -s "$(command -v "$tool")" "$room/few/$tool"; done
+    ln -s "$(python3 -c 'import sys; print(sys.executable)')" "$room/few/python3"
+    shift
+    PATH=$room/few bench "$@"
+}
+
+# It blames a crate without a word where there is a file `silent`, and has the layout's status from a file `fmt`.
+mkdir -p "$room/kit" "$room/texts/one" "$room/texts/two"
+cat >"$room/kit/rt" <<'END'
+#!/usr/bin/env python3
+import os, sys
+class rtlib:
+    def stop_on_links(folder):
+        sys.exit(2 if os.path.exists(f"{folder}/silent") else None)
+    def fmt(folder, flag, out):
+        return int(open(f"{folder}/fmt").read()) if os.path.exists(f"{folder}/fmt") else 0
+    stop_on_unread = stop_on_text = lambda *words: None
+class Crate:
+    def __init__(self, name):
+        self.folder = self.name = name
+def stop_on_words(crate): pass
+def handles_of(root): return ()
+def crates_of(root): return [Crate(name) for name in sorted(os.listdir(root))]
+END
+chmod +x "$room/kit/rt"
+texts() { PATH=$room/kit:$PATH bench texts.py "$@"; }
+texts texts
+expect 'texts: none is bad' last_is '2 crates, 0 bad'
+expect 'texts: none is bad' ended 0
+touch texts/one/silent
+texts texts
+expect 'texts: one that is blamed without a word is told' wrote_line 'one: the kit ends with 2'
+expect 'texts: and ends it' ended 1
+rm texts/one/silent && echo 1 >texts/two/fmt
+texts texts
+expect 'texts: so is another layout' wrote_line 'two: rt fmt would lay it out otherwise'
+expect 'texts: and ends it' ended 1
+echo -9 >texts/two/fmt
+texts texts
+expect 'texts: and a layout that has no answer' wrote_line 'two: rt fmt ends with -9'
+texts no_folder
+expect 'texts: a folder that is not there' ended 2
+mkdir -p no_crates
+texts no_crates
+expect 'texts: a folder without crates' ended 2
+with_few '' texts.py texts
+expect 'texts: without rt' ended 2
+expect 'texts: without rt' said 'texts.py: there is no rt on the PATH'
+expect 'texts: it says so in one line' [ "$(wc -l <"$room/err")" = 1 ]
+if has rt 'texts.py on the kit'; then
+    mkdir -p tiny/crates/low/src && echo low: >tiny/crates.txt
+    printf '//! A.\npub fn f( ) -> u8 {\n    1\n}\n' >tiny/crates/low/src/lib.rt
+    bench texts.py tiny
+    expect 'texts: the kit blames a layout' last_is '1 crates, 1 bad'
+    expect 'texts: the kit blames a layout' ended 1
+fi
+
+# --- pictures.sh, z3_goals.py and long_report.py, on what fails
+
+# A viewer that writes the file `shows` and ends with `status`; a `dot` that takes what has `->`.
+mkdir -p "$room/draws"
+printf '#!/bin/sh\ncat "$FAKE/shows"\nexit "$(cat "$FAKE/status")"\n' >"$room/bin/shower"
+printf '#!/bin/sh\ngrep -q -e "->" "$4" && cp "$4" "$3" || { echo "bad graph" >&2 && exit 1; }\n' >"$room/draws/dot"
+chmod +x "$room/bin/shower" "$room/draws/dot"
+shows() { begin && printf "$1" >"$FAKE/shows" && echo "$2" >"$FAKE/status"; }
+draws() { PATH=$room/draws:$PATH IVYVIEW=$room/bin/shower bench pictures.sh model.rml; }
+shows 'digraph a { b -> c }\n' 1
+draws
+expect 'pictures: a graph of each answer' last_is '3 graphs drawn, 0 not'
+expect 'pictures: a graph of each answer' ended 0
+shows 'digraph a { b -> c }\ndigraph d { }\n' 1
+draws
+expect 'pictures: one of two that is not taken is told' wrote_line 'model-check, graph 2: bad graph'
+expect 'pictures: and ends it' ended 1
+shows '' 4
+draws
+expect 'pictures: a model without an answer is told' wrote 'model-bmc: no answer: status 4'
+expect 'pictures: and ends it' ended 1
+shows '' 1
+draws
+expect 'pictures: so is an answer without the graph that it speaks of' last_is '0 graphs drawn, 3 not'
+shows '' 0
+draws
+expect 'pictures: what shows nothing needs none' ended 0
+shows 'not inductive\ndigraph a { b -> c }\n' 1
+draws
+expect 'pictures: what is no graph is told' wrote_line 'model-check: this is no graph'
+expect 'pictures: and ends it' ended 1
+PICTURES=$room/no_folder draws
+expect 'pictures: no folder for the drawings' ended 2
+IVYVIEW=$room/bin/shower with_few 'sh dirname mktemp awk rm' pictures.sh model.rml
+expect 'pictures: without Graphviz' said 'pictures.sh: there is no dot'
+expect 'pictures: without Graphviz' ended 2
+
+# A z3 that knows no terms, and answers each goal with what the file `z3` says.
+mkdir -p "$room/with_z3" "$room/no_z3"
+echo 'raise ImportError("none")' >"$room/no_z3/z3.py"
+cat >"$room/with_z3/z3.py" <<'END'
+import os
+class It:
+    def __init__(self, *words): pass
+    def __call__(self, *words): return It()
+    def __eq__(self, other): return It()
+class Solver:
+    def set(self, *words): pass
+    add = set
+    def check(self):
+        with open(os.environ["FAKE"] + "/z3", encoding="ascii") as it:
+            answer = it.read().strip()
+        if answer == "ends":
+            raise MemoryError("z3 has none")
+        return answer
+def __getattr__(name): return It()
+END
+z3_says() {
+    begin && echo "$1" >"$FAKE/z3"
+    shift
+    PYTHONPATH=$room/with_z3 bench z3_goals.py "$@"
+}
+z3_says unsat breaks.rml
+expect 'z3_goals: all hold' last_is 'verdict: inductive'
+expect 'z3_goals: all hold' ended 0
+z3_says sat breaks.rml
+expect 'z3_goals: one fails' ended 1
+z3_says unknown breaks.rml
+expect 'z3_goals: one is left open' ended 3
+z3_says ends breaks.rml
+expect 'z3_goals: a z3 that fails is no answer' ended 2
+expect 'z3_goals: a z3 that fails is no answer' wrote_no 'verdict'
+expect 'z3_goals: it is told in one line' [ "$(wc -l <"$room/err")" = 1 ]
+z3_says unsat no_file.rml
+expect 'z3_goals: nor is a file that is not there' ended 2
+printf 'relation p init { p ? }\n' >no_model.rml
+z3_says unsat no_model.rml
+expect 'z3_goals: nor a text that is no model' ended 2
+z3_says unsat
+expect 'z3_goals: nor no words' ended 2
+PYTHONPATH=$room/no_z3 bench z3_goals.py breaks.rml
+expect 'z3_goals: without z3' ended 2
+expect 'z3_goals: without z3' said 'z3_goals.py: no z3 for Python here'
+PYTHONPATH=$room/no_z3 bench z3_reasons.py breaks.rml
+expect 'z3_reasons: without z3' ended 2
+
+# replies SCRIPT [WORD ..]: long_report.py with these words on such a program.
+replies() {
+    printf '#!/bin/sh\n%s\n' "$1" >"$room/bin/replier" && chmod +x "$room/bin/replier"
+    shift
+    IVYCHECK=$room/bin/replier bench long_report.py 0.01 "$@"
+}
+replies 'printf "executions 1\nverdict: confirmed\n"'
+expect 'long_report: a report that is confirmed' ended 0
+replies 'exit 0'
+expect 'long_report: nothing said is nothing confirmed' ended 1
+expect 'long_report: nothing said is nothing confirmed' wrote ' elements: nothing; '
+replies 'printf "executions 0\nverdict: confirmed\n"'
+expect 'long_report: nor is another execution' ended 1
+replies 'printf "executions 1\nverdict: confirmed\n"; exit 1'
+expect 'long_report: nor is what ends otherwise' wrote ', status 1; '
+expect 'long_report: nor is what ends otherwise' ended 1
+replies 'exec sleep 9' 1
+expect 'long_report: what takes too long is ended' wrote 'no answer in 1 s'
+expect 'long_report: what takes too long is ended' ended 1
+replies 'python3 -c "bytearray(60 << 20)"; printf "executions 1\nverdict: confirmed\n"'
+expect 'long_report: too much memory' ended 1
+replies 'exit 0' many
+expect 'long_report: words that are none of its own' ended 2
+IVYCHECK=$room/none bench long_report.py 1
+expect 'long_report: without the program' ended 2
 
 # --- formulas and models
 

@@ -7,14 +7,14 @@
 # log is not taken, say, or a call is killed) the verdict is not told, and the status is 5. A text that has no goals
 # goes to `check` as it is.
 #
-# IVYCHECK is the program that is run (the one that ./ivycheck runs; it is proved and built first if need be). WORK is
-# the folder for clauses and logs (one that goes at the end).
+# IVYCHECK is the program that is run (the one that ./ivycheck runs; where there is none that is said, and the status
+# is 5). WORK is the folder for clauses and logs (one that goes at the end).
 here=$(cd "$(dirname "$0")/.." && pwd) || exit 5
 [ $# != 0 ] || { echo 'usage: bench/spread.sh FILE [PROCESSES [WORD ..]]' >&2; exit 2; }
 program=$IVYCHECK
 [ -n "$program" ] || program=$("$here/ivycheck" --which 2>/dev/null) || {
-    "$here/ivycheck" check /dev/null >/dev/null || exit
-    program=$("$here/ivycheck" --which 2>/dev/null) || exit
+    "$here/ivycheck" --which >/dev/null
+    exit 5
 }
 file=$1
 processes=${2:-$(nproc)}

@@ -5,17 +5,18 @@
 
 The formula of a goal says that the axioms and, but for init, the conjectures hold, that the path can be taken, and that
 it aborts or ends where the conjecture is false. Symbols that an update changes are read through it. Its last line is
-`verdict: ..`; the status is 0 where all goals hold, 1 where one fails, 3 where one is left open. For `bench/README.md`:
-the time of this whole process beside that of `check`. It needs z3's Python interface (Debian: python3-z3).
+`verdict: ..`; the status is 0 where all goals hold, 1 where one fails, 3 where one is left open, and 2 where there is no
+verdict: without z3, without a text of a model, or where z3 ends otherwise. For `bench/README.md`: the time of this whole process beside that of `check`. It needs z3's Python interface (Debian: python3-z3).
 """
 import sys
 
 import rml
+from program import stop
 
 try:
     import z3
 except ImportError:
-    sys.exit("z3_goals.py: no z3 for Python here")
+    stop("no z3 for Python here")
 
 
 class State:
@@ -107,7 +108,7 @@ def decide(model, stage, path, c, limit):
 
 def main(words):
     if len(words) not in (1, 2):
-        sys.exit(__doc__)
+        stop(__doc__)
     with open(words[0], encoding="latin-1") as it:
         model = rml.read(it.read())
     limit, groups = int((words[1:] or ["60000"])[0]), {}
@@ -123,4 +124,7 @@ def main(words):
 
 
 if __name__ == "__main__":
-    sys.exit(main(sys.argv[1:]))
+    try:
+        sys.exit(main(sys.argv[1:]))
+    except Exception as why:  # (a trace would end with 1, the status of a goal that fails)
+        stop(f"{' '.join(sys.argv[1:])}: {type(why).__name__} {why}")

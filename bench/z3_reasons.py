@@ -12,6 +12,7 @@ import sys
 
 import rml
 import z3_goals
+from program import stop
 
 
 def first_lack(model, goals, held, limit):
@@ -42,7 +43,7 @@ def carried(model, goals, own, limit):
 
 def main(words):
     if len(words) not in (1, 2):
-        sys.exit(__doc__)
+        stop(__doc__)
     with open(words[0], encoding="latin-1") as it:
         model = rml.read(it.read())
     limit, groups = int((words[1:] or ["60000"])[0]), {}
