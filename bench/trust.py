@@ -222,7 +222,7 @@ class Sources:
     """All pages and modules of a tree: what each name stands for."""
 
     def __init__(self, tree):
-        self.tree, self.known, self.modules, self.uses_of = tree, {}, {}, {}
+        self.tree, self.known, self.modules, self.paths = tree, {}, {}, {}
         crates = [line.split(":")[0].split()[0] for line in read(f"{tree}/crates.txt").split("\n")
                   if ":" in line and not line.startswith("#")]
         self.places = {crate: place for place, crate in enumerate(crates)}
@@ -242,7 +242,7 @@ class Sources:
                 path = () if file in ("lib.rt", "main.rt") and not inner else (*inner, file[:-3])
                 module = Module("/".join([crate, "src", *inner, file]), read(f"{folder}/{file}"))
                 self.modules[crate, path] = module
-                self.uses_of[module.file] = module.uses
+                self.paths[module.file] = (crate, path)
                 self.add(module)
 
     def add(self, part):
@@ -252,21 +252,21 @@ class Sources:
 
     def declaration(self, crate, path):
         """Gives the key of a type by its path in a crate, through `pub use` lines; or none."""
-        if crate == "crate" or not path:
+        if not path:
             return None
         module = self.modules.get((crate, path[:-1]))
         if module and path[-1] in module.items:
             return (module.file, path[-1])
         if module and path[-1] in module.uses:
-            return self.imported(crate, module.uses[path[-1]])
+            return self.imported(crate, path[:-1], module.uses[path[-1]])
         return None
 
-    def imported(self, crate, path):
-        """Gives the key of what a path of a `use` line stands for, in a crate."""
+    def imported(self, crate, at, path):
+        """Gives the key of what a path of a `use` line stands for, in a module of a crate."""
         if path[0] == "crate":
             return self.declaration(crate, path[1:])
-        if (crate, path[:1]) in self.modules and path[0] not in self.places:
-            return self.declaration(crate, path)
+        if (crate, (*at, path[0])) in self.modules:
+            return self.declaration(crate, (*at, *path))
         return self.declaration(path[0], path[1:])
 
     def settle(self, goal):
@@ -284,8 +284,8 @@ class Sources:
             return self.known[file, word].key
         if word in definition.scope.names:
             return self.settle(definition.scope.names[word])
-        path = self.uses_of.get(file, {}).get(word)
-        found = path and self.imported(file.split("/")[0], path)
+        crate, path = self.paths.get(file, ("", ()))
+        found = self.declaration(crate, (*path, word)) if crate else None
         return found if found in self.known else None
 
     def behind_alias(self, definition, alias, word):
