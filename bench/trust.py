@@ -35,23 +35,27 @@ MODEL_OF = ("command_parts/specs/ModelTexts.antt", "IsTheModel")
 SAFE = ("rml_command/specs/Runs.antt", "Safe")
 INTRO = """# What must be believed
 
-What a proof says, its definitions say. Whoever wants to believe the headline of the [README](../README.md), that what
-the program prints is so, reads the contract of the call `run` ([top.rt](../crates/ivy_run/src/top.rt)) and the
-definitions that stand under it: those that its clauses cite, those that these cite, and so on. The rest, code and
-proofs and all other pages, is checked. This page lists them. `bench/trust.py` writes it, and says how it counts;
-`bench/trust.py --of check` names each definition under the clause `check`, and by which it is cited.
+A contract that is proved says what its definitions say, and no more. To believe the headline of the
+[README](../README.md), that what the program prints is so, read the contract of the call `run`
+([top.rt](../crates/ivy_run/src/top.rt)) and the definitions under it: those that its clauses cite, those that these
+cite, and so on. Code, proofs and all other pages are checked, and need not be read.
 
-- A page is a file. Lines are those of the definitions alone, without imports, comments and blank lines. A type of src/
-  counts as its declaration, or where it has a `Model` as the type of its values.
-- Not counted: the definitions of the kit's library, and the kit itself ("What is trusted" in the README).
+`bench/trust.py` writes this page, and the gate holds it to the sources. `bench/trust.py --of check` names each
+definition under the clause `check`, with the one by which it is cited.
+
+- A page is a file. Lines are those of definitions alone, without imports, comments and blank lines.
+- A type of src/ counts as its declaration, or where it has a `Model` as the type of its values; how the fields stand
+  for the value is not counted, since the clauses of `run` speak of values alone. A trait counts with its clauses.
+- Not counted: the definitions of the kit's library, and what else the README names under "What is trusted".
+- Each clause but `same` speaks of the outcome, and so has the types of the answers of all commands under it.
 - `inductive` is the clause `check` without two of the three fields of `IsCheckedModel` (`model_commands`): what is left
   is that the text has this one model, and that no run of it aborts or breaks a conjecture where the verdict is
-  `inductive`. The two fields say that the report has all groups, and that its other lines are right.
-- `IsTheModel` is which model a text has, that is the language; `Safe` is what is said of the model."""
+  `inductive`. The two say that the report has all groups, and that its other lines are right.
+- `IsTheModel` says which model a text has, that is, what the language is; `Safe` is what is said of the model."""
 PAGES = """## By page
 
-A row in bold is a crate. The second column counts the definitions under `run`, the others lines: a page is listed with
-as many of its lines as stand under what heads the column."""
+A row in bold is a crate. The second column counts definitions under `run`; each other column counts the lines of a page
+that stand under what it is headed by."""
 TITLES = {
     "run": "`run`, all clauses",
     "inductive": "`inductive`, of the clause `check`",
@@ -60,8 +64,8 @@ TITLES = {
 }
 SENTENCE = (
     "*How much that is*: under the clauses of `run`, the call that `main` of `ivycheck` makes, stand {2} definitions "
-    "of {3} lines, on {1} pages of {0} crates; under the verdict `inductive` alone {6} of {7} lines, on {5} pages "
-    "of {4} crates, among them {8} of {9} lines that say what a run is and when a model is safe. "
+    "({3} lines, on {1} pages of {0} crates). Under the verdict `inductive` alone stand {6} of them ({7} lines, on {5} "
+    "pages of {4} crates), and {8} of these ({9} lines) say what a run is and when a model is safe. "
     "[docs/TRUST.md](docs/TRUST.md) lists them by page."
 )
 # What binds names: parameters, `λ`, `let`, fields of records and local functions; fields and parameters of src/.
