@@ -85,6 +85,7 @@ Declared = collections.namedtuple("Declared", "crate path")
 
 
 def read(path):
+    """Gives the text of a file."""
     with open(path, encoding="utf-8") as file:
         return file.read()
 
@@ -123,6 +124,7 @@ class Page:
             self.found[-1][3].append(line)
 
     def definitions(self):
+        """Gives the definitions of the page."""
         for name, kind, level, lines, frames in self.found:
             makes = [name]
             for line in lines[1:] if kind == "data" else []:
@@ -185,6 +187,7 @@ class Module:
         self.uses = rust_imports(text)
 
     def definitions(self):
+        """Gives the types, traits and constants of the module."""
         for name, lines in self.items.items():
             inner = self.inner.get(name, Scope({}, {}))
             scope = Scope({**self.scope.names, **inner.names}, {**self.scope.aliases, **inner.aliases})
@@ -216,7 +219,8 @@ def rust_imports(text):
     paths = {}
     for path, listed, alias in RUST_USE.findall(text):
         for item in filter(None, map(str.strip, listed.split(","))):
-            paths[item.split("::")[-1]] = (*path.split("::"), *item.split("::"))
+            inner, _, new = item.partition(" as ")
+            paths[new or inner.split("::")[-1]] = (*path.split("::"), *inner.split("::"))
         if not listed:
             paths[alias or path.split("::")[-1]] = tuple(path.split("::"))
     return paths
@@ -229,7 +233,6 @@ class Sources:
         self.tree, self.known, self.modules, self.paths = tree, {}, {}, {}
         crates = [line.split(":")[0].split()[0] for line in read(f"{tree}/crates.txt").split("\n")
                   if ":" in line and not line.startswith("#")]
-        self.places = {crate: place for place, crate in enumerate(crates)}
         for crate in crates:
             for file in sorted(glob.glob(f"{tree}/crates/{crate}/specs/*.antt")):
                 self.add(Page(f"{crate}/specs/{os.path.basename(file)}", read(file)))
@@ -250,6 +253,7 @@ class Sources:
                 self.add(module)
 
     def add(self, part):
+        """Adds what a page or a module defines, by each name that it gives."""
         for definition in part.definitions():
             for name in definition.makes:
                 self.known.setdefault((definition.key[0], name), definition)
@@ -494,6 +498,7 @@ def tell(sources, measured, what):
 
 
 def main(words):
+    """Does what the words ask for, and gives the status."""
     asked, tree = words[:1], words[1] if words[:1] == ["--check"] and words[1:] else HERE
     sources = Sources(tree)
     measured = measures(sources)
