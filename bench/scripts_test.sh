@@ -641,6 +641,43 @@ expect 'drat: a proof without an end is told' said 'the proof ends before a clau
 bench samples.py
 expect 'samples: the rows that stand there' diff "$room/out" "$here/crates/rows/data/samples.txt"
 
+# --- trust.py, also on a tree of links to this one in which one thing is changed
+
+bench trust.py --check
+expect 'trust: docs/TRUST.md and the numbers in README.md are of these sources' ended 0
+tree=$room/tree
+make_tree() {
+    rm -rf "$tree" && mkdir -p "$tree/crates" "$tree/docs"
+    ln -s "$here"/crates/* "$tree/crates/"
+    cp "$here/crates.txt" "$here/README.md" "$tree/" && cp "$here/docs/TRUST.md" "$tree/docs/"
+    rm "$tree/crates/rml_command" && mkdir "$tree/crates/rml_command"
+    cp -r "$here/crates/rml_command/specs" "$here/crates/rml_command/src" "$tree/crates/rml_command/"
+}
+make_tree
+echo '-- a comment' >>"$tree/crates/rml_command/specs/Runs.antt"
+bench trust.py --check "$tree"
+expect 'trust: a comment is no part of a definition' ended 0
+sed -i '/^| `Safe`/s/ [0-9]* |$/ 1 |/' "$tree/docs/TRUST.md"
+bench trust.py --check "$tree"
+expect 'trust: an altered page is told' last_is 'docs/TRUST.md: not of these sources; run bench/trust.py'
+expect 'trust: and ends it' ended 1
+make_tree
+sed -i 's/^\(- \*How much that is\*.* stand \)[0-9,]* /\11 /' "$tree/README.md"
+bench trust.py --check "$tree"
+expect 'trust: so is another number in README.md' last_is 'README.md: not of these sources; run bench/trust.py'
+make_tree
+sed -i 's/^  pub never_breaks .*/&\n  pub more : More/' "$tree/crates/rml_command/specs/Runs.antt"
+printf '\nabbrev pub More : Type 0\nMore = Unit {0}\n' >>"$tree/crates/rml_command/specs/Runs.antt"
+bench trust.py --check "$tree"
+expect 'trust: a definition more under `Safe` is told' wrote 'docs/TRUST.md'
+expect 'trust: and ends it' ended 1
+bench trust.py --of rml_command/Runs/Safe
+expect 'trust: what is cited two pages on' wrote_line \
+    'fol_formula/specs/Truth.antt truth by fol_formula/specs/Sentences.antt is_true'
+expect 'trust: not what the page of a definition imports for another' wrote_no 'Fragments'
+bench trust.py --of rml_houdini/Greatest/IsDrop
+expect 'trust: a type in a field of the same name' wrote 'rml_command/src/goal.rt About by '
+
 if python3 -c 'import z3' 2>/dev/null; then
     bench z3_goals.py "$here/examples/flag.rml"
     expect 'z3_goals: the group that fails' wrote_line 'action raise down: fails'
