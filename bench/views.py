@@ -162,8 +162,12 @@ def cases():
         yield check(f"check open, {option}", ["check", "open.rml", option, "1"], {"open.rml": OPEN}, "checked")
     yield check("check with few conflicts", ["check", "pigeons.rml", "--conflicts", "1"], {"pigeons.rml": PIGEONS},
                 "checked")
+    for terms, what in (("7", "sort"), ("8", "relation")):
+        yield check(f"a {what} that may be smaller", ["check", "lock.rml", "--terms", terms], {"lock.rml": LOCK},
+                    "checked")
     yield check("check open, above the most", ["check", "wide.rml"], {"wide.rml": WIDE}, "checked")
-    yield check("check open, above the most, as a value", ["check", "wide.rml", "--json"], {"wide.rml": WIDE}, "checked")
+    yield check("check open, above the most, as a value", ["check", "wide.rml", "--json"], {"wide.rml": WIDE},
+                "checked")
     yield check("check open as a value", ["check", "open.rml", "--json", "--ground", "1"], {"open.rml": OPEN},
                 "checked")
     yield check("limits on whole counts", ["check", "fixed.rml", "--ground", "300"], {"fixed.rml": FIXED}, "checked")
